@@ -1,0 +1,4 @@
+pub mod Masks
+pub mod Ranges
+pub mod Loops
+pub mod Subproblems

@@ -1,0 +1,32 @@
+use borrow.Author.Needs.{needs}
+use Rattle.splits.proofs.split.forward_checking.Statement.{statement}
+use Rattle.splits.proofs.split.forward_checking.Tie as tie
+use Rattle.splits.proofs.split.forward_checking.Reads as reads
+use Rattle.splits.proofs.split.forward_checking.Lts as lts
+use Rattle.splits.proofs.mask.only.Reads as only-reads
+use Rattle.splits.proofs.subproblem.Subproblem.precluded.Reads as precluded-reads
+use Rattle.splits.proofs.subproblem.Subproblem.without.Reads as without-reads
+
+-- src/split.rt:35:38
+only-requires : tie.Need-only-requires
+only-requires c κs = search needs
+
+-- src/split.rt:35:9
+without-requires : tie.Need-without-requires
+without-requires c κs = search needs
+
+-- src/split.rt:35:9
+returns : tie.Need-returns
+returns c = search needs
+
+-- src/split.rt:37:5
+precluded-requires : tie.Need-precluded-requires
+precluded-requires c κs = search needs
+
+-- src/split.rt:30:1
+returns-2 : tie.Need-returns-2
+returns-2 c = search needs
+
+pub forward-checking-spec : {M : Type 1} → statement M
+forward-checking-spec =
+    tie.close (tie.spec only-requires without-requires returns precluded-requires returns-2)

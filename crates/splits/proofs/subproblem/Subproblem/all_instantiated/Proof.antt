@@ -1,0 +1,38 @@
+use borrow.Author.Needs.{needs}
+use Rattle.splits.proofs.subproblem.Subproblem.all_instantiated.Statement.{statement}
+use Rattle.splits.proofs.subproblem.Subproblem.all_instantiated.Tie as tie
+use Rattle.splits.proofs.subproblem.Subproblem.all_instantiated.Reads as reads
+use Rattle.splits.proofs.subproblem.Subproblem.all_instantiated.Lts as lts
+
+-- src/subproblem.rt:48:13
+returns : tie.Need-returns
+returns c = search needs
+
+-- src/subproblem.rt:50:10
+cast-result : tie.Need-cast-result
+cast-result c = search needs
+
+-- src/subproblem.rt:50:33
+shl-result : tie.Need-shl-result
+shl-result c = search needs
+
+-- src/subproblem.rt:50:9
+rem-result : tie.Need-rem-result
+rem-result c = search needs
+
+-- src/subproblem.rt:50:45
+shl-result-2 : tie.Need-shl-result-2
+shl-result-2 c = search needs
+
+-- src/subproblem.rt:50:44
+sub-result : tie.Need-sub-result
+sub-result c = search needs
+
+-- src/subproblem.rt:44:5
+returns-2 : tie.Need-returns-2
+returns-2 c = search needs
+
+pub all-instantiated-spec : {M : Type 1} → statement M
+all-instantiated-spec =
+    tie.close
+    (tie.spec returns cast-result shl-result rem-result shl-result-2 sub-result returns-2)

@@ -1,0 +1,59 @@
+use borrow.Author.Needs.{needs}
+use Rattle.splits.proofs.subproblem.Subproblem.at_targets.Statement.{statement}
+use Rattle.splits.proofs.subproblem.Subproblem.at_targets.Tie as tie
+use Rattle.splits.proofs.subproblem.Subproblem.at_targets.Reads as reads
+use Rattle.splits.proofs.subproblem.Subproblem.at_targets.Lts as lts
+use Rattle.splits.proofs.words.target.Reads as target-reads
+
+abbrev Inv-loop : tie.InvT-loop
+Inv-loop request j self₀ i₀ self i = ?
+
+abbrev μ-loop : tie.MeasureT-loop
+μ-loop request j self₀ i₀ self i = ?
+
+-- src/subproblem.rt:126:9
+loop-holds : tie.Need-loop-holds Inv-loop μ-loop
+loop-holds c = search needs
+
+-- src/subproblem.rt:127:31
+target-requires : tie.Need-target-requires Inv-loop μ-loop
+target-requires c κs = search needs
+
+-- src/subproblem.rt:127:13
+mul-self : tie.Need-mul-self Inv-loop μ-loop
+mul-self c = search needs
+
+-- src/subproblem.rt:127:13
+element-write-self : tie.Need-element-write-self Inv-loop μ-loop
+element-write-self c = search needs
+
+-- src/subproblem.rt:128:13
+add-i : tie.Need-add-i Inv-loop μ-loop
+add-i c = search needs
+
+-- src/subproblem.rt:126:9
+loop-less : tie.Need-loop-less Inv-loop μ-loop
+loop-less c = search needs
+
+-- src/subproblem.rt:126:9
+loop-again : tie.Need-loop-again Inv-loop μ-loop
+loop-again c = search needs
+
+-- src/subproblem.rt:121:5
+returns : tie.Need-returns Inv-loop μ-loop
+returns c = search needs
+
+pub at-targets-spec : {M : Type 1} → statement M
+at-targets-spec =
+    tie.close
+    (tie.spec
+    Inv-loop
+    μ-loop
+    loop-holds
+    target-requires
+    mul-self
+    element-write-self
+    add-i
+    loop-less
+    loop-again
+    returns)

@@ -1,0 +1,32 @@
+use borrow.Author.Needs.{needs}
+use Rattle.splits.proofs.subproblem.Subproblem.precluded.Statement.{statement}
+use Rattle.splits.proofs.subproblem.Subproblem.precluded.Tie as tie
+use Rattle.splits.proofs.subproblem.Subproblem.precluded.Reads as reads
+use Rattle.splits.proofs.subproblem.Subproblem.precluded.Lts as lts
+use Rattle.splits.proofs.subproblem.Subproblem.cut_beside.Reads as cut-beside-reads
+use Rattle.splits.proofs.subproblem.Subproblem.instantiate.Reads as instantiate-reads
+use Rattle.splits.proofs.tables.within.Reads as within-reads
+
+-- src/subproblem.rt:137:12
+within-requires : tie.Need-within-requires
+within-requires c κs = search needs
+
+-- src/subproblem.rt:138:20
+cut-beside-requires : tie.Need-cut-beside-requires
+cut-beside-requires c κs = search needs
+
+-- src/subproblem.rt:138:13
+instantiate-requires : tie.Need-instantiate-requires
+instantiate-requires c κs = search needs
+
+-- src/subproblem.rt:138:13
+returns : tie.Need-returns
+returns c = search needs
+
+-- src/subproblem.rt:134:5
+returns-2 : tie.Need-returns-2
+returns-2 c = search needs
+
+pub precluded-spec : {M : Type 1} → statement M
+precluded-spec =
+    tie.close (tie.spec within-requires cut-beside-requires instantiate-requires returns returns-2)

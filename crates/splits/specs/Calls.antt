@@ -1,0 +1,86 @@
+-- What each public function of the crate hands back, for every input.
+use mathlib.Core.Path.{_≡_}
+use mathlib.Core.Bool.{Bool, true, cond, _&&_}
+use mathlib.Core.List.{List}
+use Prim.Native.Nat.{ℕ, zero, suc, _+_, _-_, _*_, _≤_, _<_}
+use lib.ListN.{length}
+use lib.Dec.{eqb, leb, ltb}
+use Rattle.splits.specs.Masks.{bit, size, lowest, smallerHalf}
+use Rattle.splits.specs.Problem.{tableOf}
+use Rattle.splits.specs.Subproblems.{domain, empty, instantiated}
+use Rattle.splits.specs.Requests.{kindOf, variableOf, valueOf}
+use Rattle.splits.specs.Splits.{instantiate, without, cut, precluded, byKind, candidates, candidate}
+use Rattle.splits.specs.Checks.{checks}
+use Rattle.splits.specs.Refusals.{refusalOf}
+use Rattle.splits.specs.declared.subproblem.Subproblem.{Subproblem}
+
+-- n and d are numbers that document 01 allows at most, and the tables are n × n × d words.
+unfoldable pub sized : ℕ → ℕ → List ℕ → Bool
+sized n d tables = leb n 32 && leb d 16 && eqb (length tables) (n * n * d)
+
+-- The same, V is one of the n variables and v one of the d values.
+unfoldable pub inside : ℕ → ℕ → List ℕ → ℕ → ℕ → Bool
+inside n d tables V′ v = ltb V′ n && ltb v d && sized n d tables
+
+-- The same, of the words that the request's kind reads.
+unfoldable pub readable : ℕ → ℕ → List ℕ → List ℕ → Bool
+readable n d tables r =
+    byKind (kindOf r) (inside n d tables (variableOf r) (valueOf r)) (inside n d tables (variableOf r) (valueOf r))
+    (inside n d tables (variableOf r) (valueOf r)) (leb n 32 && ltb (variableOf r) n) (leb n 32) (leb n 32)
+
+abbrev pub Count : ℕ → ℕ → Type 0
+Count mask r = r ≡ size mask
+
+abbrev pub First : ℕ → ℕ → Type 0
+First mask r = r ≡ lowest mask
+
+abbrev pub Smaller-half : ℕ → ℕ → Type 0
+Smaller-half mask r = r ≡ smallerHalf mask
+
+abbrev pub Domain : Subproblem → ℕ → ℕ → Type 0
+Domain P variable r = r ≡ domain P variable
+
+abbrev pub Is-instantiated : Subproblem → ℕ → Bool → Type 0
+Is-instantiated P variable r = r ≡ eqb (bit (P .marked) variable) 1
+
+abbrev pub All-instantiated : Subproblem → ℕ → Bool → Type 0
+All-instantiated P n r = r ≡ instantiated n P
+
+abbrev pub Is-empty : Subproblem → ℕ → Bool → Type 0
+Is-empty P n r = r ≡ empty n P
+
+-- Outside 32 variables and 16 values the subproblem comes back as it is.
+abbrev pub Instantiate : Subproblem → ℕ → ℕ → Subproblem → Type 0
+Instantiate P variable value r = r ≡ cond (ltb variable 32 && ltb value 16) (instantiate P variable value) P
+
+abbrev pub Without : Subproblem → ℕ → ℕ → Subproblem → Type 0
+Without P variable mask r = r ≡ without P variable mask
+
+abbrev pub Cut : Subproblem → ℕ → ℕ → Subproblem → Type 0
+Cut P variable mask r = r ≡ cut P variable mask
+
+-- Where the numbers or the tables do not fit, the subproblem comes back as it is.
+abbrev pub Precluded : Subproblem → ℕ → ℕ → List ℕ → ℕ → ℕ → Subproblem → Type 0
+Precluded P n d tables variable value r =
+    r ≡ cond (inside n d tables variable value) (precluded n (tableOf n d tables) P variable value) P
+
+-- Whether the precluded piece would be empty; of numbers or tables that do not fit, whether the subproblem is.
+abbrev pub Precluded-empty : Subproblem → ℕ → ℕ → List ℕ → ℕ → ℕ → Bool → Type 0
+Precluded-empty P n d tables variable value r =
+    r ≡ empty n (cond (inside n d tables variable value) (precluded n (tableOf n d tables) P variable value) P)
+
+-- How many pieces the kind of a request can name; 0 for more than 32 variables.
+abbrev pub Candidates : ℕ → List ℕ → ℕ → Type 0
+Candidates n request r = r ≡ cond (leb n 32) (candidates n request) 0
+
+-- The k-th piece. Where there is none, or the words do not fit, the subproblem comes back as it is.
+abbrev pub Piece : Subproblem → ℕ → ℕ → List ℕ → List ℕ → ℕ → Subproblem → Type 0
+Piece P n d tables request k r =
+    r ≡ cond (readable n d tables request && ltb k (candidates n request)) (candidate n (tableOf n d tables) P request k) P
+
+-- The checks of a request; 0 where the words do not fit.
+abbrev pub Checks-of : Subproblem → ℕ → ℕ → List ℕ → List ℕ → ℕ → Type 0
+Checks-of P n d tables request r = r ≡ cond (readable n d tables request) (checks n (tableOf n d tables) P request) 0
+
+abbrev pub Refusal-of : Subproblem → ℕ → ℕ → List ℕ → ℕ → Type 0
+Refusal-of P n d request r = r ≡ refusalOf n d P request

@@ -1,0 +1,57 @@
+-- The problem: n variables, d values, a domain for each variable, and what each two variables allow.
+use mathlib.Core.Path.{_≡_}
+use mathlib.Core.List.{List}
+use Prim.Native.Nat.{ℕ, zero, suc, _+_, _*_, _^_, _≤_, _<_}
+use lib.ListN.{getD}
+use Rattle.splits.specs.Masks.{bit, _∈_, size}
+
+-- What is allowed: `allowed i j a` is the mask of the values of j allowed beside value a of i.
+abbrev pub Table : Type 0
+Table = ℕ → ℕ → ℕ → ℕ
+
+-- The table that n × n × d words hold: the mask for i, j and a is word (i × n + j) × d + a.
+unfoldable pub tableOf : ℕ → ℕ → List ℕ → Table
+tableOf n d words i j a = getD words ((i * n + j) * d + a) 0
+
+pub record Problem : Type 0 where
+  pub n : ℕ
+  pub d : ℕ
+  pub domain : ℕ → ℕ
+  pub allowed : Table
+
+-- The problems that document 01 allows. What stands for a variable with itself is nowhere looked at.
+pub record Proper (p : Problem) : Type 0 where
+  pub some-variable : 1 ≤ p .n
+  pub variables : p .n ≤ 32
+  pub some-value : 1 ≤ p .d
+  pub values : p .d ≤ 16
+  pub domains : (i : ℕ) → i < p .n → p .domain i < 2 ^ p .d
+  pub masks : (i j a : ℕ) → i < p .n → j < p .n → (i ≡ j → ⊥) → a < p .d → p .allowed i j a < 2 ^ p .d
+  pub symmetric : (i j a b : ℕ) → i < p .n → j < p .n → (i ≡ j → ⊥) → a < p .d → b < p .d → bit (p .allowed i j a) b ≡ bit (p .allowed j i b) a
+
+-- A possibility f gives each of n variables a value of its domain.
+abbrev pub Possibility : ℕ → (ℕ → ℕ) → (ℕ → ℕ) → Type 0
+Possibility n domain f = (i : ℕ) → i < n → f i ∈ domain i
+
+-- Every two of the n variables hold allowed values.
+abbrev pub Consistent : ℕ → Table → (ℕ → ℕ) → Type 0
+Consistent n allowed f = (i j : ℕ) → i < n → j < n → (i ≡ j → ⊥) → f j ∈ allowed i j (f i)
+
+-- A solution is a possibility in which every two variables hold allowed values.
+pub record Solution (n : ℕ) (allowed : Table) (domain f : ℕ → ℕ) : Type 0 where
+  pub possible : Possibility n domain f
+  pub consistent : Consistent n allowed f
+
+-- The product of f 0 .. f (n - 1).
+unfoldable pub product : ℕ → (ℕ → ℕ) → ℕ
+product zero f = 1
+product (suc n) f = product n f * f n
+
+-- The sum of f 0 .. f (n - 1).
+unfoldable pub total : ℕ → (ℕ → ℕ) → ℕ
+total zero f = 0
+total (suc n) f = total n f + f n
+
+-- The number of possibilities of n domains: the product of their sizes.
+unfoldable pub possibilities : ℕ → (ℕ → ℕ) → ℕ
+possibilities n domain = product n (λ i. size (domain i))

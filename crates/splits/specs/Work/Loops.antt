@@ -1,0 +1,26 @@
+-- What a loop of the code works out, in the loop's own shape.
+use mathlib.Core.Path.{_≡_}
+use mathlib.Core.Bool.{Bool, not, cond, _&&_, _||_}
+use Prim.Native.Nat.{ℕ}
+use lib.Dec.{eqb, leb}
+use Rattle.splits.specs.Masks.{common, bit, size}
+use Rattle.splits.specs.Problem.{Table}
+use Rattle.splits.specs.Subproblems.{domain, some}
+use Rattle.splits.specs.Splits.{forbidden}
+use Rattle.splits.specs.Checks.{tried, others}
+use Rattle.splits.specs.declared.subproblem.Subproblem.{Subproblem}
+
+-- Some variable other than V has no value allowed beside v.
+unfoldable pub precludedEmpty : ℕ → Table → Subproblem → ℕ → ℕ → Bool
+precludedEmpty n allowed P V′ v = some n (λ i. not (eqb i V′) && eqb (common (domain P i) (allowed V′ i v)) 0)
+
+-- What kind 1 finds on its way: the count and whether it met a conflict.
+pub record LookedAt (n : ℕ) (allowed : Table) (P : Subproblem) (V′ v count : ℕ) (conflict : Bool) : Type 0 where
+  pub counted : count ≡ tried (others V′) n allowed P V′ v
+  pub met : conflict ≡ forbidden n allowed P V′ v
+
+-- 8, 9 or none, of kinds 1 to 4.
+unfoldable pub refusalOfVariable : ℕ → ℕ → Subproblem → ℕ → ℕ → ℕ → ℕ
+refusalOfVariable n d P kind V′ v =
+    cond (leb n V′ || eqb (bit (P .marked) V′) 1) 8
+    (cond (eqb kind 4) (cond (eqb (size (domain P V′)) 1) 9 0) (cond (leb d v || eqb (bit (domain P V′) v) 0) 9 0))

@@ -1,0 +1,97 @@
+// The constraint checks that a request counts.
+use crate::mask;
+use crate::subproblem::Subproblem;
+use crate::tables;
+use crate::words;
+
+ghost use mathlib.Core.Path.{_≡_};
+ghost use Prim.Native.Nat.{ℕ, _+_, _<_, _≤_};
+ghost use Rattle.splits.specs.Problem.{tableOf};
+ghost use Rattle.splits.specs.Splits.{forbids, forbidden, instantiatedOther};
+ghost use Rattle.splits.specs.Checks.{tried, valuesIn, others};
+ghost use Rattle.splits.specs.Calls.{Checks-of, readable};
+ghost use Rattle.splits.specs.Work.Ranges.{Inside};
+ghost use Rattle.splits.specs.Work.Loops.{LookedAt};
+
+// How many instantiated variables kind 1 looked at, and whether the last of them forbids the value.
+pub struct Looked {
+    pub count: usize,
+    pub conflict: bool,
+}
+
+// Whether `i` is instantiated and another than `variable`.
+fn is_looked_at(top: Subproblem, variable: usize, i: usize) -> bool
+    ensures { λ r. ⌜ r ≡ instantiatedOther top variable i ⌝ }
+{
+    if i == variable {
+        return false;
+    }
+    top.is_instantiated(i)
+}
+
+// Whether the value of the instantiated variable `i` forbids `value` of `variable`.
+fn does_forbid(top: Subproblem, n: usize, d: usize, tables: &[u16], variable: usize, value: usize, i: usize) -> bool
+    requires { ⌜ Inside n d (now tables) variable value × (i < n) ⌝ }
+    ensures { λ r. ⌜ r ≡ forbids (tableOf n d (now (tables .entry))) top variable value i ⌝ }
+{
+    let a = mask::first(top.domain(i));
+    let allowed = words::word(tables, (i * n + variable) * d + a);
+    if mask::has(allowed, value) {
+        return false;
+    }
+    true
+}
+
+// The instantiated variables other than `variable` in rising order, up to and with the first that forbids `value`, or all.
+pub(crate) fn look(top: Subproblem, n: usize, d: usize, tables: &[u16], variable: usize, value: usize) -> Looked
+    requires { ⌜ Inside n d (now tables) variable value ⌝ }
+    ensures { λ r. ⌜ LookedAt n (tableOf n d (now (tables .entry))) top variable value (r .count) (r .conflict) ⌝ }
+{
+    let mut count = 0;
+    let mut conflict = false;
+    let mut i = 0;
+    while i < n {
+        if is_looked_at(top, variable, i) {
+            count += 1;
+            if does_forbid(top, n, d, tables, variable, value, i) {
+                conflict = true;
+                break;
+            }
+        }
+        i += 1;
+    }
+    Looked { count, conflict }
+}
+
+// The number of values in all other domains.
+fn values_in_others(top: Subproblem, n: usize, variable: usize) -> usize
+    requires { ⌜ n ≤ 32 ⌝ }
+    ensures { λ r. ⌜ r ≡ valuesIn (others variable) n top ⌝ }
+{
+    let mut sum = 0;
+    let mut i = 0;
+    while i < n {
+        if i != variable {
+            sum += mask::count(top.domain(i));
+        }
+        i += 1;
+    }
+    sum
+}
+
+// The checks of a request; 0 where its words do not fit.
+pub fn checks(top: Subproblem, n: usize, d: usize, tables: &[u16], request: &[u16]) -> usize
+    ensures { λ r. ⌜ Checks-of top n d (now (tables .entry)) (now (request .entry)) r ⌝ }
+{
+    if !tables::readable(n, d, tables, request) {
+        return 0;
+    }
+    let kind = words::kind(request);
+    if kind == 1 {
+        return look(top, n, d, tables, words::variable(request), words::value(request)).count;
+    }
+    if kind == 2 || kind == 3 {
+        return values_in_others(top, n, words::variable(request));
+    }
+    0
+}

@@ -1,0 +1,60 @@
+// A mask: a set of values, bit v for value v.
+ghost use mathlib.Core.Path.{_≡_};
+ghost use Prim.Native.Nat.{ℕ, _+_, _-_, _/_, _<_, _≤_, _^_};
+ghost use lib.Dec.{eqb};
+ghost use Rattle.splits.specs.Masks.{bit, single, size, smallest};
+ghost use Rattle.splits.specs.Calls.{Count, First, Smaller-half};
+
+// The number of values in a mask.
+pub fn count(mask: u16) -> usize
+    ensures { λ r. ⌜ Count mask r ⌝ }
+{
+    u16::count_ones(mask) as usize
+}
+
+// The lowest value of a mask; 16 where it is empty.
+pub fn first(mask: u16) -> usize
+    ensures { λ r. ⌜ First mask r ⌝ }
+{
+    u16::trailing_zeros(mask) as usize
+}
+
+// The mask of one value.
+pub(crate) fn only(value: usize) -> u16
+    requires { ⌜ value < 16 ⌝ }
+    ensures { λ r. ⌜ r ≡ single value ⌝ }
+{
+    1 << value
+}
+
+// Whether a value is in a mask.
+pub(crate) fn has(mask: u16, value: usize) -> bool
+    ensures { λ r. ⌜ r ≡ eqb (bit mask value) 1 ⌝ }
+{
+    if value < 16 {
+        (mask >> value) % 2 == 1
+    } else {
+        false
+    }
+}
+
+// The smallest values of a mask, one more than half of them where their number is odd.
+pub fn smaller_half(mask: u16) -> u16
+    ensures { λ r. ⌜ Smaller-half mask r ⌝ }
+{
+    smallest_of(mask, (count(mask) + 1) / 2)
+}
+
+// The `k` smallest values of a mask, which has so many.
+fn smallest_of(mask: u16, k: usize) -> u16
+    requires { ⌜ k ≤ size mask ⌝ }
+    ensures { λ r. ⌜ r ≡ smallest k mask ⌝ }
+{
+    let mut half: u16 = 0;
+    let mut i = 0;
+    while i < k {
+        half = half | only(first(mask & !half));
+        i += 1;
+    }
+    half
+}

@@ -1,0 +1,130 @@
+// The five splits: the pieces of a request, one by one.
+use crate::checks;
+use crate::mask;
+use crate::subproblem::Subproblem;
+use crate::tables;
+use crate::words;
+
+ghost use mathlib.Core.Path.{_≡_};
+ghost use Prim.Native.Nat.{ℕ, _+_, _≤_, _<_};
+ghost use Rattle.splits.specs.Problem.{tableOf};
+ghost use Rattle.splits.specs.Splits.{backtracked, checked, inferred, halved, extracted};
+ghost use Rattle.splits.specs.Calls.{Piece, Candidates};
+ghost use Rattle.splits.specs.Work.Ranges.{Inside};
+
+// Backtracking: the variable instantiated to the value, emptied where an instantiated value forbids it; then the rest.
+fn backtracking(top: Subproblem, n: usize, d: usize, tables: &[u16], variable: usize, value: usize, k: usize) -> Subproblem
+    requires { ⌜ Inside n d (now tables) variable value ⌝ }
+    ensures { λ r. ⌜ r ≡ backtracked n (tableOf n d (now (tables .entry))) top variable value k ⌝ }
+{
+    if k != 0 {
+        return top.without(variable, mask::only(value));
+    }
+    if checks::look(top, n, d, tables, variable, value).conflict {
+        return top.cut(variable, 0);
+    }
+    top.instantiate(variable, value)
+}
+
+// Forward checking: the precluded piece; then the rest.
+fn forward_checking(top: Subproblem, n: usize, d: usize, tables: &[u16], variable: usize, value: usize, k: usize) -> Subproblem
+    requires { ⌜ Inside n d (now tables) variable value ⌝ }
+    ensures { λ r. ⌜ r ≡ checked n (tableOf n d (now (tables .entry))) top variable value k ⌝ }
+{
+    if k != 0 {
+        return top.without(variable, mask::only(value));
+    }
+    top.precluded(n, d, tables, variable, value)
+}
+
+// IDC: the precluded piece; then one for each other variable, with V's own place empty.
+fn idc(top: Subproblem, n: usize, d: usize, tables: &[u16], variable: usize, value: usize, k: usize) -> Subproblem
+    requires { ⌜ Inside n d (now tables) variable value × (k ≤ n) ⌝ }
+    ensures { λ r. ⌜ r ≡ inferred n (tableOf n d (now (tables .entry))) top variable value k ⌝ }
+{
+    if k == 0 {
+        return top.precluded(n, d, tables, variable, value);
+    }
+    let j = k - 1;
+    if j == variable {
+        return top.cut(variable, 0);
+    }
+    top.without(variable, mask::only(value))
+        .cut_beside(n, d, tables, variable, value, j)
+        .without(j, tables::allowed(n, d, tables, variable, j, value))
+}
+
+// Halving: the variable's smaller half; then the rest.
+fn halving(top: Subproblem, variable: usize, k: usize) -> Subproblem
+    ensures { λ r. ⌜ r ≡ halved top variable k ⌝ }
+{
+    let half = mask::smaller_half(top.domain(variable));
+    if k != 0 {
+        return top.without(variable, half);
+    }
+    top.cut(variable, half)
+}
+
+// Extraction: the target; then one for each variable.
+fn extraction(top: Subproblem, n: usize, request: &[u16], k: usize) -> Subproblem
+    requires { ⌜ (n ≤ 32) × (k ≤ n) ⌝ }
+    ensures { λ r. ⌜ r ≡ extracted n top (now (request .entry)) k ⌝ }
+{
+    if k == 0 {
+        return top.at_targets(request, n);
+    }
+    let j = k - 1;
+    top.at_targets(request, j)
+        .without(j, words::target(request, j))
+}
+
+// How many pieces the kind of a request can name; 0 for more than 32 variables.
+pub fn candidates(n: usize, request: &[u16]) -> usize
+    ensures { λ r. ⌜ Candidates n (now (request .entry)) r ⌝ }
+{
+    if 32 < n {
+        return 0;
+    }
+    let kind = words::kind(request);
+    if kind == 3 {
+        return n + 1;
+    }
+    if kind == 5 {
+        return n + 1;
+    }
+    if kind == 0 {
+        return 0;
+    }
+    if kind < 5 {
+        return 2;
+    }
+    0
+}
+
+// The k-th piece of a request, empty where it is to be dropped.
+pub fn piece(top: Subproblem, n: usize, d: usize, tables: &[u16], request: &[u16], k: usize) -> Subproblem
+    ensures { λ r. ⌜ Piece top n d (now (tables .entry)) (now (request .entry)) k r ⌝ }
+{
+    if candidates(n, request) <= k {
+        return top;
+    }
+    if !tables::readable(n, d, tables, request) {
+        return top;
+    }
+    let kind = words::kind(request);
+    let variable = words::variable(request);
+    if kind == 4 {
+        return halving(top, variable, k);
+    }
+    if kind == 5 {
+        return extraction(top, n, request, k);
+    }
+    let value = words::value(request);
+    if kind == 1 {
+        return backtracking(top, n, d, tables, variable, value, k);
+    }
+    if kind == 2 {
+        return forward_checking(top, n, d, tables, variable, value, k);
+    }
+    idc(top, n, d, tables, variable, value, k)
+}

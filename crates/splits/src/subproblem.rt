@@ -1,0 +1,171 @@
+// A subproblem: a domain for each variable, and the set of those that a split instantiated.
+use crate::mask;
+use crate::tables;
+use crate::words;
+
+ghost use mathlib.Core.Path.{_≡_};
+ghost use mathlib.Core.List.{List};
+ghost use Prim.Native.Nat.{ℕ, _+_, _*_, _<_, _≤_};
+ghost use Rattle.splits.specs.Problem.{tableOf};
+ghost use Rattle.splits.specs.Splits.{cutBeside, atTargets};
+ghost use Rattle.splits.specs.Calls.{Domain, Is-instantiated, All-instantiated, Is-empty, Instantiate, Without, Cut, Precluded, Precluded-empty};
+ghost use Rattle.splits.specs.Work.Ranges.{Inside};
+ghost use Rattle.splits.specs.Work.Loops.{precludedEmpty};
+
+pub struct Subproblem {
+    pub domains: [u16; 32],
+    pub marked: u32,
+}
+
+impl Subproblem {
+    // The domain of a variable; empty past the last.
+    pub fn domain(self, variable: usize) -> u16
+        ensures { λ r. ⌜ Domain self variable r ⌝ }
+    {
+        if variable < 32 {
+            self.domains[variable]
+        } else {
+            0
+        }
+    }
+
+    // Whether a split instantiated the variable.
+    pub fn is_instantiated(self, variable: usize) -> bool
+        ensures { λ r. ⌜ Is-instantiated self variable r ⌝ }
+    {
+        if variable < 32 {
+            (self.marked >> variable) % 2 == 1
+        } else {
+            false
+        }
+    }
+
+    // Whether each of the first `n` variables is instantiated: the lowest n marks are all set.
+    pub fn all_instantiated(self, n: usize) -> bool
+        ensures { λ r. ⌜ All-instantiated self n r ⌝ }
+    {
+        if 32 < n {
+            return false;
+        }
+        (self.marked as u64) % (1 << n) == (1 << n) - 1
+    }
+
+    // Whether one of the first `n` domains is empty.
+    pub fn is_empty(self, n: usize) -> bool
+        ensures { λ r. ⌜ Is-empty self n r ⌝ }
+    {
+        if 32 < n {
+            return true;
+        }
+        let mut i = 0;
+        while i < n {
+            if self.domains[i] == 0 {
+                return true;
+            }
+            i += 1;
+        }
+        false
+    }
+
+    // The variable instantiated to the value.
+    pub fn instantiate(mut self, variable: usize, value: usize) -> Subproblem
+        ensures { λ r. ⌜ Instantiate self variable value r ⌝ }
+    {
+        if 32 <= variable {
+            return self;
+        }
+        if 16 <= value {
+            return self;
+        }
+        self.domains[variable] = mask::only(value);
+        self.marked = self.marked | (1 << variable);
+        self
+    }
+
+    // The variable's domain without the values of a mask.
+    pub fn without(mut self, variable: usize, mask: u16) -> Subproblem
+        ensures { λ r. ⌜ Without self variable mask r ⌝ }
+    {
+        if variable < 32 {
+            self.domains[variable] = self.domains[variable] & !mask;
+        }
+        self
+    }
+
+    // The variable's domain cut to the values of a mask.
+    pub fn cut(mut self, variable: usize, mask: u16) -> Subproblem
+        ensures { λ r. ⌜ Cut self variable mask r ⌝ }
+    {
+        if variable < 32 {
+            self.domains[variable] = self.domains[variable] & mask;
+        }
+        self
+    }
+
+    // The variables before `j`, except `variable`, cut to the values allowed beside `value`.
+    pub(crate) fn cut_beside(mut self, n: usize, d: usize, tables: &[u16], variable: usize, value: usize, j: usize) -> Subproblem
+        requires { ⌜ Inside n d (now tables) variable value × (j ≤ n) ⌝ }
+        ensures { λ r. ⌜ r ≡ cutBeside (tableOf n d (now (tables .entry))) self variable value j ⌝ }
+    {
+        let mut i = 0;
+        while i < j {
+            if i != variable {
+                self.domains[i] = self.domains[i] & tables::allowed(n, d, tables, variable, i, value);
+            }
+            i += 1;
+        }
+        self
+    }
+
+    // The variables before `j` at their targets.
+    pub(crate) fn at_targets(mut self, request: &[u16], j: usize) -> Subproblem
+        requires { ⌜ j ≤ 32 ⌝ }
+        ensures { λ r. ⌜ r ≡ atTargets self (now (request .entry)) j ⌝ }
+    {
+        let mut i = 0;
+        while i < j {
+            self.domains[i] = words::target(request, i);
+            i += 1;
+        }
+        self
+    }
+
+    // The precluded piece: the variable instantiated to the value, every other cut to the values allowed beside it.
+    pub fn precluded(self, n: usize, d: usize, tables: &[u16], variable: usize, value: usize) -> Subproblem
+        ensures { λ r. ⌜ Precluded self n d (now (tables .entry)) variable value r ⌝ }
+    {
+        if tables::within(n, d, tables, variable, value) {
+            return self
+                .cut_beside(n, d, tables, variable, value, n)
+                .instantiate(variable, value);
+        }
+        self
+    }
+
+    // Whether the precluded piece would be empty, without making it.
+    pub fn precluded_empty(self, n: usize, d: usize, tables: &[u16], variable: usize, value: usize) -> bool
+        ensures { λ r. ⌜ Precluded-empty self n d (now (tables .entry)) variable value r ⌝ }
+    {
+        if tables::within(n, d, tables, variable, value) {
+            return self.cut_empty(n, d, tables, variable, value);
+        }
+        self.is_empty(n)
+    }
+
+    // Whether a variable other than `variable` has no value allowed beside `value`.
+    fn cut_empty(self, n: usize, d: usize, tables: &[u16], variable: usize, value: usize) -> bool
+        requires { ⌜ Inside n d (now tables) variable value ⌝ }
+        ensures { λ r. ⌜ r ≡ precludedEmpty n (tableOf n d (now (tables .entry))) self variable value ⌝ }
+    {
+        let mut i = 0;
+        while i < n {
+            if i != variable {
+                if self.domains[i] & tables::allowed(n, d, tables, variable, i, value) == 0 {
+                    return true;
+                }
+            }
+            i += 1;
+        }
+        false
+    }
+}

@@ -1,0 +1,62 @@
+// The problem's tables: for each two variables and each value of the first, the values allowed beside it.
+use crate::words;
+
+ghost use mathlib.Core.Path.{_≡_};
+ghost use Prim.Native.Nat.{ℕ, _+_, _*_, _<_, _≤_};
+ghost use Rattle.splits.specs.Problem.{tableOf};
+ghost use Rattle.splits.specs.Calls.{sized, inside, readable};
+ghost use Rattle.splits.specs.Work.Ranges.{Sized, Place};
+
+// The mask of the values of `j` allowed beside value `a` of `i`.
+pub(crate) fn allowed(n: usize, d: usize, tables: &[u16], i: usize, j: usize, a: usize) -> u16
+    requires { ⌜ Sized n d (now tables) × Place n d i j a ⌝ }
+    ensures { λ r. ⌜ r ≡ tableOf n d (now (tables .entry)) i j a ⌝ }
+{
+    tables[(i * n + j) * d + a]
+}
+
+// Whether n, d and the tables fit each other.
+pub(crate) fn fits(n: usize, d: usize, tables: &[u16]) -> bool
+    ensures { λ r. ⌜ r ≡ sized n d (now (tables .entry)) ⌝ }
+{
+    if 32 < n {
+        return false;
+    }
+    if 16 < d {
+        return false;
+    }
+    tables.len() == n * n * d
+}
+
+// Whether they do, and the variable and the value are among theirs.
+pub(crate) fn within(n: usize, d: usize, tables: &[u16], variable: usize, value: usize) -> bool
+    ensures { λ r. ⌜ r ≡ inside n d (now (tables .entry)) variable value ⌝ }
+{
+    if n <= variable {
+        return false;
+    }
+    if d <= value {
+        return false;
+    }
+    fits(n, d, tables)
+}
+
+// Whether the words that a request's kind reads fit.
+pub(crate) fn readable(n: usize, d: usize, tables: &[u16], request: &[u16]) -> bool
+    ensures { λ r. ⌜ r ≡ readable n d (now (tables .entry)) (now (request .entry)) ⌝ }
+{
+    let kind = words::kind(request);
+    let variable = words::variable(request);
+    if kind == 0 {
+        return n <= 32;
+    }
+    if kind < 4 {
+        return within(n, d, tables, variable, words::value(request));
+    }
+    if kind == 4 {
+        if n <= variable {
+            return false;
+        }
+    }
+    n <= 32
+}
