@@ -1,4 +1,11 @@
 pub mod Masks
+pub mod Halves
+pub mod Tests
 pub mod Ranges
 pub mod Loops
+pub mod Domains
 pub mod Subproblems
+pub mod Looking
+pub mod Counting
+pub mod ByKind
+pub mod Refusals

@@ -10,17 +10,9 @@ use lib.ListN.{length}
 use lib.Arith.{digits-lt}
 use lib.Dec.{leb, ltb, eqb}
 use borrow.Author.Tests.{leb-true, ltb-true, eqb-true, le-leb, lt-ltb, eq-eqb}
+use Rattle.splits.proofs.Tests.{and-left, and-right}
 use Rattle.splits.specs.Calls.{sized, inside}
 use Rattle.splits.specs.Work.Ranges.{Sized, Inside, Place}
-
--- both tests of a pair pass
-pub and-left : (a b : Bool) → (a && b) ≡ true → a ≡ true
-and-left true b e = refl
-and-left false b e = e
-
-pub and-right : (a b : Bool) → (a && b) ≡ true → b ≡ true
-and-right true b e = e
-and-right false b e = cc
 
 pub sized-true : (n d : ℕ) (t : List ℕ) → sized n d t ≡ true → Sized n d t
 unfolding sized
@@ -29,7 +21,7 @@ sized-true n d t e =
     record {
       few = leb-true n 32 (and-left (leb n 32) (leb d 16) both);
       small = leb-true d 16 (and-right (leb n 32) (leb d 16) both);
-      words = eqb-true (length t) (n * n * d) (and-right (leb n 32 && leb d 16) (eqb (length t) (n * n * d)) e)
+      words = eqb-true (length t) (n * n * d) (and-right (leb n 32 && leb d 16) (eqb (length t) (n * n * d)) e);
     }
 
 pub inside-true : (n d : ℕ) (t : List ℕ) (V′ v : ℕ) → inside n d t V′ v ≡ true → Inside n d t V′ v
@@ -39,8 +31,13 @@ inside-true n d t V′ v e =
     record {
       fit = sized-true n d t (and-right (ltb V′ n && ltb v d) (sized n d t) e);
       a-variable = ltb-true V′ n (and-left (ltb V′ n) (ltb v d) both);
-      a-value = ltb-true v d (and-right (ltb V′ n) (ltb v d) both)
+      a-value = ltb-true v d (and-right (ltb V′ n) (ltb v d) both);
     }
+
+pub inside-is : (n d : ℕ) (t : List ℕ) (V′ v : ℕ) → Inside n d t V′ v → inside n d t V′ v ≡ true
+unfolding inside sized
+inside-is n d t V′ v h =
+    simp (lt-ltb V′ n (h .a-variable), lt-ltb v d (h .a-value), le-leb n 32 (h .fit .few), le-leb d 16 (h .fit .small), eq-eqb (length t) (n * n * d) (h .fit .words))
 
 -- the word of i, j and a is one of the n × n × d, and what is worked out on the way is as small
 pub record Within (n d i j a : ℕ) (t : List ℕ) : Type 0 where

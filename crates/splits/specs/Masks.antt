@@ -9,7 +9,6 @@ unfoldable pub bit : ℕ → ℕ → ℕ
 bit m v = m / 2 ^ v % 2
 
 infix 4 _∈_
-
 -- v is a member of m.
 abbrev pub _∈_ : ℕ → ℕ → Type 0
 v ∈ m = bit m v ≡ 1

@@ -3,7 +3,6 @@ use crate::mask;
 use crate::subproblem::Subproblem;
 use crate::tables;
 use crate::words;
-
 ghost use mathlib.Core.Path.{_≡_};
 ghost use Prim.Native.Nat.{ℕ, _+_, _<_, _≤_};
 ghost use Rattle.splits.specs.Problem.{tableOf};
@@ -30,7 +29,15 @@ fn is_looked_at(top: Subproblem, variable: usize, i: usize) -> bool
 }
 
 // Whether the value of the instantiated variable `i` forbids `value` of `variable`.
-fn does_forbid(top: Subproblem, n: usize, d: usize, tables: &[u16], variable: usize, value: usize, i: usize) -> bool
+fn does_forbid(
+    top: Subproblem,
+    n: usize,
+    d: usize,
+    tables: &[u16],
+    variable: usize,
+    value: usize,
+    i: usize,
+) -> bool
     requires { ⌜ Inside n d (now tables) variable value × (i < n) ⌝ }
     ensures { λ r. ⌜ r ≡ forbids (tableOf n d (now (tables .entry))) top variable value i ⌝ }
 {
@@ -43,7 +50,14 @@ fn does_forbid(top: Subproblem, n: usize, d: usize, tables: &[u16], variable: us
 }
 
 // The instantiated variables other than `variable` in rising order, up to and with the first that forbids `value`, or all.
-pub(crate) fn look(top: Subproblem, n: usize, d: usize, tables: &[u16], variable: usize, value: usize) -> Looked
+pub(crate) fn look(
+    top: Subproblem,
+    n: usize,
+    d: usize,
+    tables: &[u16],
+    variable: usize,
+    value: usize,
+) -> Looked
     requires { ⌜ Inside n d (now tables) variable value ⌝ }
     ensures { λ r. ⌜ LookedAt n (tableOf n d (now (tables .entry))) top variable value (r .count) (r .conflict) ⌝ }
 {
@@ -83,15 +97,19 @@ fn values_in_others(top: Subproblem, n: usize, variable: usize) -> usize
 pub fn checks(top: Subproblem, n: usize, d: usize, tables: &[u16], request: &[u16]) -> usize
     ensures { λ r. ⌜ Checks-of top n d (now (tables .entry)) (now (request .entry)) r ⌝ }
 {
-    if !tables::readable(n, d, tables, request) {
-        return 0;
-    }
-    let kind = words::kind(request);
-    if kind == 1 {
-        return look(top, n, d, tables, words::variable(request), words::value(request)).count;
-    }
-    if kind == 2 || kind == 3 {
-        return values_in_others(top, n, words::variable(request));
+    if tables::readable(n, d, tables, request) {
+        let kind = words::kind(request);
+        let variable = words::variable(request);
+        if kind == 1 {
+            let looked = look(top, n, d, tables, variable, words::value(request));
+            return looked.count;
+        }
+        if kind == 2 {
+            return values_in_others(top, n, variable);
+        }
+        if kind == 3 {
+            return values_in_others(top, n, variable);
+        }
     }
     0
 }

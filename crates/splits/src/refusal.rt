@@ -2,7 +2,6 @@
 use crate::mask;
 use crate::subproblem::Subproblem;
 use crate::words;
-
 ghost use mathlib.Core.Path.{_≡_};
 ghost use Prim.Native.Nat.{ℕ, _≤_};
 ghost use mathlib.Core.Bool.{cond, _||_};
@@ -64,7 +63,14 @@ pub fn refusal(top: Subproblem, n: usize, d: usize, request: &[u16]) -> u32
     if kind == 5 {
         return refusal_of_targets(top, n, request);
     }
-    refusal_of_variable(top, n, d, kind, words::variable(request), words::value(request))
+    refusal_of_variable(
+        top,
+        n,
+        d,
+        kind,
+        words::variable(request),
+        words::value(request),
+    )
 }
 
 // 10 or none.
@@ -81,7 +87,14 @@ fn refusal_of_targets(top: Subproblem, n: usize, request: &[u16]) -> u32
 }
 
 // 8, 9 or none, of kinds 1 to 4.
-fn refusal_of_variable(top: Subproblem, n: usize, d: usize, kind: usize, variable: usize, value: usize) -> u32
+fn refusal_of_variable(
+    top: Subproblem,
+    n: usize,
+    d: usize,
+    kind: usize,
+    variable: usize,
+    value: usize,
+) -> u32
     ensures { λ r. ⌜ r ≡ refusalOfVariable n d top kind variable value ⌝ }
 {
     if n <= variable {

@@ -4,7 +4,6 @@ use crate::mask;
 use crate::subproblem::Subproblem;
 use crate::tables;
 use crate::words;
-
 ghost use mathlib.Core.Path.{_≡_};
 ghost use Prim.Native.Nat.{ℕ, _+_, _≤_, _<_};
 ghost use Rattle.splits.specs.Problem.{tableOf};
@@ -13,21 +12,38 @@ ghost use Rattle.splits.specs.Calls.{Piece, Candidates};
 ghost use Rattle.splits.specs.Work.Ranges.{Inside};
 
 // Backtracking: the variable instantiated to the value, emptied where an instantiated value forbids it; then the rest.
-fn backtracking(top: Subproblem, n: usize, d: usize, tables: &[u16], variable: usize, value: usize, k: usize) -> Subproblem
+fn backtracking(
+    top: Subproblem,
+    n: usize,
+    d: usize,
+    tables: &[u16],
+    variable: usize,
+    value: usize,
+    k: usize,
+) -> Subproblem
     requires { ⌜ Inside n d (now tables) variable value ⌝ }
     ensures { λ r. ⌜ r ≡ backtracked n (tableOf n d (now (tables .entry))) top variable value k ⌝ }
 {
     if k != 0 {
         return top.without(variable, mask::only(value));
     }
-    if checks::look(top, n, d, tables, variable, value).conflict {
+    let looked = checks::look(top, n, d, tables, variable, value);
+    if looked.conflict {
         return top.cut(variable, 0);
     }
     top.instantiate(variable, value)
 }
 
 // Forward checking: the precluded piece; then the rest.
-fn forward_checking(top: Subproblem, n: usize, d: usize, tables: &[u16], variable: usize, value: usize, k: usize) -> Subproblem
+fn forward_checking(
+    top: Subproblem,
+    n: usize,
+    d: usize,
+    tables: &[u16],
+    variable: usize,
+    value: usize,
+    k: usize,
+) -> Subproblem
     requires { ⌜ Inside n d (now tables) variable value ⌝ }
     ensures { λ r. ⌜ r ≡ checked n (tableOf n d (now (tables .entry))) top variable value k ⌝ }
 {
@@ -38,7 +54,15 @@ fn forward_checking(top: Subproblem, n: usize, d: usize, tables: &[u16], variabl
 }
 
 // IDC: the precluded piece; then one for each other variable, with V's own place empty.
-fn idc(top: Subproblem, n: usize, d: usize, tables: &[u16], variable: usize, value: usize, k: usize) -> Subproblem
+fn idc(
+    top: Subproblem,
+    n: usize,
+    d: usize,
+    tables: &[u16],
+    variable: usize,
+    value: usize,
+    k: usize,
+) -> Subproblem
     requires { ⌜ Inside n d (now tables) variable value × (k ≤ n) ⌝ }
     ensures { λ r. ⌜ r ≡ inferred n (tableOf n d (now (tables .entry))) top variable value k ⌝ }
 {
@@ -102,23 +126,24 @@ pub fn candidates(n: usize, request: &[u16]) -> usize
 }
 
 // The k-th piece of a request, empty where it is to be dropped.
-pub fn piece(top: Subproblem, n: usize, d: usize, tables: &[u16], request: &[u16], k: usize) -> Subproblem
+pub fn piece(
+    top: Subproblem,
+    n: usize,
+    d: usize,
+    tables: &[u16],
+    request: &[u16],
+    k: usize,
+) -> Subproblem
     ensures { λ r. ⌜ Piece top n d (now (tables .entry)) (now (request .entry)) k r ⌝ }
 {
-    if candidates(n, request) <= k {
+    if !tables::readable(n, d, tables, request) {
         return top;
     }
-    if !tables::readable(n, d, tables, request) {
+    if candidates(n, request) <= k {
         return top;
     }
     let kind = words::kind(request);
     let variable = words::variable(request);
-    if kind == 4 {
-        return halving(top, variable, k);
-    }
-    if kind == 5 {
-        return extraction(top, n, request, k);
-    }
     let value = words::value(request);
     if kind == 1 {
         return backtracking(top, n, d, tables, variable, value, k);
@@ -126,5 +151,14 @@ pub fn piece(top: Subproblem, n: usize, d: usize, tables: &[u16], request: &[u16
     if kind == 2 {
         return forward_checking(top, n, d, tables, variable, value, k);
     }
-    idc(top, n, d, tables, variable, value, k)
+    if kind == 3 {
+        return idc(top, n, d, tables, variable, value, k);
+    }
+    if kind == 4 {
+        return halving(top, variable, k);
+    }
+    if kind == 5 {
+        return extraction(top, n, request, k);
+    }
+    top
 }

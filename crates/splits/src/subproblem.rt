@@ -2,7 +2,6 @@
 use crate::mask;
 use crate::tables;
 use crate::words;
-
 ghost use mathlib.Core.Path.{_≡_};
 ghost use mathlib.Core.List.{List};
 ghost use Prim.Native.Nat.{ℕ, _+_, _*_, _<_, _≤_};
@@ -103,14 +102,23 @@ impl Subproblem {
     }
 
     // The variables before `j`, except `variable`, cut to the values allowed beside `value`.
-    pub(crate) fn cut_beside(mut self, n: usize, d: usize, tables: &[u16], variable: usize, value: usize, j: usize) -> Subproblem
+    pub(crate) fn cut_beside(
+        mut self,
+        n: usize,
+        d: usize,
+        tables: &[u16],
+        variable: usize,
+        value: usize,
+        j: usize,
+    ) -> Subproblem
         requires { ⌜ Inside n d (now tables) variable value × (j ≤ n) ⌝ }
         ensures { λ r. ⌜ r ≡ cutBeside (tableOf n d (now (tables .entry))) self variable value j ⌝ }
     {
         let mut i = 0;
         while i < j {
             if i != variable {
-                self.domains[i] = self.domains[i] & tables::allowed(n, d, tables, variable, i, value);
+                self.domains[i] = self.domains[i]
+                    & tables::allowed(n, d, tables, variable, i, value);
             }
             i += 1;
         }
@@ -131,19 +139,32 @@ impl Subproblem {
     }
 
     // The precluded piece: the variable instantiated to the value, every other cut to the values allowed beside it.
-    pub fn precluded(self, n: usize, d: usize, tables: &[u16], variable: usize, value: usize) -> Subproblem
+    pub fn precluded(
+        self,
+        n: usize,
+        d: usize,
+        tables: &[u16],
+        variable: usize,
+        value: usize,
+    ) -> Subproblem
         ensures { λ r. ⌜ Precluded self n d (now (tables .entry)) variable value r ⌝ }
     {
         if tables::within(n, d, tables, variable, value) {
-            return self
-                .cut_beside(n, d, tables, variable, value, n)
+            return self.cut_beside(n, d, tables, variable, value, n)
                 .instantiate(variable, value);
         }
         self
     }
 
     // Whether the precluded piece would be empty, without making it.
-    pub fn precluded_empty(self, n: usize, d: usize, tables: &[u16], variable: usize, value: usize) -> bool
+    pub fn precluded_empty(
+        self,
+        n: usize,
+        d: usize,
+        tables: &[u16],
+        variable: usize,
+        value: usize,
+    ) -> bool
         ensures { λ r. ⌜ Precluded-empty self n d (now (tables .entry)) variable value r ⌝ }
     {
         if tables::within(n, d, tables, variable, value) {

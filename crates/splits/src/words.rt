@@ -8,11 +8,7 @@ ghost use Rattle.splits.specs.Requests.{kindOf, variableOf, valueOf, tar
 pub(crate) fn word(words: &[u16], at: usize) -> u16
     ensures { λ r. ⌜ r ≡ getD (now (words .entry)) at 0 ⌝ }
 {
-    if at < words.len() {
-        words[at]
-    } else {
-        0
-    }
+    if at < words.len() { words[at] } else { 0 }
 }
 
 pub(crate) fn kind(request: &[u16]) -> usize

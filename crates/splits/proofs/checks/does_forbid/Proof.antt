@@ -1,3 +1,9 @@
+use Rattle.splits.proofs.Counting.{forbids-is}
+use Rattle.splits.proofs.Ranges.{in-table}
+use lib.Count.{trailing-le}
+use mathlib.Core.Bool.{not}
+use mathlib.Core.Path.{sym, ap, _∙_}
+use native.Mathlib.Omega.{arith}
 use borrow.Author.Needs.{needs}
 use Rattle.splits.proofs.checks.does_forbid.Statement.{statement}
 use Rattle.splits.proofs.checks.does_forbid.Tie as tie
@@ -18,19 +24,19 @@ first-requires c κs = search needs
 
 -- src/checks.rt:38:40
 mul-word : tie.Need-mul-word
-mul-word c = search needs
+mul-word c = let p = c .before .before .before .pre in omega (arith, in-table _ _ _ _ _ _ (p .0 .fit) (record { first = p .1; second = p .0 .a-variable; third = p .0 .a-value }))
 
 -- src/checks.rt:38:40
 add-word : tie.Need-add-word
-add-word c = search needs
+add-word c = let p = c .before .before .before .pre in omega (arith, in-table _ _ _ _ _ _ (p .0 .fit) (record { first = p .1; second = p .0 .a-variable; third = p .0 .a-value }))
 
 -- src/checks.rt:38:39
 mul-word-2 : tie.Need-mul-word-2
-mul-word-2 c = search needs
+mul-word-2 c = let p = c .before .before .before .pre in omega (arith, in-table _ _ _ _ _ _ (p .0 .fit) (record { first = p .1; second = p .0 .a-variable; third = p .0 .a-value }))
 
 -- src/checks.rt:38:39
 add-word-2 : tie.Need-add-word-2
-add-word-2 c = search needs
+add-word-2 c = let p = c .before .before .before .pre in omega (arith, in-table _ _ _ _ _ _ (p .0 .fit) (record { first = p .1; second = p .0 .a-variable; third = p .0 .a-value }), c .first .ensures, trailing-le 16 (c .before .domain .result))
 
 -- src/checks.rt:38:9
 word-requires : tie.Need-word-requires
@@ -42,11 +48,11 @@ has-requires c κs = search needs
 
 -- src/checks.rt:40:9
 returns : tie.Need-returns
-returns c = search needs
+returns c = sym (ap not (c .if1 .taken)) ∙ forbids-is _ _ _ _ _ _ _ _ _ _ _ (c .before .before .before .before .domain .ensures) (c .before .before .before .first .ensures) (c .before .before .word .ensures) (c .before .has .ensures)
 
 -- src/checks.rt:33:1
 returns-2 : tie.Need-returns-2
-returns-2 c = search needs
+returns-2 c = sym (ap not (c .if1 .left)) ∙ forbids-is _ _ _ _ _ _ _ _ _ _ _ (c .before .before .before .before .domain .ensures) (c .before .before .before .first .ensures) (c .before .before .word .ensures) (c .before .has .ensures)
 
 pub does-forbid-spec : {M : Type 1} → statement M
 does-forbid-spec =

@@ -1,3 +1,8 @@
+use Rattle.splits.specs.Masks.{smallerHalf, smallest}
+use lib.Count.{ones-le}
+use Prim.Native.Nat.{ℕ, _+_, _/_}
+use mathlib.Core.Path.{_∙_, ap}
+use native.Mathlib.Omega.{arith}
 use borrow.Author.Needs.{needs}
 use Rattle.splits.proofs.mask.smaller_half.Statement.{statement}
 use Rattle.splits.proofs.mask.smaller_half.Tie as tie
@@ -12,15 +17,16 @@ count-requires c κs = search needs
 
 -- src/mask.rt:45:24
 add-smallest-of : tie.Need-add-smallest-of
-add-smallest-of c = search needs
+add-smallest-of c = omega (arith, c .count .ensures, ones-le 16 (c .before .args .mask) (c .before .fits .mask .fits))
 
 -- src/mask.rt:45:5
 smallest-of-requires : tie.Need-smallest-of-requires
-smallest-of-requires c κs = search needs
+smallest-of-requires c κs = omega (arith, c .count .ensures)
 
 -- src/mask.rt:42:1
 returns : tie.Need-returns
-returns c = search needs
+unfolding smallerHalf
+returns c = c .smallest-of .ensures ∙ ap (λ (x : ℕ). smallest ((x + 1) / 2) (c .before .before .args .mask)) (c .before .count .ensures)
 
 pub smaller-half-spec : {M : Type 1} → statement M
 smaller-half-spec =

@@ -1,48 +1,46 @@
+-- `refusal::all_targets_same` meets its contract. The loop's invariant: each target passed is the domain.
+-- Assumes nothing.
+use mathlib.Core.Path.{_≡_, refl, sym}
+use mathlib.Core.Bool.{true}
+use Prim.Native.Nat.{_≤_, _-_}
+use native.Mathlib.Omega.{arith}
 use borrow.Author.Needs.{needs}
+use Rattle.splits.specs.Subproblems.{every}
+use Rattle.splits.specs.Refusals.{allSame}
+use Rattle.splits.proofs.Refusals.{same-not, same-more}
 use Rattle.splits.proofs.refusal.all_targets_same.Statement.{statement}
 use Rattle.splits.proofs.refusal.all_targets_same.Tie as tie
-use Rattle.splits.proofs.refusal.all_targets_same.Reads as reads
-use Rattle.splits.proofs.refusal.all_targets_same.Lts as lts
-use Rattle.splits.proofs.subproblem.Subproblem.domain.Reads as domain-reads
-use Rattle.splits.proofs.words.target.Reads as target-reads
 
 abbrev Inv-loop : tie.InvT-loop
-Inv-loop top n request i₀ i = ?
+Inv-loop top n request i₀ i = (i ≤ n) × (allSame i top request ≡ true)
 
 abbrev μ-loop : tie.MeasureT-loop
-μ-loop top n request i₀ i = ?
+μ-loop top n request i₀ i = n - i
 
--- src/refusal.rt:44:5
 loop-holds : tie.Need-loop-holds Inv-loop μ-loop
-loop-holds c = search needs
+unfolding allSame every
+loop-holds c = (search needs, refl)
 
--- src/refusal.rt:45:12
 target-requires : tie.Need-target-requires Inv-loop μ-loop
 target-requires c κs = search needs
 
--- src/refusal.rt:45:41
 domain-requires : tie.Need-domain-requires Inv-loop μ-loop
 domain-requires c κs = search needs
 
--- src/refusal.rt:46:13
 returns : tie.Need-returns Inv-loop μ-loop
-returns c = search needs
+returns c = same-not _ _ _ _ _ _ (c .before .before .before .loop-test .taken) (c .before .before .target .ensures) (c .before .domain .ensures) (c .if1 .taken)
 
--- src/refusal.rt:48:9
 add-i : tie.Need-add-i Inv-loop μ-loop
 add-i c = search needs
 
--- src/refusal.rt:44:5
 loop-less : tie.Need-loop-less Inv-loop μ-loop
 loop-less c = search needs
 
--- src/refusal.rt:44:5
 loop-again : tie.Need-loop-again Inv-loop μ-loop
-loop-again c = search needs
+loop-again c = (omega arith, same-more _ _ _ _ _ (c .before .before .before .before .loop .inv .1) (c .before .before .target .ensures) (c .before .domain .ensures) (c .if1 .left))
 
--- src/refusal.rt:39:1
 returns-2 : tie.Need-returns-2 Inv-loop μ-loop
-returns-2 c = search needs
+returns-2 c = let end : c .before .loop .i ≡ c .before .before .before .args .n = omega arith in rw (← end) (sym (c .before .loop .inv .1))
 
 pub all-targets-same-spec : {M : Type 1} → statement M
 all-targets-same-spec =

@@ -1,56 +1,60 @@
+-- `refusal::refusal_of_variable` meets its contract, test by test.
+-- Assumes nothing.
+use mathlib.Core.Path.{sym, ap, _∙_}
+use mathlib.Core.Bool.{or-true}
+use borrow.Author.Tests.{le-leb, lt-leb, eq-eqb, ne-eqb}
 use borrow.Author.Needs.{needs}
+use Rattle.splits.specs.Masks.{size}
+use Rattle.splits.specs.Work.Loops.{refusalOfVariable}
+use Rattle.splits.proofs.Refusals.{lacks}
 use Rattle.splits.proofs.refusal.refusal_of_variable.Statement.{statement}
 use Rattle.splits.proofs.refusal.refusal_of_variable.Tie as tie
-use Rattle.splits.proofs.refusal.refusal_of_variable.Reads as reads
-use Rattle.splits.proofs.refusal.refusal_of_variable.Lts as lts
-use Rattle.splits.proofs.mask.count.Reads as count-reads
-use Rattle.splits.proofs.mask.has.Reads as has-reads
-use Rattle.splits.proofs.subproblem.Subproblem.domain.Reads as domain-reads
-use Rattle.splits.proofs.subproblem.Subproblem.is_instantiated.Reads as is-instantiated-reads
 
--- src/refusal.rt:88:9
 returns : tie.Need-returns
-returns c = search needs
+unfolding refusalOfVariable
+returns c = simp (le-leb _ _ (c .if1 .taken))
 
--- src/refusal.rt:90:8
 is-instantiated-requires : tie.Need-is-instantiated-requires
 is-instantiated-requires c κs = search needs
 
--- src/refusal.rt:91:9
 returns-2 : tie.Need-returns-2
-returns-2 c = search needs
+unfolding refusalOfVariable
+returns-2 c = simp (sym (c .before .is-instantiated .ensures) ∙ c .if2 .taken, or-true)
 
--- src/refusal.rt:93:9
 domain-requires : tie.Need-domain-requires
 domain-requires c κs = search needs
 
--- src/refusal.rt:95:12
 count-requires : tie.Need-count-requires
 count-requires c κs = search needs
 
--- src/refusal.rt:96:13
 returns-3 : tie.Need-returns-3
-returns-3 c = search needs
+unfolding refusalOfVariable
+returns-3 c =
+    let one = ap size (sym (c .before .before .before .domain .ensures)) ∙ sym (c .before .count .ensures) ∙ c .if4 .taken in
+    simp (lt-leb _ _ (c .before .before .before .before .before .before .if1 .left), sym (c .before .before .before .before .before .is-instantiated .ensures) ∙ c .before .before .before .before .if2 .left, eq-eqb _ _ (c .before .before .if3 .taken), eq-eqb _ 1 one)
 
--- src/refusal.rt:98:9
 returns-4 : tie.Need-returns-4
-returns-4 c = search needs
+unfolding refusalOfVariable
+returns-4 c =
+    let same = ap size (sym (c .before .before .before .domain .ensures)) ∙ sym (c .before .count .ensures) in
+    simp (lt-leb _ _ (c .before .before .before .before .before .before .if1 .left), sym (c .before .before .before .before .before .is-instantiated .ensures) ∙ c .before .before .before .before .if2 .left, eq-eqb _ _ (c .before .before .if3 .taken), same, ne-eqb _ 1 (c .if4 .left))
 
--- src/refusal.rt:101:9
 returns-5 : tie.Need-returns-5
-returns-5 c = search needs
+unfolding refusalOfVariable
+returns-5 c = simp (lt-leb _ _ (c .before .before .before .before .before .if1 .left), sym (c .before .before .before .before .is-instantiated .ensures) ∙ c .before .before .before .if2 .left, ne-eqb _ _ (c .before .if3 .left), le-leb _ _ (c .if5 .taken))
 
--- src/refusal.rt:103:8
 has-requires : tie.Need-has-requires
 has-requires c κs = search needs
 
--- src/refusal.rt:104:9
 returns-6 : tie.Need-returns-6
-returns-6 c = search needs
+unfolding refusalOfVariable
+returns-6 c =
+    simp (lt-leb _ _ (c .before .before .before .before .before .before .before .if1 .left), sym (c .before .before .before .before .before .before .is-instantiated .ensures) ∙ c .before .before .before .before .before .if2 .left, ne-eqb _ _ (c .before .before .before .if3 .left), lt-leb _ _ (c .before .before .if5 .left), sym (c .before .before .before .before .domain .ensures), lacks _ _ _ (c .before .has .ensures), c .if6 .taken)
 
--- src/refusal.rt:84:1
 returns-7 : tie.Need-returns-7
-returns-7 c = search needs
+unfolding refusalOfVariable
+returns-7 c =
+    simp (lt-leb _ _ (c .before .before .before .before .before .before .before .if1 .left), sym (c .before .before .before .before .before .before .is-instantiated .ensures) ∙ c .before .before .before .before .before .if2 .left, ne-eqb _ _ (c .before .before .before .if3 .left), lt-leb _ _ (c .before .before .if5 .left), sym (c .before .before .before .before .domain .ensures), lacks _ _ _ (c .before .has .ensures), c .if6 .left)
 
 pub refusal-of-variable-spec : {M : Type 1} → statement M
 refusal-of-variable-spec =

@@ -1,57 +1,53 @@
+-- `refusal::some_target_bad` meets its contract. The loop's invariant: no target passed is bad.
+-- Assumes nothing.
+use mathlib.Core.Path.{_≡_, refl, sym}
+use mathlib.Core.Bool.{false}
+use Prim.Native.Nat.{_≤_, _-_}
+use native.Mathlib.Omega.{arith}
 use borrow.Author.Needs.{needs}
+use Rattle.splits.specs.Subproblems.{some}
+use Rattle.splits.specs.Refusals.{someBad}
+use Rattle.splits.proofs.Refusals.{bad-past, bad-at, bad-more}
 use Rattle.splits.proofs.refusal.some_target_bad.Statement.{statement}
 use Rattle.splits.proofs.refusal.some_target_bad.Tie as tie
-use Rattle.splits.proofs.refusal.some_target_bad.Reads as reads
-use Rattle.splits.proofs.refusal.some_target_bad.Lts as lts
-use Rattle.splits.proofs.refusal.is_target_bad.Reads as is-target-bad-reads
-use Rattle.splits.proofs.subproblem.Subproblem.domain.Reads as domain-reads
-use Rattle.splits.proofs.words.target.Reads as target-reads
 
 abbrev Inv-loop : tie.InvT-loop
-Inv-loop top n request i₀ i = ?
+Inv-loop top n request i₀ i = (i ≤ n) × (someBad i top request ≡ false)
 
 abbrev μ-loop : tie.MeasureT-loop
-μ-loop top n request i₀ i = ?
+μ-loop top n request i₀ i = n - i
 
--- src/refusal.rt:27:9
 returns : tie.Need-returns Inv-loop μ-loop
-returns c = search needs
+returns c = bad-past _ _ _ (search needs) (c .if1 .taken)
 
--- src/refusal.rt:30:5
 loop-holds : tie.Need-loop-holds Inv-loop μ-loop
-loop-holds c = search needs
+unfolding someBad some
+loop-holds c = (search needs, refl)
 
--- src/refusal.rt:31:26
 target-requires : tie.Need-target-requires Inv-loop μ-loop
 target-requires c κs = search needs
 
--- src/refusal.rt:31:53
 domain-requires : tie.Need-domain-requires Inv-loop μ-loop
 domain-requires c κs = search needs
 
--- src/refusal.rt:31:12
 is-target-bad-requires : tie.Need-is-target-bad-requires Inv-loop μ-loop
 is-target-bad-requires c κs = search needs
 
--- src/refusal.rt:32:13
 returns-2 : tie.Need-returns-2 Inv-loop μ-loop
-returns-2 c = search needs
+returns-2 c = bad-at _ _ _ _ _ _ _ (c .before .before .before .before .loop-test .taken) (c .before .before .before .target .ensures) (c .before .before .domain .ensures) (c .before .is-target-bad .ensures) (c .if2 .taken)
 
--- src/refusal.rt:34:9
 add-i : tie.Need-add-i Inv-loop μ-loop
 add-i c = search needs
 
--- src/refusal.rt:30:5
 loop-less : tie.Need-loop-less Inv-loop μ-loop
 loop-less c = search needs
 
--- src/refusal.rt:30:5
 loop-again : tie.Need-loop-again Inv-loop μ-loop
-loop-again c = search needs
+loop-again c =
+    (omega arith, bad-more _ _ _ _ _ _ (c .before .before .before .before .before .loop .inv .1) (c .before .before .before .target .ensures) (c .before .before .domain .ensures) (c .before .is-target-bad .ensures) (c .if2 .left))
 
--- src/refusal.rt:23:1
 returns-3 : tie.Need-returns-3 Inv-loop μ-loop
-returns-3 c = search needs
+returns-3 c = let end : c .before .loop .i ≡ c .before .before .before .before .args .n = omega arith in rw (← end) (sym (c .before .loop .inv .1))
 
 pub some-target-bad-spec : {M : Type 1} → statement M
 some-target-bad-spec =

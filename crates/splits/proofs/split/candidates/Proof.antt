@@ -1,45 +1,49 @@
+-- `split::candidates` meets its contract, kind by kind.
+-- Assumes nothing.
+use mathlib.Core.Path.{sym, _∙_}
+use mathlib.Core.Logic.{inr}
+use Prim.Native.Nat.{_<_}
+use native.Mathlib.Omega.{arith}
+use borrow.Author.Tests.{le-leb, lt-leb}
 use borrow.Author.Needs.{needs}
+use Rattle.splits.specs.Splits.{candidates}
+use Rattle.splits.proofs.Refusals.{no-kind, two-pieces}
 use Rattle.splits.proofs.split.candidates.Statement.{statement}
 use Rattle.splits.proofs.split.candidates.Tie as tie
-use Rattle.splits.proofs.split.candidates.Reads as reads
-use Rattle.splits.proofs.split.candidates.Lts as lts
-use Rattle.splits.proofs.words.kind.Reads as kind-reads
 
--- src/split.rt:86:9
 returns : tie.Need-returns
-returns c = search needs
+returns c = simp (lt-leb _ _ (c .if1 .taken))
 
--- src/split.rt:88:9
 kind-requires : tie.Need-kind-requires
 kind-requires c κs = search needs
 
--- src/split.rt:90:16
 add-result : tie.Need-add-result
 add-result c = search needs
 
--- src/split.rt:90:9
 returns-2 : tie.Need-returns-2
-returns-2 c = search needs
+unfolding candidates
+returns-2 c = simp (le-leb _ _ (c .before .before .if1 .left), sym (c .before .kind .ensures) ∙ c .if2 .taken)
 
--- src/split.rt:93:16
 add-result-2 : tie.Need-add-result-2
 add-result-2 c = search needs
 
--- src/split.rt:93:9
 returns-3 : tie.Need-returns-3
-returns-3 c = search needs
+unfolding candidates
+returns-3 c = simp (le-leb _ _ (c .before .before .before .if1 .left), sym (c .before .before .kind .ensures) ∙ c .if3 .taken)
 
--- src/split.rt:96:9
 returns-4 : tie.Need-returns-4
-returns-4 c = search needs
+unfolding candidates
+returns-4 c = simp (le-leb _ _ (c .before .before .before .before .if1 .left), sym (c .before .before .before .kind .ensures) ∙ c .if4 .taken)
 
--- src/split.rt:99:9
 returns-5 : tie.Need-returns-5
-returns-5 c = search needs
+unfolding candidates
+returns-5 c = simp (le-leb _ _ (c .before .before .before .before .before .if1 .left), sym (c .before .before .before .before .kind .ensures)) (sym (two-pieces _ _ _ _ (c .before .before .before .if2 .left) (c .before .if4 .left) (c .if5 .taken)))
 
--- src/split.rt:82:1
 returns-6 : tie.Need-returns-6
-returns-6 c = search needs
+unfolding candidates
+returns-6 c =
+    let past : 5 < c .before .before .before .before .kind .result = omega arith in
+    simp (le-leb _ _ (c .before .before .before .before .before .if1 .left), sym (c .before .before .before .before .kind .ensures)) (sym (no-kind _ _ _ _ _ _ _ (inr past)))
 
 pub candidates-spec : {M : Type 1} → statement M
 candidates-spec =

@@ -1,3 +1,5 @@
+use borrow.Author.Tests.{eq-eqb, ne-eqb}
+use Rattle.splits.specs.Splits.{halved}
 use borrow.Author.Needs.{needs}
 use Rattle.splits.proofs.split.halving.Statement.{statement}
 use Rattle.splits.proofs.split.halving.Tie as tie
@@ -22,7 +24,8 @@ without-requires c κs = search needs
 
 -- src/split.rt:63:9
 returns : tie.Need-returns
-returns c = search needs
+unfolding halved
+returns c = simp (ne-eqb _ _ (c .before .if1 .taken)) (cc)
 
 -- src/split.rt:65:5
 cut-requires : tie.Need-cut-requires
@@ -30,7 +33,8 @@ cut-requires c κs = search needs
 
 -- src/split.rt:58:1
 returns-2 : tie.Need-returns-2
-returns-2 c = search needs
+unfolding halved
+returns-2 c = simp (eq-eqb _ _ (c .before .if1 .left)) (cc)
 
 pub halving-spec : {M : Type 1} → statement M
 halving-spec =

@@ -1,3 +1,8 @@
+use Rattle.splits.proofs.Ranges.{inside-is}
+use borrow.Author.Tests.{eq-eqb, ne-eqb}
+use Rattle.splits.specs.Splits.{inferred, disjunct}
+use native.Mathlib.Omega.{arith}
+use mathlib.Core.Path.{sym, _∙_}
 use borrow.Author.Needs.{needs}
 use Rattle.splits.proofs.split.idc.Statement.{statement}
 use Rattle.splits.proofs.split.idc.Tie as tie
@@ -16,7 +21,8 @@ precluded-requires c κs = search needs
 
 -- src/split.rt:46:9
 returns : tie.Need-returns
-returns c = search needs
+unfolding inferred
+returns c = simp (eq-eqb _ _ (c .before .if1 .taken)) (simp (inside-is _ _ _ _ _ (c .before .before .before .pre .0)) at (c .precluded .ensures))
 
 -- src/split.rt:48:13
 sub-j : tie.Need-sub-j
@@ -28,11 +34,12 @@ cut-requires c κs = search needs
 
 -- src/split.rt:50:9
 returns-2 : tie.Need-returns-2
-returns-2 c = search needs
+unfolding inferred
+returns-2 c = simp (ne-eqb _ _ (c .before .before .if1 .left), eq-eqb _ _ (c .before .if2 .taken)) (c .cut .ensures)
 
 -- src/split.rt:52:27
 only-requires : tie.Need-only-requires
-only-requires c κs = search needs
+only-requires c κs = omega (arith, c .before .before .before .pre .0 .fit .small, c .before .before .before .pre .0 .a-value)
 
 -- src/split.rt:52:5
 without-requires : tie.Need-without-requires
@@ -40,11 +47,11 @@ without-requires c κs = search needs
 
 -- src/split.rt:52:5
 cut-beside-requires : tie.Need-cut-beside-requires
-cut-beside-requires c κs = search needs
+cut-beside-requires c κs = (c .before .before .before .before .before .pre .0, omega arith)
 
 -- src/split.rt:54:21
 allowed-requires : tie.Need-allowed-requires
-allowed-requires c κs = search needs
+allowed-requires c κs = let p = c .before .before .before .before .before .before .pre in (p .0 .fit, record { first = p .0 .a-variable; second = omega arith; third = p .0 .a-value })
 
 -- src/split.rt:52:5
 without-requires-2 : tie.Need-without-requires-2
@@ -52,7 +59,8 @@ without-requires-2 c κs = search needs
 
 -- src/split.rt:41:1
 returns-3 : tie.Need-returns-3
-returns-3 c = search needs
+unfolding inferred disjunct
+returns-3 c = simp (ne-eqb _ _ (c .before .before .before .before .before .before .if1 .left), ne-eqb _ _ (c .before .before .before .before .before .if2 .left)) (cc)
 
 pub idc-spec : {M : Type 1} → statement M
 idc-spec =

@@ -1,44 +1,47 @@
+-- `tables::readable` meets its contract, kind by kind.
+-- Assumes nothing.
+use mathlib.Core.Path.{sym, _∙_}
+use mathlib.Core.Bool.{and-true, and-false}
+use mathlib.Core.Logic.{⊎-elim}
+use borrow.Author.Tests.{le-ltb, lt-ltb}
 use borrow.Author.Needs.{needs}
+use Rattle.splits.specs.Calls.{readable}
+use Rattle.splits.proofs.Refusals.{one-to-three, past-four}
 use Rattle.splits.proofs.tables.readable.Statement.{statement}
 use Rattle.splits.proofs.tables.readable.Tie as tie
-use Rattle.splits.proofs.tables.readable.Reads as reads
-use Rattle.splits.proofs.tables.readable.Lts as lts
-use Rattle.splits.proofs.tables.within.Reads as within-reads
-use Rattle.splits.proofs.words.kind.Reads as kind-reads
-use Rattle.splits.proofs.words.value.Reads as value-reads
-use Rattle.splits.proofs.words.variable.Reads as variable-reads
 
--- src/tables.rt:48:9
 kind-requires : tie.Need-kind-requires
 kind-requires c κs = search needs
 
--- src/tables.rt:49:9
 variable-requires : tie.Need-variable-requires
 variable-requires c κs = search needs
 
--- src/tables.rt:51:9
 returns : tie.Need-returns
-returns c = search needs
+unfolding readable
+returns c = simp (sym (c .before .before .kind .ensures) ∙ c .if1 .taken)
 
--- src/tables.rt:54:47
 value-requires : tie.Need-value-requires
 value-requires c κs = search needs
 
--- src/tables.rt:54:9
 within-requires : tie.Need-within-requires
 within-requires c κs = search needs
 
--- src/tables.rt:54:9
 returns-2 : tie.Need-returns-2
-returns-2 c = search needs
+unfolding readable
+returns-2 c =
+    simp (sym (c .before .before .before .before .before .kind .ensures), sym (c .before .before .before .before .variable .ensures), sym (c .before .value .ensures))
+    (c .within .ensures ∙ sym (one-to-three _ _ _ _ _ (c .before .before .before .if1 .left) (c .before .before .if2 .taken)))
 
--- src/tables.rt:58:13
 returns-3 : tie.Need-returns-3
-returns-3 c = search needs
+unfolding readable
+returns-3 c =
+    simp (sym (c .before .before .before .before .before .kind .ensures) ∙ c .before .if3 .taken, sym (c .before .before .before .before .variable .ensures), le-ltb _ _ (c .if4 .taken), and-false)
 
--- src/tables.rt:45:1
 returns-4 : tie.Need-returns-4
-returns-4 c = search needs
+unfolding readable
+returns-4 c =
+    ⊎-elim (λ w. simp (sym (c .before .before .before .before .kind .ensures) ∙ w .0 .taken, sym (c .before .before .before .variable .ensures), lt-ltb _ _ (w .1 .left), and-true))
+    (λ w. simp (sym (c .before .before .before .before .kind .ensures)) (sym (past-four _ _ _ _ _ _ (c .before .if2 .left) (w .left)))) (c .if3 .came)
 
 pub readable-spec : {M : Type 1} → statement M
 readable-spec =

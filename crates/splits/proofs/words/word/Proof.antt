@@ -1,3 +1,5 @@
+use lib.ListN.{List·getD-eq-default}
+use mathlib.Core.Path.{sym}
 use borrow.Author.Needs.{needs}
 use Rattle.splits.proofs.words.word.Statement.{statement}
 use Rattle.splits.proofs.words.word.Tie as tie
@@ -18,7 +20,7 @@ returns c = search needs
 
 -- src/words.rt:8:1
 returns-2 : tie.Need-returns-2
-returns-2 c = search needs
+returns-2 c = sym (List·getD-eq-default (c .before .args .words .now) 0 (c .if1 .left))
 
 pub word-spec : {M : Type 1} → statement M
 word-spec = tie.close (tie.spec mul-result shared-slice-read-result returns returns-2)

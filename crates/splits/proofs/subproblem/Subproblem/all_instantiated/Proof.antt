@@ -1,3 +1,7 @@
+use Rattle.splits.proofs.Subproblems.{marks-all, marks-over, shifted}
+use lib.Pow.{pow-pos}
+use mir.Syntax.{w32}
+use mir.Val.{Fits}
 use borrow.Author.Needs.{needs}
 use Rattle.splits.proofs.subproblem.Subproblem.all_instantiated.Statement.{statement}
 use Rattle.splits.proofs.subproblem.Subproblem.all_instantiated.Tie as tie
@@ -6,7 +10,7 @@ use Rattle.splits.proofs.subproblem.Subproblem.all_instantiated.Lts as 
 
 -- src/subproblem.rt:48:13
 returns : tie.Need-returns
-returns c = search needs
+returns c = let h : Fits w32 (c .before .args .self .marked) = search needs in marks-over _ _ (h .fits) (c .if1 .taken)
 
 -- src/subproblem.rt:50:10
 cast-result : tie.Need-cast-result
@@ -18,7 +22,7 @@ shl-result c = search needs
 
 -- src/subproblem.rt:50:9
 rem-result : tie.Need-rem-result
-rem-result c = search needs
+rem-result c = rw (shifted _ (c .before .if1 .left)) (pow-pos _)
 
 -- src/subproblem.rt:50:45
 shl-result-2 : tie.Need-shl-result-2
@@ -26,11 +30,11 @@ shl-result-2 c = search needs
 
 -- src/subproblem.rt:50:44
 sub-result : tie.Need-sub-result
-sub-result c = search needs
+sub-result c = rw (shifted _ (c .before .if1 .left)) (pow-pos _)
 
 -- src/subproblem.rt:44:5
 returns-2 : tie.Need-returns-2
-returns-2 c = search needs
+returns-2 c = marks-all _ _ (c .before .if1 .left)
 
 pub all-instantiated-spec : {M : Type 1} → statement M
 all-instantiated-spec =

@@ -1,3 +1,8 @@
+use Rattle.splits.proofs.Subproblems.{target-next}
+use Rattle.splits.specs.Splits.{atTargets, changed}
+use native.Mathlib.Omega.{arith}
+use Prim.Native.Nat.{ℕ, _≤_, _<_, _-_}
+use mathlib.Core.Path.{_≡_, refl, sym, ap}
 use borrow.Author.Needs.{needs}
 use Rattle.splits.proofs.subproblem.Subproblem.at_targets.Statement.{statement}
 use Rattle.splits.proofs.subproblem.Subproblem.at_targets.Tie as tie
@@ -6,14 +11,15 @@ use Rattle.splits.proofs.subproblem.Subproblem.at_targets.Lts as lts
 use Rattle.splits.proofs.words.target.Reads as target-reads
 
 abbrev Inv-loop : tie.InvT-loop
-Inv-loop request j self₀ i₀ self i = ?
+Inv-loop request j self₀ i₀ self i = (i ≤ j) × (self ≡ atTargets self₀ request i)
 
 abbrev μ-loop : tie.MeasureT-loop
-μ-loop request j self₀ i₀ self i = ?
+μ-loop request j self₀ i₀ self i = j - i
 
 -- src/subproblem.rt:126:9
 loop-holds : tie.Need-loop-holds Inv-loop μ-loop
-loop-holds c = search needs
+unfolding atTargets changed
+loop-holds c = (search needs, refl)
 
 -- src/subproblem.rt:127:31
 target-requires : tie.Need-target-requires Inv-loop μ-loop
@@ -37,11 +43,11 @@ loop-less c = search needs
 
 -- src/subproblem.rt:126:9
 loop-again : tie.Need-loop-again Inv-loop μ-loop
-loop-again c = search needs
+loop-again c = (omega arith, target-next _ _ _ _ _ (c .before .before .loop .inv .1) (c .target .ensures))
 
 -- src/subproblem.rt:121:5
 returns : tie.Need-returns Inv-loop μ-loop
-returns c = search needs
+returns c = let end : c .before .loop .i ≡ c .before .before .before .args .j = omega arith in rw (← end) (c .before .loop .inv .1)
 
 pub at-targets-spec : {M : Type 1} → statement M
 at-targets-spec =

@@ -1,3 +1,7 @@
+use Rattle.splits.proofs.Subproblems.{precluded-made}
+use Rattle.splits.proofs.Ranges.{inside-true}
+use native.Mathlib.Nat.{le-refl}
+use mathlib.Core.Path.{sym, _∙_}
 use borrow.Author.Needs.{needs}
 use Rattle.splits.proofs.subproblem.Subproblem.precluded.Statement.{statement}
 use Rattle.splits.proofs.subproblem.Subproblem.precluded.Tie as tie
@@ -13,7 +17,7 @@ within-requires c κs = search needs
 
 -- src/subproblem.rt:138:20
 cut-beside-requires : tie.Need-cut-beside-requires
-cut-beside-requires c κs = search needs
+cut-beside-requires c κs = (inside-true _ _ _ _ _ (sym (c .before .within .ensures) ∙ c .if1 .taken), le-refl _)
 
 -- src/subproblem.rt:138:13
 instantiate-requires : tie.Need-instantiate-requires
@@ -21,11 +25,11 @@ instantiate-requires c κs = search needs
 
 -- src/subproblem.rt:138:13
 returns : tie.Need-returns
-returns c = search needs
+returns c = precluded-made _ _ _ _ _ _ _ _ (sym (c .before .before .before .within .ensures) ∙ c .before .before .if1 .taken) (c .before .cut-beside .ensures) (c .instantiate .ensures)
 
 -- src/subproblem.rt:134:5
 returns-2 : tie.Need-returns-2
-returns-2 c = search needs
+returns-2 c = simp (sym (c .before .within .ensures) ∙ c .if1 .left)
 
 pub precluded-spec : {M : Type 1} → statement M
 precluded-spec =

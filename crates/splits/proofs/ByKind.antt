@@ -1,0 +1,142 @@
+-- What is said by the kind of a request, at each kind. Assumes nothing.
+use mathlib.Core.Path.{_≡_, refl, sym, ap, _∙_}
+use mathlib.Core.Bool.{Bool, true, false, cond, _&&_}
+use mathlib.Core.List.{List}
+use Prim.Native.Nat.{ℕ, zero, suc, _+_, _≤_, _<_}
+use native.Mathlib.Omega.{arith}
+use mathlib.Core.Logic.{_⊎_, ⊎-elim}
+use lib.Dec.{eqb, leb, ltb}
+use borrow.Author.Tests.{ne-eqb, eqb-true, leb-true, ltb-true, le-leb, lt-ltb, le-ltb}
+use Rattle.splits.specs.Problem.{tableOf}
+use Rattle.splits.specs.Requests.{kindOf, variableOf, valueOf}
+use Rattle.splits.specs.Splits.{byKind, backtracked, checked, inferred, halved, extracted, candidate, candidates}
+use Rattle.splits.specs.Checks.{checks, tried, valuesIn, others}
+use Rattle.splits.specs.Calls.{readable, inside, Piece, Checks-of}
+use Rattle.splits.specs.Work.Ranges.{Inside}
+use Rattle.splits.specs.declared.subproblem.Subproblem.{Subproblem}
+use Rattle.splits.proofs.Tests.{and-left, and-right}
+use Rattle.splits.proofs.Ranges.{inside-true}
+
+either : {A : Type 0} {x y : A} (Q : A → Type 0) (t : Bool) → Q x → Q y → Q (cond t x y)
+either Q true p q = p
+either Q false p q = q
+
+module _ {A : Type 0} (k : ℕ) (a b c d e other : A) where
+  pub kind-1 : k ≡ 1 → byKind k a b c d e other ≡ a
+  kind-1 h = rw h
+
+  pub kind-2 : k ≡ 2 → byKind k a b c d e other ≡ b
+  kind-2 h = rw h
+
+  pub kind-3 : k ≡ 3 → byKind k a b c d e other ≡ c
+  kind-3 h = rw h
+
+  pub kind-4 : k ≡ 4 → byKind k a b c d e other ≡ d
+  kind-4 h = rw h
+
+  pub kind-5 : k ≡ 5 → byKind k a b c d e other ≡ e
+  kind-5 h = rw h
+
+  pub kind-none : (k ≡ 1 → ⊥) → (k ≡ 2 → ⊥) → (k ≡ 3 → ⊥) → (k ≡ 4 → ⊥) → (k ≡ 5 → ⊥) → byKind k a b c d e other ≡ other
+  kind-none p q r s t = simp (ne-eqb k 1 p, ne-eqb k 2 q, ne-eqb k 3 r, ne-eqb k 4 s, ne-eqb k 5 t)
+
+  -- what holds of each answer holds of the one that is picked
+  pub kind-any : (Q : A → Type 0) → Q a → Q b → Q c → Q d → Q e → Q other → Q (byKind k a b c d e other)
+  kind-any Q qa qb qc qd qe qo =
+      either Q (eqb k 1) qa (either Q (eqb k 2) qb (either Q (eqb k 3) qc (either Q (eqb k 4) qd (either Q (eqb k 5) qe qo))))
+
+-- the answers of kinds 1 to 3 left out
+pub kind-last : {A : Type 0} (k : ℕ) (a b c d : A) → (k ≡ 1 → ⊥) → (k ≡ 2 → ⊥) → (k ≡ 3 → ⊥) → byKind k a b c d d d ≡ d
+kind-last k a b c d p q r =
+    simp (ne-eqb k 1 p, ne-eqb k 2 q, ne-eqb k 3 r) (either (λ x. x ≡ d) (eqb k 4) refl (either (λ x. x ≡ d) (eqb k 5) refl refl))
+
+-- of a request whose words fit, with its kind, V and v as the code has them
+module _ (n d : ℕ) (t : List ℕ) (P : Subproblem) (r : List ℕ) (fits : readable n d t r ≡ true) (kind : ℕ) (its-kind : kind ≡ kindOf r) where
+  module _ (V′ v : ℕ) (its-variable : V′ ≡ variableOf r) (its-value : v ≡ valueOf r) where
+    ranged : inside n d t (variableOf r) (valueOf r) ≡ true → Inside n d t V′ v
+    ranged h = rw (its-variable, its-value) (inside-true n d t (variableOf r) (valueOf r) h)
+
+    pub inside-1 : kind ≡ 1 → Inside n d t V′ v
+    unfolding readable
+    inside-1 h = ranged (sym (kind-1 (kindOf r) _ _ _ _ _ _ (sym its-kind ∙ h)) ∙ fits)
+
+    pub inside-2 : kind ≡ 2 → Inside n d t V′ v
+    unfolding readable
+    inside-2 h = ranged (sym (kind-2 (kindOf r) _ _ _ _ _ _ (sym its-kind ∙ h)) ∙ fits)
+
+    pub inside-3 : kind ≡ 3 → Inside n d t V′ v
+    unfolding readable
+    inside-3 h = ranged (sym (kind-3 (kindOf r) _ _ _ _ _ _ (sym its-kind ∙ h)) ∙ fits)
+
+    pub checks-1 : (q : ℕ) → kind ≡ 1 → q ≡ tried (others V′) n (tableOf n d t) P V′ v
+        → Checks-of P n d t r q
+    unfolding checks
+    checks-1 q h e = rw (fits, kind-1 (kindOf r) _ _ _ _ _ _ (sym its-kind ∙ h), ← its-variable, ← its-value) e
+
+  pub checks-2 : (V′ q : ℕ) → V′ ≡ variableOf r → kind ≡ 2 → q ≡ valuesIn (others V′) n P → Checks-of P n d t r q
+  unfolding checks
+  checks-2 V′ q its-variable h e = rw (fits, kind-2 (kindOf r) _ _ _ _ _ _ (sym its-kind ∙ h), ← its-variable) e
+
+  pub checks-3 : (V′ q : ℕ) → V′ ≡ variableOf r → kind ≡ 3 → q ≡ valuesIn (others V′) n P → Checks-of P n d t r q
+  unfolding checks
+  checks-3 V′ q its-variable h e = rw (fits, kind-3 (kindOf r) _ _ _ _ _ _ (sym its-kind ∙ h), ← its-variable) e
+
+  pub checks-none : (kind ≡ 1 → ⊥) → (kind ≡ 2 → ⊥) → (kind ≡ 3 → ⊥) → Checks-of P n d t r 0
+  unfolding checks
+  checks-none p q s = rw (fits, ← its-kind) (sym (kind-last kind _ _ _ 0 p q s))
+
+-- no more than 32 variables
+pub few : (n d : ℕ) (t r : List ℕ) → readable n d t r ≡ true → n ≤ 32
+unfolding readable
+few n d t r fits =
+    let ranged : inside n d t (variableOf r) (valueOf r) ≡ true → n ≤ 32 = λ h. inside-true n d t (variableOf r) (valueOf r) h .fit .few in
+    let alone : leb n 32 ≡ true → n ≤ 32 = leb-true n 32 in
+    kind-any (kindOf r) _ _ _ _ _ _ (λ b. b ≡ true → n ≤ 32) ranged ranged ranged (λ h. alone (and-left (leb n 32) (ltb (variableOf r) n) h)) alone alone fits
+
+-- the k-th piece of a request whose words fit
+module _ (n d : ℕ) (t : List ℕ) (P : Subproblem) (r : List ℕ) (k count : ℕ) (fits : readable n d t r ≡ true)
+    (counted : count ≡ cond (leb n 32) (candidates n r) 0) where
+  all-named : count ≡ candidates n r
+  all-named = counted ∙ rw (le-leb n 32 (few n d t r fits)) refl
+
+  pub piece-over : count ≤ k → Piece P n d t r k P
+  piece-over h = rw (fits, ← all-named, le-ltb k count h)
+
+  module _ (more : k < count) (kind : ℕ) (its-kind : kind ≡ kindOf r) (Q : Subproblem) where
+    placed : Q ≡ candidate n (tableOf n d t) P r k → Piece P n d t r k Q
+    placed h = rw (fits, ← all-named, lt-ltb k count more) h
+
+    module _ (V′ v : ℕ) (its-variable : V′ ≡ variableOf r) (its-value : v ≡ valueOf r) where
+      pub piece-1 : kind ≡ 1 → Q ≡ backtracked n (tableOf n d t) P V′ v k → Piece P n d t r k Q
+      unfolding candidate
+      piece-1 h e = placed (rw (kind-1 (kindOf r) _ _ _ _ _ _ (sym its-kind ∙ h), ← its-variable, ← its-value) e)
+
+      pub piece-2 : kind ≡ 2 → Q ≡ checked n (tableOf n d t) P V′ v k → Piece P n d t r k Q
+      unfolding candidate
+      piece-2 h e = placed (rw (kind-2 (kindOf r) _ _ _ _ _ _ (sym its-kind ∙ h), ← its-variable, ← its-value) e)
+
+      pub piece-3 : kind ≡ 3 → Q ≡ inferred n (tableOf n d t) P V′ v k → Piece P n d t r k Q
+      unfolding candidate
+      piece-3 h e = placed (rw (kind-3 (kindOf r) _ _ _ _ _ _ (sym its-kind ∙ h), ← its-variable, ← its-value) e)
+
+      pub piece-4 : kind ≡ 4 → Q ≡ halved P V′ k → Piece P n d t r k Q
+      unfolding candidate
+      piece-4 h e = placed (rw (kind-4 (kindOf r) _ _ _ _ _ _ (sym its-kind ∙ h), ← its-variable) e)
+
+    pub piece-5 : kind ≡ 5 → Q ≡ extracted n P r k → Piece P n d t r k Q
+    unfolding candidate
+    piece-5 h e = placed (rw (kind-5 (kindOf r) _ _ _ _ _ _ (sym its-kind ∙ h)) e)
+
+    pub piece-none : (kind ≡ 1 → ⊥) → (kind ≡ 2 → ⊥) → (kind ≡ 3 → ⊥) → (kind ≡ 4 → ⊥) → (kind ≡ 5 → ⊥) → Q ≡ P
+        → Piece P n d t r k Q
+    unfolding candidate
+    piece-none a b c e f h = placed (h ∙ sym (rw (← its-kind) (kind-none kind _ _ _ _ _ _ a b c e f)))
+
+  -- k is one of kind 3's and of kind 5's
+  pub peel-place : (kind : ℕ) → kind ≡ kindOf r → k < count → (kind ≡ 3) ⊎ (kind ≡ 5) → k ≤ n
+  unfolding candidates
+  peel-place kind its-kind more h =
+      let three : kind ≡ 3 → candidates n r ≡ n + 1 = λ e. rw (← its-kind, e) refl in
+      let five : kind ≡ 5 → candidates n r ≡ n + 1 = λ e. rw (← its-kind, e) refl in
+      let named : candidates n r ≡ n + 1 = ⊎-elim three five h in
+      omega (arith, all-named)
