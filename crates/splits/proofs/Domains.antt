@@ -1,6 +1,6 @@
 -- Lists of domains: what a changed list holds at each place, and when one list lies within another.
 -- Assumes nothing.
-use mathlib.Core.Path.{_≡_, refl, sym, ap, _∙_}
+use mathlib.Core.Path.{_≡_, refl, ap, _∙_}
 use mathlib.Core.List.{List, [], _∷_}
 use Prim.Native.Nat.{ℕ, zero, suc, _≤_, _<_}
 use native.Mathlib.Omega.{arith}
@@ -68,6 +68,7 @@ within-sets (y ∷ a) (z ∷ b) (suc j) x e h (suc i) v m = within-sets a b j x 
 abbrev pub row : (ℕ → ℕ → ℕ) → (ℕ → ℕ) → List ℕ → ℕ → List ℕ
 row f x l j = set (changed j f l) j (minus (getD (changed j f l) j 0) (x j))
 
+-- What the row has at j, and elsewhere.
 pub row-here : (f : ℕ → ℕ → ℕ) (x : ℕ → ℕ) (l : List ℕ) (j : ℕ) → j < length l → getD (row f x l j) j 0 ≡ minus (getD l j 0) (x j)
 row-here f x l j h =
     getD-set-same (changed j f l) j (minus (getD (changed j f l) j 0) (x j)) 0 (rw length-changed h)
@@ -76,7 +77,9 @@ row-here f x l j h =
 pub row-other : (f : ℕ → ℕ → ℕ) (x : ℕ → ℕ) (l : List ℕ) (j i : ℕ) → (i ≡ j → ⊥) → getD (row f x l j) i 0 ≡ getD (changed j f l) i 0
 row-other f x l j i = getD-set-other (changed j f l) j i (minus (getD (changed j f l) j 0) (x j)) 0
 
-pub row-within : (f : ℕ → ℕ → ℕ) (x : ℕ → ℕ) (l : List ℕ) (j : ℕ) → ((i : ℕ) → i < j → Part (f i (getD l i 0)) (getD l i 0)) → Within (row f x l j) l
+-- The row lies within the list.
+pub row-within : (f : ℕ → ℕ → ℕ) (x : ℕ → ℕ) (l : List ℕ) (j : ℕ) → ((i : ℕ) → i < j → Part (f i (getD l i 0)) (getD l i 0))
+    → Within (row f x l j) l
 row-within f x l j h i v m =
     within-changed j f l h i v
     (within-set (changed j f l) j (minus (getD (changed j f l) j 0) (x j)) (minus-part (getD (changed j f l) j 0) (x j)) i v m)

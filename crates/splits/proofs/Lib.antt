@@ -9,3 +9,15 @@ pub mod Looking
 pub mod Counting
 pub mod ByKind
 pub mod Refusals
+pub mod Products
+pub mod Lists
+pub mod Weights
+pub mod Pieces
+pub mod Splitting
+pub mod Valued
+pub mod Divided
+pub mod Placed
+pub mod Measures
+pub mod Consequences
+pub mod Shortcuts
+pub mod Promises

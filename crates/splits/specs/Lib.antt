@@ -7,5 +7,7 @@ pub mod Splits
 pub mod Checks
 pub mod Refusals
 pub mod Calls
+pub mod Measure
+pub mod Shortcuts
 pub mod Promises
 pub mod Work

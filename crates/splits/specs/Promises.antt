@@ -1,0 +1,106 @@
+-- What the five splits promise, of any proper problem, any subproblem P on the agenda and any accepted request.
+use mathlib.Core.Path.{_≡_}
+use mathlib.Core.Logic.{_⊎_}
+use mathlib.Core.List.{List, [], _∷_, List·Memᴰ}
+use Prim.Native.Nat.{ℕ, _+_, _≤_, _<_}
+use lib.ListN.{length, getD}
+use Rattle.splits.specs.Masks.{size}
+use Rattle.splits.specs.Problem.{Problem, Proper}
+use Rattle.splits.specs.Subproblems.{domain, Instantiated, Rules, SolutionOf, sizeOf}
+use Rattle.splits.specs.Requests.{kindOf}
+use Rattle.splits.specs.Splits.{pieces}
+use Rattle.splits.specs.Refusals.{Accepted}
+use Rattle.splits.specs.Measure.{sum, measure}
+use Rattle.splits.specs.Shortcuts.{skipping, weak, untargeted, two, two-top, three, three-top, pair, pair-top}
+use Rattle.splits.specs.declared.subproblem.Subproblem.{Subproblem}
+
+-- The request r, accepted, splits P, a subproblem that obeys the rules, of the proper problem p.
+pub record Splits (p : Problem) (P : Subproblem) (r : List ℕ) : Type 0 where
+  pub proper : Proper p
+  pub rules : Rules p P
+  pub accepted : Accepted (p .n) (p .d) P r
+
+-- Of any such p, P and r, something said of p, P, the kind and the pieces placed.
+abbrev pub Always : (Problem → Subproblem → ℕ → List Subproblem → Type 0) → Type 0
+Always Said = (p : Problem) (P : Subproblem) (r : List ℕ) → Splits p P r → Said p P (kindOf r) (pieces (p .n) (p .allowed) P r)
+
+-- P has a solution.
+abbrev pub Solvable : Problem → Subproblem → Type 0
+Solvable p P = (f : ℕ → ℕ) × SolutionOf p P f
+
+-- A solution of a piece is a solution of P.
+abbrev pub Sound-at : Problem → Subproblem → ℕ → List Subproblem → Type 0
+Sound-at p P kind l = (Q : Subproblem) → List·Memᴰ Q l → (f : ℕ → ℕ) → SolutionOf p Q f → SolutionOf p P f
+
+-- If P has a solution, some piece has one.
+abbrev pub Cover-at : Problem → Subproblem → ℕ → List Subproblem → Type 0
+Cover-at p P kind l = Solvable p P → (Q : Subproblem) × List·Memᴰ Q l × Solvable p Q
+
+-- Kinds 1, 2, 4 and 5: a solution of P is a solution of exactly one piece, by its place among them.
+abbrev pub Exact-at : Problem → Subproblem → ℕ → List Subproblem → Type 0
+Exact-at p P kind l =
+    (kind ≡ 3 → ⊥) → (f : ℕ → ℕ) → SolutionOf p P f
+    → (k : ℕ) × (k < length l) × SolutionOf p (getD l k P) f
+    × ((j : ℕ) → j < length l → SolutionOf p (getD l j P) f → j ≡ k)
+
+-- Each piece obeys the rules for subproblems, and what P has instantiated it has instantiated.
+abbrev pub Obeys-at : Problem → Subproblem → ℕ → List Subproblem → Type 0
+Obeys-at p P kind l =
+    (Q : Subproblem) → List·Memᴰ Q l → Rules p Q × ((i : ℕ) → Instantiated P i → Instantiated Q i)
+
+-- The sizes of the pieces sum to at most P's; of kinds 4 and 5 to exactly P's.
+abbrev pub Sizes-at : Problem → Subproblem → ℕ → List Subproblem → Type 0
+Sizes-at p P kind l =
+    (sum (sizeOf (p .n)) l ≤ sizeOf (p .n) P)
+    × ((kind ≡ 4) ⊎ (kind ≡ 5) → sum (sizeOf (p .n)) l ≡ sizeOf (p .n) P)
+
+-- The measures of the pieces, with 1 for the step, sum to at most P's: the step limit rests on it.
+abbrev pub Falls-at : Problem → Subproblem → ℕ → List Subproblem → Type 0
+Falls-at p P kind l = sum (measure (p .n)) l + 1 ≤ measure (p .n) P
+
+-- The six promises of an accepted split, and what "solved" promises.
+abbrev pub Sound : Type 0
+Sound = Always Sound-at
+
+abbrev pub Cover : Type 0
+Cover = Always Cover-at
+
+abbrev pub Exact : Type 0
+Exact = Always Exact-at
+
+abbrev pub Obeys : Type 0
+Obeys = Always Obeys-at
+
+abbrev pub Sizes : Type 0
+Sizes = Always Sizes-at
+
+abbrev pub Falls : Type 0
+Falls = Always Falls-at
+
+-- A subproblem on the agenda with every variable instantiated has a solution.
+abbrev pub Solved : Type 0
+Solved = (p : Problem) (P : Subproblem) → Proper p → Rules p P → ((i : ℕ) → i < p .n → Instantiated P i) → Solvable p P
+
+-- Skipping instantiated variables in kind 3's further pieces loses the solution of `two`, split around V 1, v 0.
+abbrev pub Skipping-loses : Type 0
+Skipping-loses =
+    let r : List ℕ = 3 ∷ 1 ∷ 0 ∷ [] in
+    Splits two two-top r × (Cover-at two two-top 3 (skipping two two-top r) → ⊥)
+
+-- The weak IDC pieces overlap: those of `three`, split around V 0, v 0, have more possibilities than P, and the measure does not fall.
+abbrev pub Weak-overlaps : Type 0
+Weak-overlaps =
+    let r : List ℕ = 3 ∷ 0 ∷ 0 ∷ [] in
+    let l : List Subproblem = weak three three-top r in
+    Splits three three-top r × (Sizes-at three three-top 3 l → ⊥) × (Falls-at three three-top 3 l → ⊥)
+
+-- Taking a variable with one value as instantiated calls `pair` solved, which has no solution.
+abbrev pub One-value-lies : Type 0
+One-value-lies =
+    Proper pair × Rules pair pair-top × ((i : ℕ) → i < 2 → size (domain pair-top i) ≡ 1) × (Solvable pair pair-top → ⊥)
+
+-- Dropping the extraction target loses the solution of `two`, extracted at targets {0} and {1}.
+abbrev pub Dropping-loses : Type 0
+Dropping-loses =
+    let r : List ℕ = 5 ∷ 0 ∷ 0 ∷ 1 ∷ 2 ∷ [] in
+    Splits two two-top r × (Cover-at two two-top 5 (untargeted two two-top r) → ⊥)

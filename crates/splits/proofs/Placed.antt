@@ -1,0 +1,127 @@
+-- An accepted request: what it grants each kind, its split by cases on the kind, and the pieces placed.
+-- Assumes nothing.
+use mathlib.Core.Path.{_≡_, refl}
+use mathlib.Core.Logic.{_⊎_, inl, inr, ⊎-elim}
+use mathlib.Core.Bool.{not}
+use mathlib.Core.List.{List, [], List·Memᴰ}
+use Prim.Native.Nat.{ℕ, zero, suc, _≤_, _<_}
+use native.Mathlib.Omega.{arith}
+use native.Mathlib.Nat.{le-refl}
+use native.Mathlib.Decide.{ℕ-discrete}
+use lib.Dec.{eqb}
+use borrow.Author.Tests.{eqb-true, eqb-false, not-true, not-false}
+use Rattle.splits.specs.Masks.{bit, minus}
+use Rattle.splits.specs.Problem.{Problem}
+use Rattle.splits.specs.Subproblems.{domain, empty}
+use Rattle.splits.specs.Requests.{kindOf, variableOf, valueOf, targetOf}
+use Rattle.splits.specs.Splits.{backtracking, forwardChecking, idc, halving, extraction, byKind, named, pieces}
+use Rattle.splits.specs.Promises.{Splits}
+use Rattle.splits.specs.declared.subproblem.Subproblem.{Subproblem}
+use Rattle.splits.proofs.Masks.{minus-part-of, part-minus}
+use Rattle.splits.proofs.Products.{last}
+use Rattle.splits.proofs.Lists.{some-true, some-false, sum-keep, member-keep}
+use Rattle.splits.proofs.Weights.{Weight, weigh-none, bySize}
+use Rattle.splits.proofs.Pieces.{Held, Piece}
+use Rattle.splits.proofs.Splitting.{weight, weights, Split}
+use Rattle.splits.proofs.Valued.{Valued, kind-1, kind-2, kind-3}
+use Rattle.splits.proofs.Divided.{Divisible, Targeted, kind-4, kind-5}
+
+-- Whoever is 1 to 5 is one of the five.
+five : (C : ℕ → Type 0) (k : ℕ) → ((k < 1) ⊎ (5 < k) → ⊥) → C 1 → C 2 → C 3 → C 4 → C 5 → C k
+five C zero h a b c d e = absurd (h (inl (omega arith)))
+five C (suc zero) h a b c d e = a
+five C (suc (suc zero)) h a b c d e = b
+five C (suc (suc (suc zero))) h a b c d e = c
+five C (suc (suc (suc (suc zero)))) h a b c d e = d
+five C (suc (suc (suc (suc (suc zero))))) h a b c d e = e
+five C (suc (suc (suc (suc (suc (suc k)))))) h a b c d e = absurd (h (inr (omega arith)))
+
+-- Where not all are equal, two differ.
+differ : (n : ℕ) (a b : ℕ → ℕ) → (((i : ℕ) → i < n → a i ≡ b i) → ⊥) → (i : ℕ) × (i < n) × (a i ≡ b i → ⊥)
+differ zero a b h = absurd (h (λ i k. absurd (omega arith)))
+differ (suc n) a b h = go (ℕ-discrete (a n) (b n)) (differ n a b)
+  where
+    go : Dec (a n ≡ b n) → ((((i : ℕ) → i < n → a i ≡ b i) → ⊥) → (i : ℕ) × (i < n) × (a i ≡ b i → ⊥))
+        → (i : ℕ) × (i < suc n) × (a i ≡ b i → ⊥)
+    go (no d) r = (n, le-refl (suc n), d)
+    go (yes e) r =
+        let (i, k, d) = r (λ same. h (λ i k. ⊎-elim (λ (q : i ≡ n). rw q e) (λ (l : i < n). same i l) (last k))) in
+        (i, omega arith, d)
+
+module _ {p : Problem} {P : Subproblem} {r : List ℕ} (s : Splits p P r) where
+  -- P obeys the rules, and p is proper.
+  pub held : Held p P
+  held = record { proper = s .proper; rules = s .rules }
+
+  -- What an accepted request grants, by its kind.
+  variable-lt : 1 ≤ kindOf r → kindOf r ≤ 4 → variableOf r < p .n
+  variable-lt h k = let q : p .n ≤ variableOf r → ⊥ = λ l. s .accepted .not-8 ((h, k), inl l) in omega arith
+
+  -- Kinds 1 to 3.
+  valued : 1 ≤ kindOf r → kindOf r ≤ 3 → Valued p P (variableOf r) (valueOf r)
+  valued h k = record {
+    below = variable-lt h (omega arith);
+    new = λ o. s .accepted .not-8 ((h, omega arith), inr o);
+    has = elim (ℕ-discrete (bit (domain P (variableOf r)) (valueOf r)) 1)
+        [ yes m ↦ m | no d ↦ absurd (s .accepted .not-9 (inl ((h, k), inr d))) ];
+  }
+
+  -- Kind 4.
+  divisible : kindOf r ≡ 4 → Divisible p P (variableOf r)
+  divisible e = record {
+    below = variable-lt (omega arith) (omega arith);
+    new = λ o. s .accepted .not-8 ((omega arith, omega arith), inr o);
+    several = λ z. s .accepted .not-9 (inr (e, z));
+  }
+
+  -- Kind 5.
+  targeted : kindOf r ≡ 5 → Targeted p P r
+  targeted e = record {
+    some = λ i k z. s .accepted .not-10 (e, inl (i, k, inl z));
+    part = λ i k. elim (ℕ-discrete (minus (targetOf r i) (domain P i)) 0) [
+      | yes z ↦ minus-part-of (targetOf r i) (domain P i) z
+      | no d ↦ absurd (s .accepted .not-10 (e, inl (i, k, inr (λ h. d (part-minus (targetOf r i) (domain P i) h)))))
+    ];
+    differs = differ (p .n) (targetOf r) (domain P) (λ h. s .accepted .not-10 (e, inr h));
+  }
+
+  -- The pieces that an accepted request names are a split: one case a kind.
+  split : Split p P (kindOf r) (named (p .n) (p .allowed) P r)
+  unfolding named
+  split =
+      five (λ k. kindOf r ≡ k → Split p P k (byKind k (backtracking (p .n) (p .allowed) P (variableOf r) (valueOf r))
+      (forwardChecking (p .n) (p .allowed) P (variableOf r) (valueOf r)) (idc (p .n) (p .allowed) P (variableOf r) (valueOf r))
+      (halving P (variableOf r)) (extraction (p .n) P r) [])) (kindOf r) (s .accepted .not-7)
+      (λ e. kind-1 held (valued (omega arith) (omega arith)))
+      (λ e. kind-2 held (valued (omega arith) (omega arith)))
+      (λ e. kind-3 held (valued (omega arith) (omega arith)))
+      (λ e. kind-4 held (divisible e))
+      (λ e. kind-5 held (targeted e)) refl
+
+  -- Each piece placed is a piece, and not empty.
+  placed-piece : (Q : Subproblem) → List·Memᴰ Q (pieces (p .n) (p .allowed) P r) → Piece p P Q
+  unfolding pieces
+  placed-piece Q m = split .each Q (member-keep (λ Q. not (empty (p .n) Q)) _ m .1)
+
+  pub placed-filled : (Q : Subproblem) → List·Memᴰ Q (pieces (p .n) (p .allowed) P r) → (i : ℕ) → i < p .n → domain Q i ≡ 0 → ⊥
+  unfolding pieces empty
+  placed-filled Q m i k =
+      eqb-false (domain Q i) 0 (some-false (p .n) (λ i. eqb (domain Q i) 0) (not-true _ (member-keep (λ Q. not (empty (p .n) Q)) _ m .0)) i k)
+
+  -- The pieces dropped weigh nothing.
+  placed-weights : (w : Weight) → weights w (p .n) (pieces (p .n) (p .allowed) P r) ≡ weights w (p .n) (named (p .n) (p .allowed) P r)
+  unfolding pieces empty
+  placed-weights w =
+      sum-keep (weight w (p .n)) (λ Q. not (empty (p .n) Q)) (named (p .n) (p .allowed) P r)
+      (λ Q e.
+      let (i, k, t) = some-true (p .n) (λ i. eqb (domain Q i) 0) (not-false _ e) in
+      weigh-none w (p .n) (Q .domains) i k (eqb-true (domain Q i) 0 t))
+
+  -- So the pieces placed are a split too.
+  pub placed : Split p P (kindOf r) (pieces (p .n) (p .allowed) P r)
+  placed = record {
+    free = split .free;
+    each = placed-piece;
+    size-sum = rw (placed-weights bySize) (split .size-sum);
+    fit-sum = λ f h. simp placed-weights (split .fit-sum f h);
+  }
