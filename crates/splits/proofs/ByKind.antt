@@ -4,7 +4,7 @@ use mathlib.Core.Bool.{Bool, true, false, cond, _&&_}
 use mathlib.Core.List.{List}
 use Prim.Native.Nat.{ℕ, zero, suc, _+_, _≤_, _<_}
 use native.Mathlib.Omega.{arith}
-use mathlib.Core.Logic.{_⊎_, ⊎-elim}
+use mathlib.Core.Logic.{_⊎_, inl, inr, ⊎-elim}
 use lib.Dec.{eqb, leb, ltb}
 use borrow.Author.Tests.{ne-eqb, eqb-true, leb-true, ltb-true, le-leb, lt-ltb, le-ltb}
 use Rattle.splits.specs.Problem.{tableOf}
@@ -16,6 +16,16 @@ use Rattle.splits.specs.Work.Ranges.{Inside}
 use Rattle.splits.specs.declared.subproblem.Subproblem.{Subproblem}
 use Rattle.splits.proofs.Tests.{and-left, and-right}
 use Rattle.splits.proofs.Ranges.{inside-true}
+
+-- whoever is 1 to 5 is one of the five.
+pub five : (C : ℕ → Type 0) (k : ℕ) → ((k < 1) ⊎ (5 < k) → ⊥) → C 1 → C 2 → C 3 → C 4 → C 5 → C k
+five C zero h a b c d e = absurd (h (inl (omega arith)))
+five C (suc zero) h a b c d e = a
+five C (suc (suc zero)) h a b c d e = b
+five C (suc (suc (suc zero))) h a b c d e = c
+five C (suc (suc (suc (suc zero)))) h a b c d e = d
+five C (suc (suc (suc (suc (suc zero))))) h a b c d e = e
+five C (suc (suc (suc (suc (suc (suc k)))))) h a b c d e = absurd (h (inr (omega arith)))
 
 either : {A : Type 0} {x y : A} (Q : A → Type 0) (t : Bool) → Q x → Q y → Q (cond t x y)
 either Q true p q = p

@@ -17,6 +17,8 @@ pub mod Splitting
 pub mod Valued
 pub mod Divided
 pub mod Placed
+pub mod OneByOne
+pub mod CheckLimit
 pub mod Measures
 pub mod Consequences
 pub mod Shortcuts

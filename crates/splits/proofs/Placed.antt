@@ -17,6 +17,7 @@ use Rattle.splits.specs.Requests.{kindOf, variableOf, valueOf, targetOf}
 use Rattle.splits.specs.Splits.{backtracking, forwardChecking, idc, halving, extraction, byKind, named, pieces}
 use Rattle.splits.specs.Promises.{Splits}
 use Rattle.splits.specs.declared.subproblem.Subproblem.{Subproblem}
+use Rattle.splits.proofs.ByKind.{five}
 use Rattle.splits.proofs.Masks.{minus-part-of, part-minus}
 use Rattle.splits.proofs.Products.{last}
 use Rattle.splits.proofs.Lists.{some-true, some-false, sum-keep, member-keep}
@@ -25,16 +26,6 @@ use Rattle.splits.proofs.Pieces.{Held, Piece}
 use Rattle.splits.proofs.Splitting.{weight, weights, Split}
 use Rattle.splits.proofs.Valued.{Valued, kind-1, kind-2, kind-3}
 use Rattle.splits.proofs.Divided.{Divisible, Targeted, kind-4, kind-5}
-
--- Whoever is 1 to 5 is one of the five.
-five : (C : ℕ → Type 0) (k : ℕ) → ((k < 1) ⊎ (5 < k) → ⊥) → C 1 → C 2 → C 3 → C 4 → C 5 → C k
-five C zero h a b c d e = absurd (h (inl (omega arith)))
-five C (suc zero) h a b c d e = a
-five C (suc (suc zero)) h a b c d e = b
-five C (suc (suc (suc zero))) h a b c d e = c
-five C (suc (suc (suc (suc zero)))) h a b c d e = d
-five C (suc (suc (suc (suc (suc zero))))) h a b c d e = e
-five C (suc (suc (suc (suc (suc (suc k)))))) h a b c d e = absurd (h (inr (omega arith)))
 
 -- Where not all are equal, two differ.
 differ : (n : ℕ) (a b : ℕ → ℕ) → (((i : ℕ) → i < n → a i ≡ b i) → ⊥) → (i : ℕ) × (i < n) × (a i ≡ b i → ⊥)

@@ -9,14 +9,16 @@ use lib.Count.{ones, onesIn}
 use Rattle.splits.specs.Masks.{bit, _∈_, minus, size, lowest}
 use Rattle.splits.specs.Problem.{possibilities, product, total}
 use Rattle.splits.specs.Subproblems.{domain, empty, some}
-use Rattle.splits.specs.Splits.{keep, below, precluded, disjunct, without, cutBeside, changed, instantiate, extract, atTargets}
-use Rattle.splits.specs.Shortcuts.{filled, skipping, weak, weakDisjunct, untargeted, pair-top}
+use Rattle.splits.specs.Splits.{filled, keep, below, precluded, disjunct, without, cutBeside, changed, instantiate, extract, atTargets}
+use Rattle.splits.specs.Shortcuts.{skipping, weak, weakDisjunct, untargeted, pair-top}
 use Rattle.splits.specs.Measure.{sum, unmarked, measure}
-use Rattle.splits.specs.Promises.{Sound, Cover, Exact, Obeys, Sizes, Falls, Solved, Skipping-loses, Weak-overlaps, One-value-lies, Dropping-loses}
+use Rattle.splits.specs.Promises.{Sound, Cover, Exact, Obeys, Sizes, Falls, Solved, Skipping-loses, Weak-overlaps, One-value-lies, Dropping-loses, One-by-one, At-most-496}
 use Rattle.splits.specs.declared.subproblem.Subproblem.{Subproblem}
 use Rattle.splits.proofs.Masks.{size-single}
 use Rattle.splits.proofs.Splitting.{lowest-in}
 use Rattle.splits.proofs.Consequences.{sounds, covers, exactly, keeps, sums, descends}
+use Rattle.splits.proofs.OneByOne.{all-one-by-one}
+use Rattle.splits.proofs.CheckLimit.{at-most-496 as limit}
 use Rattle.splits.proofs.Placed.{held, placed, placed-filled}
 use Rattle.splits.proofs.Shortcuts.{both-zero, pair-domains, two-idc, two-extraction, three-idc, pair-proper, pair-rules, two-solvable}
 
@@ -66,3 +68,9 @@ dropping-loses = (
       let e : Q ≡ record { domains = 1 ∷ 1 ∷ []; marked = 1 } = List·Memᴰ·eq-of-singleton m in
       both-zero 2 2 (1 ∷ 3 ∷ []) Q (le-refl 2) (ap (λ (Q : Subproblem). domain Q 0) e) (ap (λ (Q : Subproblem). domain Q 1) e) q,
 )
+
+pub one-by-one : One-by-one
+one-by-one = all-one-by-one
+
+pub at-most-496 : At-most-496
+at-most-496 = limit

@@ -1,14 +1,15 @@
 -- What the five splits promise, of any proper problem, any subproblem P on the agenda and any accepted request.
 use mathlib.Core.Path.{_≡_}
 use mathlib.Core.Logic.{_⊎_}
-use mathlib.Core.List.{List, [], _∷_, List·Memᴰ}
+use mathlib.Core.List.{List, [], _∷_, map, List·Memᴰ}
 use Prim.Native.Nat.{ℕ, _+_, _≤_, _<_}
 use lib.ListN.{length, getD}
 use Rattle.splits.specs.Masks.{size}
-use Rattle.splits.specs.Problem.{Problem, Proper}
+use Rattle.splits.specs.Problem.{Table, Problem, Proper}
 use Rattle.splits.specs.Subproblems.{domain, Instantiated, Rules, SolutionOf, sizeOf}
 use Rattle.splits.specs.Requests.{kindOf}
-use Rattle.splits.specs.Splits.{pieces}
+use Rattle.splits.specs.Splits.{below, filled, pieces, candidates, candidate}
+use Rattle.splits.specs.Checks.{checks}
 use Rattle.splits.specs.Refusals.{Accepted}
 use Rattle.splits.specs.Measure.{sum, measure}
 use Rattle.splits.specs.Shortcuts.{skipping, weak, untargeted, two, two-top, three, three-top, pair, pair-top}
@@ -80,6 +81,17 @@ Falls = Always Falls-at
 -- A subproblem on the agenda with every variable instantiated has a solution.
 abbrev pub Solved : Type 0
 Solved = (p : Problem) (P : Subproblem) → Proper p → Rules p P → ((i : ℕ) → i < p .n → Instantiated P i) → Solvable p P
+
+-- The candidates that the code makes one by one are the split's pieces in order, those that are not placed being empty.
+abbrev pub One-by-one : Type 0
+One-by-one =
+    (n d : ℕ) (allowed : Table) (P : Subproblem) (r : List ℕ) → Accepted n d P r
+    → filled n (map (candidate n allowed P r) (below (candidates n r))) ≡ pieces n allowed P r
+
+-- The checks of one accepted request are at most 496.
+abbrev pub At-most-496 : Type 0
+At-most-496 =
+    (p : Problem) (P : Subproblem) (r : List ℕ) → Splits p P r → checks (p .n) (p .allowed) P r ≤ 496
 
 -- Skipping instantiated variables in kind 3's further pieces loses the solution of `two`, split around V 1, v 0.
 abbrev pub Skipping-loses : Type 0

@@ -6,14 +6,10 @@ use lib.ListN.{getD}
 use lib.Dec.{eqb}
 use Rattle.splits.specs.Masks.{bit, single, minus}
 use Rattle.splits.specs.Problem.{Table, Problem}
-use Rattle.splits.specs.Subproblems.{domain, empty}
+use Rattle.splits.specs.Subproblems.{domain}
 use Rattle.splits.specs.Requests.{variableOf, valueOf, targetOf}
-use Rattle.splits.specs.Splits.{below, keep, without, precluded, disjunct, extract}
+use Rattle.splits.specs.Splits.{below, keep, filled, without, precluded, disjunct, extract}
 use Rattle.splits.specs.declared.subproblem.Subproblem.{Subproblem}
-
--- The pieces of a list that are not empty.
-unfoldable pub filled : ℕ → List Subproblem → List Subproblem
-filled n l = keep (λ Q. not (empty n Q)) l
 
 -- Kind 3 with no further piece for an instantiated variable.
 unfoldable pub skipping : Problem → Subproblem → List ℕ → List Subproblem

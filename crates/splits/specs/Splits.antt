@@ -104,9 +104,14 @@ named n allowed P r =
     byKind (kindOf r) (backtracking n allowed P (variableOf r) (valueOf r)) (forwardChecking n allowed P (variableOf r) (valueOf r))
     (idc n allowed P (variableOf r) (valueOf r)) (halving P (variableOf r)) (extraction n P r) []
 
+-- Those of a list of pieces that are not empty.
+unfoldable pub filled : ℕ → List Subproblem → List Subproblem
+filled n l = keep (λ Q. not (empty n Q)) l
+
 -- The pieces placed: empty ones dropped, the first on top.
 unfoldable pub pieces : ℕ → Table → Subproblem → List ℕ → List Subproblem
-pieces n allowed P r = keep (λ Q. not (empty n Q)) (named n allowed P r)
+unfolding filled
+pieces n allowed P r = filled n (named n allowed P r)
 
 -- How many pieces the kind of a request can name.
 unfoldable pub candidates : ℕ → List ℕ → ℕ
