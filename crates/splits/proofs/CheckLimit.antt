@@ -66,8 +66,11 @@ module _ (p : Problem) (P : Subproblem) (x v : ℕ) (few : p .n ≤ 32) (below-n
   values-most : ((i : ℕ) → i < p .n → size (domain P i) ≤ 16) → valuesIn (others x) (p .n) P ≤ 496
   unfolding valuesIn others
   values-most small =
-      omega (arith, one-missing 16 x (λ i. cond (not (eqb i x)) (size (domain P i)) 0) (simp (eq-eqb x x refl)) (p .n) below-n
-      (λ i l. at-most (not (eqb i x)) (small i l)))
+      omega (
+        arith,
+        one-missing 16 x (λ i. cond (not (eqb i x)) (size (domain P i)) 0) (simp (eq-eqb x x refl)) (p .n) below-n
+            (λ i l. at-most (not (eqb i x)) (small i l)),
+      )
     where
       at-most : {m : ℕ} (b : Bool) → m ≤ 16 → cond b m 0 ≤ 16
       at-most true h = h
@@ -77,11 +80,16 @@ module _ (p : Problem) (P : Subproblem) (x v : ℕ) (few : p .n ≤ 32) (below-n
   tried-most : tried (others x) (p .n) (p .allowed) P x v ≤ 496
   unfolding tried others
   tried-most =
-      omega (arith, looked-le (forbids (p .allowed) P x v) (keep counted (below (p .n))), kept-count counted (p .n),
-      one-missing 1 x (λ i. cond (counted i) 1 0) (simp (eq-eqb x x refl, and-false)) (p .n) below-n (λ i l. at-most (counted i)))
+      omega (
+        arith,
+        looked-le (forbids (p .allowed) P x v) (keep counted (below (p .n))),
+        kept-count counted (p .n),
+        one-missing 1 x (λ i. cond (counted i) 1 0) (simp (eq-eqb x x refl, and-false)) (p .n) below-n (λ i l. at-most (counted i)),
+      )
     where
       counted : ℕ → Bool
       counted i = eqb (bit (P .marked) i) 1 && not (eqb i x)
+
       at-most : (b : Bool) → cond b 1 0 ≤ 1
       at-most true = le-refl 1
       at-most false = zero-le
@@ -99,10 +107,13 @@ at-most-496 p P r s =
   where
     x : ℕ
     x = variableOf r
+
     v : ℕ
     v = valueOf r
+
     ranged : 1 ≤ kindOf r → kindOf r ≤ 4 → x < p .n
     ranged = variable-lt (p .n) (p .d) P r (s .accepted)
+
     small : (i : ℕ) → i < p .n → size (domain P i) ≤ 16
     small i l =
         le-trans (ones-le (p .d) (domain P i) (part-lt (p .d) (domain P i) (p .domain i) (s .rules .part i l) (s .proper .domains i l))) (s .proper .values)

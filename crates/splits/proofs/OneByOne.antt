@@ -86,6 +86,7 @@ module _ (n : ℕ) (allowed : Table) (P : Subproblem) where
     where
       rest : List Subproblem
       rest = without P V′ (single v) ∷ []
+
       go : (b : Bool) → filled n (cond b (cut P V′ 0) (instantiate P V′ v) ∷ rest) ≡ filled n (cond b [] (instantiate P V′ v ∷ []) ++ rest)
       go true = rw (← cut-none n P V′ h) refl
       go false = refl
@@ -138,5 +139,6 @@ all-one-by-one n d allowed P r h =
   where
     x : ℕ
     x = variableOf r
+
     v : ℕ
     v = valueOf r

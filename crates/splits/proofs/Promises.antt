@@ -12,7 +12,7 @@ use Rattle.splits.specs.Subproblems.{domain, empty, some}
 use Rattle.splits.specs.Splits.{filled, keep, below, precluded, disjunct, without, cutBeside, changed, instantiate, extract, atTargets}
 use Rattle.splits.specs.Shortcuts.{skipping, weak, weakDisjunct, untargeted, pair-top}
 use Rattle.splits.specs.Measure.{sum, unmarked, measure}
-use Rattle.splits.specs.Promises.{Sound, Cover, Exact, Obeys, Sizes, Falls, Solved, Skipping-loses, Weak-overlaps, One-value-lies, Dropping-loses, One-by-one, At-most-496}
+use Rattle.splits.specs.Promises.{Sound, Cover, Exact, Obeys, Sizes, Falls, Solved, Skipping-loses, Weak-overlaps, One-value-lies, Dropping-loses, One-by-one, At-most-496, Refusal-7, Refusal-8, Refusal-9, Refusal-10, Refusal-none, Reads-refusal, Reads-pieces, Reads-checks, Count-one, First-one, Smaller-half-one, Domain-one, Is-instantiated-one, All-instantiated-one, Is-empty-one, Instantiate-one, Without-one, Cut-one, Precluded-one, Precluded-empty-one, Candidates-one, Piece-one, Checks-one, Refusal-one}
 use Rattle.splits.specs.declared.subproblem.Subproblem.{Subproblem}
 use Rattle.splits.proofs.Masks.{size-single}
 use Rattle.splits.proofs.Splitting.{lowest-in}
@@ -21,6 +21,7 @@ use Rattle.splits.proofs.OneByOne.{all-one-by-one}
 use Rattle.splits.proofs.CheckLimit.{at-most-496 as limit}
 use Rattle.splits.proofs.Placed.{held, placed, placed-filled}
 use Rattle.splits.proofs.Shortcuts.{both-zero, pair-domains, two-idc, two-extraction, three-idc, pair-proper, pair-rules, two-solvable}
+use Rattle.splits.proofs.Refusals.{is-7, is-8, is-9, is-10, is-none, same-refusal, same-pieces, same-checks, one}
 
 pub sound : Sound
 sound p P r s = sounds (placed s) (held s)
@@ -74,3 +75,75 @@ one-by-one = all-one-by-one
 
 pub at-most-496 : At-most-496
 at-most-496 = limit
+
+pub refusal-7 : Refusal-7
+refusal-7 = is-7
+
+pub refusal-8 : Refusal-8
+refusal-8 = is-8
+
+pub refusal-9 : Refusal-9
+refusal-9 = is-9
+
+pub refusal-10 : Refusal-10
+refusal-10 = is-10
+
+pub refusal-none : Refusal-none
+refusal-none = is-none
+
+pub reads-refusal : Reads-refusal
+reads-refusal n d P r s h = same-refusal n P r s h d
+
+pub reads-pieces : Reads-pieces
+reads-pieces n allowed P r s h = same-pieces n P r s h allowed
+
+pub reads-checks : Reads-checks
+reads-checks n allowed P r s h = same-checks n P r s h allowed
+
+pub count-one : Count-one
+count-one mask = one _
+
+pub first-one : First-one
+first-one mask = one _
+
+pub smaller-half-one : Smaller-half-one
+smaller-half-one mask = one _
+
+pub domain-one : Domain-one
+domain-one P variable = one _
+
+pub is-instantiated-one : Is-instantiated-one
+is-instantiated-one P variable = one _
+
+pub all-instantiated-one : All-instantiated-one
+all-instantiated-one P n = one _
+
+pub is-empty-one : Is-empty-one
+is-empty-one P n = one _
+
+pub instantiate-one : Instantiate-one
+instantiate-one P variable value = one _
+
+pub without-one : Without-one
+without-one P variable mask = one _
+
+pub cut-one : Cut-one
+cut-one P variable mask = one _
+
+pub precluded-one : Precluded-one
+precluded-one P n d tables variable value = one _
+
+pub precluded-empty-one : Precluded-empty-one
+precluded-empty-one P n d tables variable value = one _
+
+pub candidates-one : Candidates-one
+candidates-one n request = one _
+
+pub piece-one : Piece-one
+piece-one P n d tables request k = one _
+
+pub checks-one : Checks-one
+checks-one P n d tables request = one _
+
+pub refusal-one : Refusal-one
+refusal-one P n d request = one _

@@ -1,19 +1,20 @@
 -- What the five splits promise, of any proper problem, any subproblem P on the agenda and any accepted request.
 use mathlib.Core.Path.{_≡_}
-use mathlib.Core.Logic.{_⊎_}
+use mathlib.Core.Logic.{_⊎_, _↔_}
 use mathlib.Core.List.{List, [], _∷_, map, List·Memᴰ}
 use Prim.Native.Nat.{ℕ, _+_, _≤_, _<_}
 use lib.ListN.{length, getD}
 use Rattle.splits.specs.Masks.{size}
 use Rattle.splits.specs.Problem.{Table, Problem, Proper}
 use Rattle.splits.specs.Subproblems.{domain, Instantiated, Rules, SolutionOf, sizeOf}
-use Rattle.splits.specs.Requests.{kindOf}
+use Rattle.splits.specs.Requests.{kindOf, variableOf, valueOf, targetOf}
 use Rattle.splits.specs.Splits.{below, filled, pieces, candidates, candidate}
 use Rattle.splits.specs.Checks.{checks}
-use Rattle.splits.specs.Refusals.{Accepted}
+use Rattle.splits.specs.Refusals.{Accepted, Deserves-7, Deserves-8, Deserves-9, Deserves-10, refusalOf}
 use Rattle.splits.specs.Measure.{sum, measure}
 use Rattle.splits.specs.Shortcuts.{skipping, weak, untargeted, two, two-top, three, three-top, pair, pair-top}
 use Rattle.splits.specs.declared.subproblem.Subproblem.{Subproblem}
+use Rattle.splits.specs.Calls.{Count, First, Smaller-half, Domain, Is-instantiated, All-instantiated, Is-empty, Instantiate, Without, Cut, Precluded, Precluded-empty, Candidates, Piece, Checks-of, Refusal-of}
 
 -- The request r, accepted, splits P, a subproblem that obeys the rules, of the proper problem p.
 pub record Splits (p : Problem) (P : Subproblem) (r : List ℕ) : Type 0 where
@@ -116,3 +117,120 @@ abbrev pub Dropping-loses : Type 0
 Dropping-loses =
     let r : List ℕ = 5 ∷ 0 ∷ 0 ∷ 1 ∷ 2 ∷ [] in
     Splits two two-top r × (Cover-at two two-top 5 (untargeted two two-top r) → ⊥)
+
+-- ---- refusals, in the order 7, 8, 9, 10
+
+-- 7 is given exactly when the kind is not 1 to 5.
+abbrev pub Refusal-7 : Type 0
+Refusal-7 = (n d : ℕ) (P : Subproblem) (r : List ℕ) → (refusalOf n d P r ≡ 7) ↔ Deserves-7 r
+
+-- 8 is given exactly when it is deserved and 7 is not: kinds 1 to 4: V is n or more, or instantiated.
+abbrev pub Refusal-8 : Type 0
+Refusal-8 = (n d : ℕ) (P : Subproblem) (r : List ℕ) → (refusalOf n d P r ≡ 8) ↔ (Deserves-8 n P r × (Deserves-7 r → ⊥))
+
+-- 9 is given exactly when it is deserved and neither 7 nor 8 is: kinds 1 to 3: v is d or more, or not in V's domain; kind 4: V has one value.
+abbrev pub Refusal-9 : Type 0
+Refusal-9 =
+    (n d : ℕ) (P : Subproblem) (r : List ℕ) → (refusalOf n d P r ≡ 9) ↔ (Deserves-9 d P r × (Deserves-7 r → ⊥) × (Deserves-8 n P r → ⊥))
+
+-- 10 is given exactly when it is deserved and none of 7, 8 and 9 is: kind 5: a target is empty or not part of P's domain, or all equal P's.
+abbrev pub Refusal-10 : Type 0
+Refusal-10 =
+    (n d : ℕ) (P : Subproblem) (r : List ℕ)
+    → (refusalOf n d P r ≡ 10) ↔ (Deserves-10 n P r × (Deserves-7 r → ⊥) × (Deserves-8 n P r → ⊥) × (Deserves-9 d P r → ⊥))
+
+-- 0 for none: exactly when none of the four is deserved.
+abbrev pub Refusal-none : Type 0
+Refusal-none = (n d : ℕ) (P : Subproblem) (r : List ℕ) → (refusalOf n d P r ≡ 0) ↔ Accepted n d P r
+
+-- ---- the words read
+
+-- Requests that agree on the words that their kind reads. Kinds 1 to 3 do not read the target; 4 reads neither v nor the target; 5 reads only the
+-- target.
+pub record Agree (n : ℕ) (r s : List ℕ) : Type 0 where
+  pub kind : kindOf r ≡ kindOf s
+  pub variable : 1 ≤ kindOf r → kindOf r ≤ 4 → variableOf r ≡ variableOf s
+  pub value : 1 ≤ kindOf r → kindOf r ≤ 3 → valueOf r ≡ valueOf s
+  pub targets : kindOf r ≡ 5 → (i : ℕ) → i < n → targetOf r i ≡ targetOf s i
+
+-- They have the same refusal.
+abbrev pub Reads-refusal : Type 0
+Reads-refusal = (n d : ℕ) (P : Subproblem) (r s : List ℕ) → Agree n r s → refusalOf n d P r ≡ refusalOf n d P s
+
+-- They have the same pieces.
+abbrev pub Reads-pieces : Type 0
+Reads-pieces = (n : ℕ) (allowed : Table) (P : Subproblem) (r s : List ℕ) → Agree n r s → pieces n allowed P r ≡ pieces n allowed P s
+
+-- They have the same checks.
+abbrev pub Reads-checks : Type 0
+Reads-checks = (n : ℕ) (allowed : Table) (P : Subproblem) (r s : List ℕ) → Agree n r s → checks n allowed P r ≡ checks n allowed P s
+
+-- ---- one answer
+
+-- No two differing results satisfy one statement.
+abbrev pub One : {A : Type 0} → (A → Type 0) → Type 0
+One {A} S = (r s : A) → S r → S s → r ≡ s
+
+-- The count of values in a mask.
+abbrev pub Count-one : Type 0
+Count-one = (mask : ℕ) → One (Count mask)
+
+-- The lowest value of a mask.
+abbrev pub First-one : Type 0
+First-one = (mask : ℕ) → One (First mask)
+
+-- The smallest ⌈k/2⌉ values of a mask with k values.
+abbrev pub Smaller-half-one : Type 0
+Smaller-half-one = (mask : ℕ) → One (Smaller-half mask)
+
+-- The domain of a variable.
+abbrev pub Domain-one : Type 0
+Domain-one = (P : Subproblem) (variable : ℕ) → One (Domain P variable)
+
+-- Whether a variable is instantiated.
+abbrev pub Is-instantiated-one : Type 0
+Is-instantiated-one = (P : Subproblem) (variable : ℕ) → One (Is-instantiated P variable)
+
+-- Whether every variable is instantiated.
+abbrev pub All-instantiated-one : Type 0
+All-instantiated-one = (P : Subproblem) (n : ℕ) → One (All-instantiated P n)
+
+-- Whether a domain is empty.
+abbrev pub Is-empty-one : Type 0
+Is-empty-one = (P : Subproblem) (n : ℕ) → One (Is-empty P n)
+
+-- V instantiated to v.
+abbrev pub Instantiate-one : Type 0
+Instantiate-one = (P : Subproblem) (variable value : ℕ) → One (Instantiate P variable value)
+
+-- V's domain without the values of a mask.
+abbrev pub Without-one : Type 0
+Without-one = (P : Subproblem) (variable mask : ℕ) → One (Without P variable mask)
+
+-- V's domain cut to the values of a mask.
+abbrev pub Cut-one : Type 0
+Cut-one = (P : Subproblem) (variable mask : ℕ) → One (Cut P variable mask)
+
+-- The precluded piece.
+abbrev pub Precluded-one : Type 0
+Precluded-one = (P : Subproblem) (n d : ℕ) (tables : List ℕ) (variable value : ℕ) → One (Precluded P n d tables variable value)
+
+-- Whether the precluded piece is empty.
+abbrev pub Precluded-empty-one : Type 0
+Precluded-empty-one = (P : Subproblem) (n d : ℕ) (tables : List ℕ) (variable value : ℕ) → One (Precluded-empty P n d tables variable value)
+
+-- How many pieces the kind of a request can name.
+abbrev pub Candidates-one : Type 0
+Candidates-one = (n : ℕ) (request : List ℕ) → One (Candidates n request)
+
+-- A piece of a request.
+abbrev pub Piece-one : Type 0
+Piece-one = (P : Subproblem) (n d : ℕ) (tables request : List ℕ) (k : ℕ) → One (Piece P n d tables request k)
+
+-- The constraint checks of a request.
+abbrev pub Checks-one : Type 0
+Checks-one = (P : Subproblem) (n d : ℕ) (tables request : List ℕ) → One (Checks-of P n d tables request)
+
+-- The refusal of a request, 0 for none.
+abbrev pub Refusal-one : Type 0
+Refusal-one = (P : Subproblem) (n d : ℕ) (request : List ℕ) → One (Refusal-of P n d request)

@@ -37,7 +37,9 @@ loop-less : tie.Need-loop-less Inv-loop μ-loop
 loop-less c = search needs
 
 loop-again : tie.Need-loop-again Inv-loop μ-loop
-loop-again c = (omega arith, same-more _ _ _ _ _ (c .before .before .before .before .loop .inv .1) (c .before .before .target .ensures) (c .before .domain .ensures) (c .if1 .left))
+loop-again c =
+    let q = c .before .before in
+    (omega arith, same-more _ _ _ _ _ (q .before .before .loop .inv .1) (q .target .ensures) (c .before .domain .ensures) (c .if1 .left))
 
 returns-2 : tie.Need-returns-2 Inv-loop μ-loop
 returns-2 c = let end : c .before .loop .i ≡ c .before .before .before .args .n = omega arith in rw (← end) (sym (c .before .loop .inv .1))

@@ -2,6 +2,7 @@
 -- Assumes nothing.
 use mathlib.Core.Path.{sym, _∙_}
 use mathlib.Core.Bool.{or-true}
+use native.Mathlib.Omega.{arith}
 use borrow.Author.Tests.{lt-ltb}
 use borrow.Author.Needs.{needs}
 use Rattle.splits.specs.Refusals.{refusalOf, refused-7}
@@ -38,8 +39,8 @@ refusal-of-variable-requires c κs = search needs
 returns-4 : tie.Need-returns-4
 returns-4 c =
     c .refusal-of-variable .ensures
-    ∙ of-variable _ _ _ _ _ _ _ (c .before .before .before .before .before .before .kind .ensures) (c .before .before .variable .ensures) (c .before .value .ensures)
-    (c .before .before .before .before .before .if1 .left) (c .before .before .before .before .if2 .left) (c .before .before .before .if3 .left)
+    ∙ of-variable _ _ _ _ _ _ _ (c .before .before .before .before .before .before .kind .ensures) (c .before .before .variable .ensures)
+    (λ f. c .before .value .ensures) (c .before .before .before .before .before .if1 .left) (omega arith)
 
 pub refusal-spec : {M : Type 1} → statement M
 refusal-spec =

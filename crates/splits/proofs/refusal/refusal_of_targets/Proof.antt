@@ -16,10 +16,14 @@ all-targets-same-requires : tie.Need-all-targets-same-requires
 all-targets-same-requires c κs = none-bad-few _ _ _ (search needs) (sym (c .before .some-target-bad .ensures) ∙ c .if1 .left)
 
 returns-2 : tie.Need-returns-2
-returns-2 c = rw (sym (c .before .before .before .some-target-bad .ensures) ∙ c .before .before .if1 .left, sym (c .before .all-targets-same .ensures) ∙ c .if2 .taken)
+returns-2 c =
+    let q = c .before .before in
+    rw (sym (q .before .some-target-bad .ensures) ∙ q .if1 .left, sym (c .before .all-targets-same .ensures) ∙ c .if2 .taken)
 
 returns-3 : tie.Need-returns-3
-returns-3 c = rw (sym (c .before .before .before .some-target-bad .ensures) ∙ c .before .before .if1 .left, sym (c .before .all-targets-same .ensures) ∙ c .if2 .left)
+returns-3 c =
+    let q = c .before .before in
+    rw (sym (q .before .some-target-bad .ensures) ∙ q .if1 .left, sym (c .before .all-targets-same .ensures) ∙ c .if2 .left)
 
 pub refusal-of-targets-spec : {M : Type 1} → statement M
 refusal-of-targets-spec =

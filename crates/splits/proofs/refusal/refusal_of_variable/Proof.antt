@@ -1,12 +1,11 @@
 -- `refusal::refusal_of_variable` meets its contract, test by test.
 -- Assumes nothing.
-use mathlib.Core.Path.{sym, ap, _∙_}
+use mathlib.Core.Path.{sym, _∙_}
 use mathlib.Core.Bool.{or-true}
 use borrow.Author.Tests.{le-leb, lt-leb, eq-eqb, ne-eqb}
 use borrow.Author.Needs.{needs}
-use Rattle.splits.specs.Masks.{size}
 use Rattle.splits.specs.Work.Loops.{refusalOfVariable}
-use Rattle.splits.proofs.Refusals.{lacks}
+use Rattle.splits.proofs.Refusals.{lacks, past-8}
 use Rattle.splits.proofs.refusal.refusal_of_variable.Statement.{statement}
 use Rattle.splits.proofs.refusal.refusal_of_variable.Tie as tie
 
@@ -28,33 +27,42 @@ count-requires : tie.Need-count-requires
 count-requires c κs = search needs
 
 returns-3 : tie.Need-returns-3
-unfolding refusalOfVariable
 returns-3 c =
-    let one = ap size (sym (c .before .before .before .domain .ensures)) ∙ sym (c .before .count .ensures) ∙ c .if4 .taken in
-    simp (lt-leb _ _ (c .before .before .before .before .before .before .if1 .left), sym (c .before .before .before .before .before .is-instantiated .ensures) ∙ c .before .before .before .before .if2 .left, eq-eqb _ _ (c .before .before .if3 .taken), eq-eqb _ 1 one)
+    let q = c .before .before .before in
+    let e = q .before .before in
+    rw (past-8 _ _ (e .before .before .args .top) _ _ _ _ _ (e .before .if1 .left) (e .is-instantiated .ensures) (q .before .if2 .left) (q .domain .ensures))
+    (simp (eq-eqb _ _ (c .before .before .if3 .taken), sym (c .before .count .ensures), eq-eqb _ 1 (c .if4 .taken)))
 
 returns-4 : tie.Need-returns-4
-unfolding refusalOfVariable
 returns-4 c =
-    let same = ap size (sym (c .before .before .before .domain .ensures)) ∙ sym (c .before .count .ensures) in
-    simp (lt-leb _ _ (c .before .before .before .before .before .before .if1 .left), sym (c .before .before .before .before .before .is-instantiated .ensures) ∙ c .before .before .before .before .if2 .left, eq-eqb _ _ (c .before .before .if3 .taken), same, ne-eqb _ 1 (c .if4 .left))
+    let q = c .before .before .before in
+    let e = q .before .before in
+    rw (past-8 _ _ (e .before .before .args .top) _ _ _ _ _ (e .before .if1 .left) (e .is-instantiated .ensures) (q .before .if2 .left) (q .domain .ensures))
+    (simp (eq-eqb _ _ (c .before .before .if3 .taken), sym (c .before .count .ensures), ne-eqb _ 1 (c .if4 .left)))
 
 returns-5 : tie.Need-returns-5
-unfolding refusalOfVariable
-returns-5 c = simp (lt-leb _ _ (c .before .before .before .before .before .if1 .left), sym (c .before .before .before .before .is-instantiated .ensures) ∙ c .before .before .before .if2 .left, ne-eqb _ _ (c .before .if3 .left), le-leb _ _ (c .if5 .taken))
+returns-5 c =
+    let q = c .before .before in
+    let e = q .before .before in
+    rw (past-8 _ _ (e .before .before .args .top) _ _ _ _ _ (e .before .if1 .left) (e .is-instantiated .ensures) (q .before .if2 .left) (q .domain .ensures))
+    (simp (ne-eqb _ _ (c .before .if3 .left), le-leb _ _ (c .if5 .taken)))
 
 has-requires : tie.Need-has-requires
 has-requires c κs = search needs
 
 returns-6 : tie.Need-returns-6
-unfolding refusalOfVariable
 returns-6 c =
-    simp (lt-leb _ _ (c .before .before .before .before .before .before .before .if1 .left), sym (c .before .before .before .before .before .before .is-instantiated .ensures) ∙ c .before .before .before .before .before .if2 .left, ne-eqb _ _ (c .before .before .before .if3 .left), lt-leb _ _ (c .before .before .if5 .left), sym (c .before .before .before .before .domain .ensures), lacks _ _ _ (c .before .has .ensures), c .if6 .taken)
+    let q = c .before .before .before .before in
+    let e = q .before .before in
+    rw (past-8 _ _ (e .before .before .args .top) _ _ _ _ _ (e .before .if1 .left) (e .is-instantiated .ensures) (q .before .if2 .left) (q .domain .ensures))
+    (simp (ne-eqb _ _ (c .before .before .before .if3 .left), lt-leb _ _ (c .before .before .if5 .left), lacks _ _ _ (c .before .has .ensures), c .if6 .taken))
 
 returns-7 : tie.Need-returns-7
-unfolding refusalOfVariable
 returns-7 c =
-    simp (lt-leb _ _ (c .before .before .before .before .before .before .before .if1 .left), sym (c .before .before .before .before .before .before .is-instantiated .ensures) ∙ c .before .before .before .before .before .if2 .left, ne-eqb _ _ (c .before .before .before .if3 .left), lt-leb _ _ (c .before .before .if5 .left), sym (c .before .before .before .before .domain .ensures), lacks _ _ _ (c .before .has .ensures), c .if6 .left)
+    let q = c .before .before .before .before in
+    let e = q .before .before in
+    rw (past-8 _ _ (e .before .before .args .top) _ _ _ _ _ (e .before .if1 .left) (e .is-instantiated .ensures) (q .before .if2 .left) (q .domain .ensures))
+    (simp (ne-eqb _ _ (c .before .before .before .if3 .left), lt-leb _ _ (c .before .before .if5 .left), lacks _ _ _ (c .before .has .ensures), c .if6 .left))
 
 pub refusal-of-variable-spec : {M : Type 1} → statement M
 refusal-of-variable-spec =

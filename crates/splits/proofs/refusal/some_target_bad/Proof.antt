@@ -34,7 +34,9 @@ is-target-bad-requires : tie.Need-is-target-bad-requires Inv-loop μ-loop
 is-target-bad-requires c κs = search needs
 
 returns-2 : tie.Need-returns-2 Inv-loop μ-loop
-returns-2 c = bad-at _ _ _ _ _ _ _ (c .before .before .before .before .loop-test .taken) (c .before .before .before .target .ensures) (c .before .before .domain .ensures) (c .before .is-target-bad .ensures) (c .if2 .taken)
+returns-2 c =
+    let q = c .before .before in
+    bad-at _ _ _ _ _ _ _ (q .before .before .loop-test .taken) (q .before .target .ensures) (q .domain .ensures) (c .before .is-target-bad .ensures) (c .if2 .taken)
 
 add-i : tie.Need-add-i Inv-loop μ-loop
 add-i c = search needs
@@ -44,7 +46,9 @@ loop-less c = search needs
 
 loop-again : tie.Need-loop-again Inv-loop μ-loop
 loop-again c =
-    (omega arith, bad-more _ _ _ _ _ _ (c .before .before .before .before .before .loop .inv .1) (c .before .before .before .target .ensures) (c .before .before .domain .ensures) (c .before .is-target-bad .ensures) (c .if2 .left))
+    let q = c .before .before in
+    let inv = q .before .before .before .loop .inv .1 in
+    (omega arith, bad-more _ _ _ _ _ _ inv (q .before .target .ensures) (q .domain .ensures) (c .before .is-target-bad .ensures) (c .if2 .left))
 
 returns-3 : tie.Need-returns-3 Inv-loop μ-loop
 returns-3 c = let end : c .before .loop .i ≡ c .before .before .before .before .args .n = omega arith in rw (← end) (sym (c .before .loop .inv .1))

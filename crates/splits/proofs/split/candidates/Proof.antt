@@ -37,13 +37,17 @@ returns-4 c = simp (le-leb _ _ (c .before .before .before .before .if1 .left), s
 
 returns-5 : tie.Need-returns-5
 unfolding candidates
-returns-5 c = simp (le-leb _ _ (c .before .before .before .before .before .if1 .left), sym (c .before .before .before .before .kind .ensures)) (sym (two-pieces _ _ _ _ (c .before .before .before .if2 .left) (c .before .if4 .left) (c .if5 .taken)))
+returns-5 c =
+    let q = c .before .before .before .before in
+    simp (le-leb _ _ (q .before .if1 .left), sym (q .kind .ensures))
+    (sym (two-pieces _ _ _ _ (c .before .before .before .if2 .left) (c .before .if4 .left) (c .if5 .taken)))
 
 returns-6 : tie.Need-returns-6
 unfolding candidates
 returns-6 c =
-    let past : 5 < c .before .before .before .before .kind .result = omega arith in
-    simp (le-leb _ _ (c .before .before .before .before .before .if1 .left), sym (c .before .before .before .before .kind .ensures)) (sym (no-kind _ _ _ _ _ _ _ (inr past)))
+    let q = c .before .before .before .before in
+    let past : 5 < q .kind .result = omega arith in
+    simp (le-leb _ _ (q .before .if1 .left), sym (q .kind .ensures)) (sym (no-kind _ _ _ _ _ _ _ (inr past)))
 
 pub candidates-spec : {M : Type 1} → statement M
 candidates-spec =

@@ -35,13 +35,15 @@ returns-2 c =
 returns-3 : tie.Need-returns-3
 unfolding readable
 returns-3 c =
-    simp (sym (c .before .before .before .before .before .kind .ensures) ∙ c .before .if3 .taken, sym (c .before .before .before .before .variable .ensures), le-ltb _ _ (c .if4 .taken), and-false)
+    let q = c .before .before .before .before in
+    simp (sym (q .before .kind .ensures) ∙ c .before .if3 .taken, sym (q .variable .ensures), le-ltb _ _ (c .if4 .taken), and-false)
 
 returns-4 : tie.Need-returns-4
 unfolding readable
 returns-4 c =
-    ⊎-elim (λ w. simp (sym (c .before .before .before .before .kind .ensures) ∙ w .0 .taken, sym (c .before .before .before .variable .ensures), lt-ltb _ _ (w .1 .left), and-true))
-    (λ w. simp (sym (c .before .before .before .before .kind .ensures)) (sym (past-four _ _ _ _ _ _ (c .before .if2 .left) (w .left)))) (c .if3 .came)
+    let q = c .before .before .before in
+    ⊎-elim (λ w. simp (sym (q .before .kind .ensures) ∙ w .0 .taken, sym (q .variable .ensures), lt-ltb _ _ (w .1 .left), and-true))
+    (λ w. simp (sym (q .before .kind .ensures)) (sym (past-four _ _ _ _ _ _ (c .before .if2 .left) (w .left)))) (c .if3 .came)
 
 pub readable-spec : {M : Type 1} → statement M
 readable-spec =
