@@ -2,9 +2,9 @@
 use mathlib.Core.Path.{_≡_}
 use mathlib.Core.Logic.{_⊎_, _↔_}
 use mathlib.Core.List.{List, [], _∷_, map, List·Memᴰ}
-use Prim.Native.Nat.{ℕ, _+_, _≤_, _<_}
+use Prim.Native.Nat.{ℕ, _+_, _/_, _^_, _≤_, _<_}
 use lib.ListN.{length, getD}
-use Rattle.splits.specs.Masks.{size}
+use Rattle.splits.specs.Masks.{_∈_, Part, size, lowest, smallerHalf}
 use Rattle.splits.specs.Problem.{Table, Problem, Proper}
 use Rattle.splits.specs.Subproblems.{domain, Instantiated, Rules, SolutionOf, sizeOf}
 use Rattle.splits.specs.Requests.{kindOf, variableOf, valueOf, targetOf}
@@ -82,6 +82,17 @@ Falls = Always Falls-at
 -- A subproblem on the agenda with every variable instantiated has a solution.
 abbrev pub Solved : Type 0
 Solved = (p : Problem) (P : Subproblem) → Proper p → Rules p P → ((i : ℕ) → i < p .n → Instantiated P i) → Solvable p P
+
+-- The lowest value of a mask that is not empty is a member, and no member is below it.
+abbrev pub Lowest : Type 0
+Lowest = (m : ℕ) → m < 2 ^ 16 → (m ≡ 0 → ⊥) → (lowest m ∈ m) × ((v : ℕ) → v ∈ m → lowest m ≤ v)
+
+-- The smaller half of k values is ⌈k / 2⌉ of them, each smaller than each of the rest.
+abbrev pub Smaller-half-of : Type 0
+Smaller-half-of =
+    (m : ℕ) → m < 2 ^ 16
+    → Part (smallerHalf m) m × (size (smallerHalf m) ≡ (size m + 1) / 2)
+    × ((u v : ℕ) → u ∈ smallerHalf m → v ∈ m → (v ∈ smallerHalf m → ⊥) → u < v)
 
 -- The candidates that the code makes one by one are the split's pieces in order, those that are not placed being empty.
 abbrev pub One-by-one : Type 0
