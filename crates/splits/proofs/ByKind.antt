@@ -4,6 +4,8 @@ use mathlib.Core.Bool.{Bool, true, false, cond, _&&_}
 use mathlib.Core.List.{List}
 use Prim.Native.Nat.{ℕ, zero, suc, _+_, _≤_, _<_}
 use native.Mathlib.Omega.{arith}
+use native.Mathlib.Nat.{lt-of-not-le}
+use native.Mathlib.Decide.{ℕ-discrete, decLt}
 use mathlib.Core.Logic.{_⊎_, inl, inr, ⊎-elim}
 use lib.Dec.{eqb, leb, ltb}
 use borrow.Author.Tests.{ne-eqb, eqb-true, leb-true, ltb-true, le-leb, lt-ltb, le-ltb}
@@ -17,15 +19,56 @@ use Rattle.splits.specs.declared.subproblem.Subproblem.{Subproblem}
 use Rattle.splits.proofs.Tests.{and-left, and-right}
 use Rattle.splits.proofs.Ranges.{inside-true}
 
--- whoever is 1 to 5 is one of the five.
+-- what holds of each of the five kinds and of any other number holds of every number
+pub kinds : (Q : ℕ → Type 0) → Q 1 → Q 2 → Q 3 → Q 4 → Q 5 → ((k : ℕ) → (k < 1) ⊎ (5 < k) → Q k) → (k : ℕ) → Q k
+kinds Q a b c d e other k = elim (ℕ-discrete k 1) [
+  | yes i ↦ rw i a
+  | no f1 ↦ elim (ℕ-discrete k 2) [
+    | yes i ↦ rw i b
+    | no f2 ↦ elim (ℕ-discrete k 3) [
+      | yes i ↦ rw i c
+      | no f3 ↦ elim (ℕ-discrete k 4) [
+        | yes i ↦ rw i d
+        | no f4 ↦ elim (ℕ-discrete k 5) [
+          | yes i ↦ rw i e
+          | no f5 ↦ other k (elim (decLt k 1) [ yes l ↦ inl l | no l ↦ inr (lt-of-not-le (λ h. absurd (omega arith))) ])
+        ]
+      ]
+    ]
+  ]
+]
+
+-- whoever is 1 to 5 is one of the five
 pub five : (C : ℕ → Type 0) (k : ℕ) → ((k < 1) ⊎ (5 < k) → ⊥) → C 1 → C 2 → C 3 → C 4 → C 5 → C k
-five C zero h a b c d e = absurd (h (inl (omega arith)))
-five C (suc zero) h a b c d e = a
-five C (suc (suc zero)) h a b c d e = b
-five C (suc (suc (suc zero))) h a b c d e = c
-five C (suc (suc (suc (suc zero)))) h a b c d e = d
-five C (suc (suc (suc (suc (suc zero))))) h a b c d e = e
-five C (suc (suc (suc (suc (suc (suc k)))))) h a b c d e = absurd (h (inr (omega arith)))
+five C k h a b c d e = kinds (λ m. m ≡ k → C m) (λ z. a) (λ z. b) (λ z. c) (λ z. d) (λ z. e) (λ m o z. absurd (h (rw z at o))) k refl
+
+-- what is said of a number that is no kind
+pub no-kind : {A : Type 0} (k : ℕ) (a b c d e other : A) → (k < 1) ⊎ (5 < k) → byKind k a b c d e other ≡ other
+no-kind k a b c d e other (inl h) = let z : k ≡ 0 = omega arith in rw z
+no-kind k a b c d e other (inr h) =
+    let f : (m : ℕ) → m ≤ 5 → eqb k m ≡ false = λ m l. ne-eqb k m (λ z. absurd (omega arith)) in
+    simp (f 1 (omega arith), f 2 (omega arith), f 3 (omega arith), f 4 (omega arith), f 5 (omega arith))
+
+-- what is said of kinds 1 to 3 alike
+pub one-to-three : {A : Type 0} (k : ℕ) (a d e other : A) → (k ≡ 0 → ⊥) → k < 4 → byKind k a a a d e other ≡ a
+one-to-three k a d e other =
+    kinds (λ k. (k ≡ 0 → ⊥) → k < 4 → byKind k a a a d e other ≡ a) (λ f l. refl) (λ f l. refl) (λ f l. refl)
+    (λ f l. absurd (omega arith)) (λ f l. absurd (omega arith))
+    (λ k o f l. absurd (⊎-elim (λ z. f (omega arith)) (λ z. omega arith) o)) k
+
+-- what is said of kind 5 and of no kind alike
+pub past-four : {A : Type 0} (k : ℕ) (a b c d other : A) → 4 ≤ k → (k ≡ 4 → ⊥) → byKind k a b c d other other ≡ other
+past-four k a b c d other l f = elim (ℕ-discrete k 5) [
+  | yes e ↦ rw e
+  | no g ↦ no-kind k a b c d other other (inr (omega arith))
+]
+
+-- what is said of kinds 1, 2 and 4 alike
+pub two-pieces : {A : Type 0} (k : ℕ) (a c other : A) → (k ≡ 3 → ⊥) → (k ≡ 0 → ⊥) → k < 5 → byKind k a a c a c other ≡ a
+two-pieces k a c other =
+    kinds (λ k. (k ≡ 3 → ⊥) → (k ≡ 0 → ⊥) → k < 5 → byKind k a a c a c other ≡ a) (λ f g l. refl) (λ f g l. refl)
+    (λ f g l. absurd (f refl)) (λ f g l. refl) (λ f g l. absurd (omega arith))
+    (λ k o f g l. absurd (⊎-elim (λ z. g (omega arith)) (λ z. omega arith) o)) k
 
 either : {A : Type 0} {x y : A} (Q : A → Type 0) (t : Bool) → Q x → Q y → Q (cond t x y)
 either Q true p q = p

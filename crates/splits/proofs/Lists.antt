@@ -1,4 +1,4 @@
--- Sums over lists, the lists that are kept, and the tests at every number below n and at some.
+-- Sums over lists, and the lists that are kept.
 -- Assumes nothing.
 use mathlib.Core.Path.{_≡_, refl, sym, ap, ap₂, _∙_}
 use mathlib.Core.Logic.{⊎-elim}
@@ -13,27 +13,6 @@ use Rattle.splits.specs.Subproblems.{some}
 use Rattle.splits.specs.Splits.{below, keep}
 use Rattle.splits.specs.Measure.{sum}
 use Rattle.splits.proofs.Products.{last}
-
--- A test that passes somewhere below n.
-pub some-true : (n : ℕ) (t : ℕ → Bool) → some n t ≡ true → (i : ℕ) × (i < n) × (t i ≡ true)
-unfolding some
-some-true zero t e = absurd (false≢true e)
-some-true (suc n) t e = go (some n t) refl e (some-true n t)
-  where
-    go : (b : Bool) → some n t ≡ b → (b || t n) ≡ true → (some n t ≡ true → (i : ℕ) × (i < n) × (t i ≡ true))
-        → (i : ℕ) × (i < suc n) × (t i ≡ true)
-    go true s e r = let (i, l, h) = r s in (i, omega arith, h)
-    go false s e r = (n, le-refl (suc n), e)
-
--- A test that passes nowhere below n.
-pub some-false : (n : ℕ) (t : ℕ → Bool) → some n t ≡ false → (i : ℕ) → i < n → t i ≡ false
-unfolding some
-some-false zero t e i l = absurd (omega arith)
-some-false (suc n) t e i l = go (some n t) refl e (some-false n t)
-  where
-    go : (b : Bool) → some n t ≡ b → (b || t n) ≡ false → (some n t ≡ false → (i : ℕ) → i < n → t i ≡ false) → t i ≡ false
-    go true s e r = absurd (true≢false e)
-    go false s e r = ⊎-elim (λ (q : i ≡ n). ap t q ∙ e) (λ (k : i < n). r s i k) (last l)
 
 module _ {A : Type 0} (g : A → ℕ) where
   -- What is not kept adds nothing.

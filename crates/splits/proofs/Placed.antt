@@ -20,7 +20,8 @@ use Rattle.splits.specs.declared.subproblem.Subproblem.{Subproblem}
 use Rattle.splits.proofs.ByKind.{five}
 use Rattle.splits.proofs.Masks.{minus-part-of, part-minus}
 use Rattle.splits.proofs.Products.{last}
-use Rattle.splits.proofs.Lists.{some-true, some-false, sum-keep, member-keep}
+use Rattle.splits.proofs.Tests.{some-found, some-none}
+use Rattle.splits.proofs.Lists.{sum-keep, member-keep}
 use Rattle.splits.proofs.Weights.{Weight, weigh-none, bySize}
 use Rattle.splits.proofs.Pieces.{Held, Piece}
 use Rattle.splits.proofs.Splitting.{weight, weights, Split}
@@ -97,7 +98,7 @@ module _ {p : Problem} {P : Subproblem} {r : List ℕ} (s : Splits p P r) where
   pub placed-filled : (Q : Subproblem) → List·Memᴰ Q (pieces (p .n) (p .allowed) P r) → (i : ℕ) → i < p .n → domain Q i ≡ 0 → ⊥
   unfolding pieces empty
   placed-filled Q m i k =
-      eqb-false (domain Q i) 0 (some-false (p .n) (λ i. eqb (domain Q i) 0) (not-true _ (member-keep (λ Q. not (empty (p .n) Q)) _ m .0)) i k)
+      eqb-false (domain Q i) 0 (some-none (λ i. eqb (domain Q i) 0) (p .n) i k (not-true _ (member-keep (λ Q. not (empty (p .n) Q)) _ m .0)))
 
   -- The pieces dropped weigh nothing.
   placed-weights : (w : Weight) → weights w (p .n) (pieces (p .n) (p .allowed) P r) ≡ weights w (p .n) (named (p .n) (p .allowed) P r)
@@ -105,7 +106,7 @@ module _ {p : Problem} {P : Subproblem} {r : List ℕ} (s : Splits p P r) where
   placed-weights w =
       sum-keep (weight w (p .n)) (λ Q. not (empty (p .n) Q)) (named (p .n) (p .allowed) P r)
       (λ Q e.
-      let (i, k, t) = some-true (p .n) (λ i. eqb (domain Q i) 0) (not-false _ e) in
+      let (i, k, t) = some-found (λ i. eqb (domain Q i) 0) (p .n) (not-false _ e) in
       weigh-none w (p .n) (Q .domains) i k (eqb-true (domain Q i) 0 t))
 
   -- So the pieces placed are a split too.

@@ -37,58 +37,10 @@ use Rattle.splits.specs.Promises.{Agree, One}
 use Rattle.splits.specs.Work.Loops.{refusalOfVariable}
 use Rattle.splits.specs.declared.subproblem.Subproblem.{Subproblem}
 use Rattle.splits.proofs.Masks.{bit-le, common-none, part-minus, minus-part-of}
+use Rattle.splits.proofs.ByKind.{kinds, no-kind}
 use Rattle.splits.proofs.Tests.{true-false, and-left, and-right, or-cases, some-more, some-at, some-found, some-same, every-more, every-at, every-not, every-all}
 use Rattle.splits.proofs.Looking.{keep-append}
 use Rattle.splits.proofs.Subproblems.{domain-out}
-
--- ---- kinds
-
--- what holds of each of the five kinds and of any other number holds of every number
-pub kinds : (Q : ℕ → Type 0) → Q 1 → Q 2 → Q 3 → Q 4 → Q 5 → ((k : ℕ) → (k < 1) ⊎ (5 < k) → Q k) → (k : ℕ) → Q k
-kinds Q a b c d e other k = elim (ℕ-discrete k 1) [
-  | yes i ↦ rw i a
-  | no f1 ↦ elim (ℕ-discrete k 2) [
-    | yes i ↦ rw i b
-    | no f2 ↦ elim (ℕ-discrete k 3) [
-      | yes i ↦ rw i c
-      | no f3 ↦ elim (ℕ-discrete k 4) [
-        | yes i ↦ rw i d
-        | no f4 ↦ elim (ℕ-discrete k 5) [
-          | yes i ↦ rw i e
-          | no f5 ↦ other k (elim (decLt k 1) [ yes l ↦ inl l | no l ↦ inr (lt-of-not-le (λ h. absurd (omega arith))) ])
-        ]
-      ]
-    ]
-  ]
-]
-
--- what is said of a number that is no kind
-pub no-kind : {A : Type 0} (k : ℕ) (a b c d e other : A) → (k < 1) ⊎ (5 < k) → byKind k a b c d e other ≡ other
-no-kind k a b c d e other (inl h) = let z : k ≡ 0 = omega arith in rw z
-no-kind k a b c d e other (inr h) =
-    let f : (m : ℕ) → m ≤ 5 → eqb k m ≡ false = λ m l. ne-eqb k m (λ z. absurd (omega arith)) in
-    simp (f 1 (omega arith), f 2 (omega arith), f 3 (omega arith), f 4 (omega arith), f 5 (omega arith))
-
--- what is said of kinds 1 to 3 alike
-pub one-to-three : {A : Type 0} (k : ℕ) (a d e other : A) → (k ≡ 0 → ⊥) → k < 4 → byKind k a a a d e other ≡ a
-one-to-three k a d e other =
-    kinds (λ k. (k ≡ 0 → ⊥) → k < 4 → byKind k a a a d e other ≡ a) (λ f l. refl) (λ f l. refl) (λ f l. refl)
-    (λ f l. absurd (omega arith)) (λ f l. absurd (omega arith))
-    (λ k o f l. absurd (⊎-elim (λ z. f (omega arith)) (λ z. omega arith) o)) k
-
--- what is said of kind 5 and of no kind alike
-pub past-four : {A : Type 0} (k : ℕ) (a b c d other : A) → 4 ≤ k → (k ≡ 4 → ⊥) → byKind k a b c d other other ≡ other
-past-four k a b c d other l f = elim (ℕ-discrete k 5) [
-  | yes e ↦ rw e
-  | no g ↦ no-kind k a b c d other other (inr (omega arith))
-]
-
--- what is said of kinds 1, 2 and 4 alike
-pub two-pieces : {A : Type 0} (k : ℕ) (a c other : A) → (k ≡ 3 → ⊥) → (k ≡ 0 → ⊥) → k < 5 → byKind k a a c a c other ≡ a
-two-pieces k a c other =
-    kinds (λ k. (k ≡ 3 → ⊥) → (k ≡ 0 → ⊥) → k < 5 → byKind k a a c a c other ≡ a) (λ f g l. refl) (λ f g l. refl)
-    (λ f g l. absurd (f refl)) (λ f g l. refl) (λ f g l. absurd (omega arith))
-    (λ k o f g l. absurd (⊎-elim (λ z. g (omega arith)) (λ z. omega arith) o)) k
 
 -- ---- the loops over the targets
 

@@ -19,7 +19,8 @@ use Rattle.splits.specs.Splits.{changed, below, keep, instantiate, witho
 use Rattle.splits.specs.Measure.{sum}
 use Rattle.splits.specs.declared.subproblem.Subproblem.{Subproblem}
 use Rattle.splits.proofs.Masks.{bit-le, bit-common, bit-single-same, single-member, size-single, size-part, part-single, part-common, common-part, common-part-right, minus-part}
-use Rattle.splits.proofs.Lists.{some-true, some-false, sum-below, each-none, each-more, each-of}
+use Rattle.splits.proofs.Tests.{some-found, some-none}
+use Rattle.splits.proofs.Lists.{sum-below, each-none, each-more, each-of}
 use Rattle.splits.proofs.Domains.{Within, length-changed, changed-before, within-changed, within-set, within-sets, row-within}
 use Rattle.splits.proofs.Weights.{Weight, weigh, bySize, fits, weigh-le, weigh-two, weigh-peel, fits-le, fits-one, one-fits}
 use Rattle.splits.proofs.Pieces.{Held, Piece, mirror}
@@ -172,7 +173,7 @@ module _ {p : Problem} {P : Subproblem} {x v : ℕ} (held : Held p P) (at : Valu
   -- Where an instantiated value forbids v, no solution of P has v for V.
   forbidden-none : (f : ℕ → ℕ) → SolutionOf p P f → forbidden (p .n) (p .allowed) P x v ≡ true → f x ≡ v → ⊥
   unfolding forbidden instantiatedOther forbids
-  forbidden-none f s e q = let (i, k, t) = some-true (p .n) _ e in go i k (eqb (bit (P .marked) i) 1) refl (eqb i x) refl t
+  forbidden-none f s e q = let (i, k, t) = some-found _ (p .n) e in go i k (eqb (bit (P .marked) i) 1) refl (eqb i x) refl t
     where
       go : (i : ℕ) → i < p .n → (b : Bool) → eqb (bit (P .marked) i) 1 ≡ b → (c : Bool) → eqb i x ≡ c
           → ((b && not c) && eqb (given i) 0) ≡ true → ⊥
@@ -190,7 +191,7 @@ module _ {p : Problem} {P : Subproblem} {x v : ℕ} (held : Held p P) (at : Valu
   forbidden-not e i k d o =
       let allowed : eqb (given i) 0 ≡ false =
       ap₂ (λ (b c : Bool). (b && not c) && eqb (given i) 0) (sym (eq-eqb (bit (P .marked) i) 1 o)) (sym (ne-eqb i x d))
-      ∙ some-false (p .n) _ e i k in
+      ∙ some-none _ (p .n) i k e in
       omega (arith, eqb-false (given i) 0 allowed, bit-le (p .allowed i x (lowest (domain P i))) v)
 
   -- V without v, the one piece of a list or its last.

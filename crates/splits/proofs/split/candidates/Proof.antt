@@ -7,7 +7,7 @@ use native.Mathlib.Omega.{arith}
 use borrow.Author.Tests.{le-leb, lt-leb}
 use borrow.Author.Needs.{needs}
 use Rattle.splits.specs.Splits.{candidates}
-use Rattle.splits.proofs.Refusals.{no-kind, two-pieces}
+use Rattle.splits.proofs.ByKind.{no-kind, two-pieces}
 use Rattle.splits.proofs.split.candidates.Statement.{statement}
 use Rattle.splits.proofs.split.candidates.Tie as tie
 

@@ -6,7 +6,7 @@ use mathlib.Core.Logic.{⊎-elim}
 use borrow.Author.Tests.{le-ltb, lt-ltb}
 use borrow.Author.Needs.{needs}
 use Rattle.splits.specs.Calls.{readable}
-use Rattle.splits.proofs.Refusals.{one-to-three, past-four}
+use Rattle.splits.proofs.ByKind.{one-to-three, past-four}
 use Rattle.splits.proofs.tables.readable.Statement.{statement}
 use Rattle.splits.proofs.tables.readable.Tie as tie
 
