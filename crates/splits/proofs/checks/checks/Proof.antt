@@ -1,62 +1,44 @@
+-- `splits::checks::checks` meets its contract.
+-- Assumes nothing.
 use Rattle.splits.proofs.ByKind.{inside-1, checks-1, checks-2, checks-3, checks-none, few}
 use mathlib.Core.Path.{sym, _∙_}
 use borrow.Author.Needs.{needs}
 use Rattle.splits.proofs.checks.checks.Statement.{statement}
 use Rattle.splits.proofs.checks.checks.Tie as tie
-use Rattle.splits.proofs.checks.checks.Reads as reads
-use Rattle.splits.proofs.checks.checks.Lts as lts
-use Rattle.splits.proofs.checks.look.Reads as look-reads
-use Rattle.splits.proofs.checks.values_in_others.Reads as values-in-others-reads
-use Rattle.splits.proofs.tables.readable.Reads as readable-reads
-use Rattle.splits.proofs.words.kind.Reads as kind-reads
-use Rattle.splits.proofs.words.value.Reads as value-reads
-use Rattle.splits.proofs.words.variable.Reads as variable-reads
 
--- src/checks.rt:86:8
 readable-requires : tie.Need-readable-requires
 readable-requires c κs = search needs
 
--- src/checks.rt:87:13
 kind-requires : tie.Need-kind-requires
 kind-requires c κs = search needs
 
--- src/checks.rt:88:13
 variable-requires : tie.Need-variable-requires
 variable-requires c κs = search needs
 
--- src/checks.rt:90:60
 value-requires : tie.Need-value-requires
 value-requires c κs = search needs
 
--- src/checks.rt:90:17
 look-requires : tie.Need-look-requires
 look-requires c κs = inside-1 _ _ _ (c .before .before .before .before .before .before .before .before .args .top) _ (sym (c .before .before .before .before .before .readable .ensures) ∙ c .before .before .before .before .if1 .taken) _ (c .before .before .before .kind .ensures) _ _ (c .before .before .variable .ensures) (c .value .ensures) (c .before .if2 .taken)
 
--- src/checks.rt:91:13
 returns : tie.Need-returns
 returns c = checks-1 _ _ _ _ _ (sym (c .before .before .before .before .before .before .readable .ensures) ∙ c .before .before .before .before .before .if1 .taken) _ (c .before .before .before .before .kind .ensures) _ _ (c .before .before .before .variable .ensures) (c .before .value .ensures) _ (c .before .before .if2 .taken) (c .look .ensures .counted)
 
--- src/checks.rt:94:13
 values-in-others-requires : tie.Need-values-in-others-requires
 values-in-others-requires c κs = few _ _ _ _ (sym (c .before .before .before .before .before .readable .ensures) ∙ c .before .before .before .before .if1 .taken)
 
--- src/checks.rt:94:13
 returns-2 : tie.Need-returns-2
 returns-2 c = checks-2 _ _ _ _ _ (sym (c .before .before .before .before .before .before .readable .ensures) ∙ c .before .before .before .before .before .if1 .taken) _ (c .before .before .before .before .kind .ensures) _ _ (c .before .before .before .variable .ensures) (c .before .if3 .taken) (c .values-in-others .ensures)
 
--- src/checks.rt:97:13
 values-in-others-requires-2 : tie.Need-values-in-others-requires-2
 values-in-others-requires-2 c κs = few _ _ _ _ (sym (c .before .before .before .before .before .before .readable .ensures) ∙ c .before .before .before .before .before .if1 .taken)
 
--- src/checks.rt:97:13
 returns-3 : tie.Need-returns-3
 returns-3 c = checks-3 _ _ _ _ _ (sym (c .before .before .before .before .before .before .before .readable .ensures) ∙ c .before .before .before .before .before .before .if1 .taken) _ (c .before .before .before .before .before .kind .ensures) _ _ (c .before .before .before .before .variable .ensures) (c .before .if4 .taken) (c .values-in-others2 .ensures)
 
--- src/checks.rt:83:1
 returns-4 : tie.Need-returns-4
 returns-4 c = checks-none _ _ _ _ _ (sym (c .before .before .before .before .before .before .readable .ensures) ∙ c .before .before .before .before .before .if1 .taken) _ (c .before .before .before .before .kind .ensures) (c .before .before .if2 .left) (c .before .if3 .left) (c .if4 .left)
 
--- src/checks.rt:83:1
 returns-5 : tie.Need-returns-5
 returns-5 c = simp (sym (c .before .readable .ensures) ∙ c .if1 .left)
 

@@ -1,3 +1,5 @@
+-- `splits::checks::does_forbid` meets its contract.
+-- Assumes nothing.
 use Rattle.splits.proofs.Counting.{forbids-is}
 use Rattle.splits.proofs.Ranges.{in-table}
 use lib.Count.{trailing-le}
@@ -7,50 +9,34 @@ use native.Mathlib.Omega.{arith}
 use borrow.Author.Needs.{needs}
 use Rattle.splits.proofs.checks.does_forbid.Statement.{statement}
 use Rattle.splits.proofs.checks.does_forbid.Tie as tie
-use Rattle.splits.proofs.checks.does_forbid.Reads as reads
-use Rattle.splits.proofs.checks.does_forbid.Lts as lts
-use Rattle.splits.proofs.mask.first.Reads as first-reads
-use Rattle.splits.proofs.mask.has.Reads as has-reads
-use Rattle.splits.proofs.subproblem.Subproblem.domain.Reads as domain-reads
-use Rattle.splits.proofs.words.word.Reads as word-reads
 
--- src/checks.rt:37:25
 domain-requires : tie.Need-domain-requires
 domain-requires c κs = search needs
 
--- src/checks.rt:37:9
 first-requires : tie.Need-first-requires
 first-requires c κs = search needs
 
--- src/checks.rt:38:40
 mul-word : tie.Need-mul-word
 mul-word c = let p = c .before .before .before .pre in omega (arith, in-table _ _ _ _ _ _ (p .0 .fit) (record { first = p .1; second = p .0 .a-variable; third = p .0 .a-value }))
 
--- src/checks.rt:38:40
 add-word : tie.Need-add-word
 add-word c = let p = c .before .before .before .pre in omega (arith, in-table _ _ _ _ _ _ (p .0 .fit) (record { first = p .1; second = p .0 .a-variable; third = p .0 .a-value }))
 
--- src/checks.rt:38:39
 mul-word-2 : tie.Need-mul-word-2
 mul-word-2 c = let p = c .before .before .before .pre in omega (arith, in-table _ _ _ _ _ _ (p .0 .fit) (record { first = p .1; second = p .0 .a-variable; third = p .0 .a-value }))
 
--- src/checks.rt:38:39
 add-word-2 : tie.Need-add-word-2
 add-word-2 c = let p = c .before .before .before .pre in omega (arith, in-table _ _ _ _ _ _ (p .0 .fit) (record { first = p .1; second = p .0 .a-variable; third = p .0 .a-value }), c .first .ensures, trailing-le 16 (c .before .domain .result))
 
--- src/checks.rt:38:9
 word-requires : tie.Need-word-requires
 word-requires c κs = search needs
 
--- src/checks.rt:39:8
 has-requires : tie.Need-has-requires
 has-requires c κs = search needs
 
--- src/checks.rt:40:9
 returns : tie.Need-returns
 returns c = sym (ap not (c .if1 .taken)) ∙ forbids-is _ _ _ _ _ _ _ _ _ _ _ (c .before .before .before .before .domain .ensures) (c .before .before .before .first .ensures) (c .before .before .word .ensures) (c .before .has .ensures)
 
--- src/checks.rt:33:1
 returns-2 : tie.Need-returns-2
 returns-2 c = sym (ap not (c .if1 .left)) ∙ forbids-is _ _ _ _ _ _ _ _ _ _ _ (c .before .before .before .before .domain .ensures) (c .before .before .before .first .ensures) (c .before .before .word .ensures) (c .before .has .ensures)
 

@@ -1,20 +1,17 @@
+-- `splits::checks::look` meets its contract.
+-- Assumes nothing.
 use Rattle.splits.proofs.Counting.{Looking, look-more, look-skip, look-stop, look-end}
 use mathlib.Core.Logic.{⊎-elim}
-use Rattle.splits.specs.Splits.{below, keep, forbidden, instantiatedOther}
+use Rattle.splits.specs.Splits.{below, keep, forbidden}
 use Rattle.splits.specs.Subproblems.{some}
 use Rattle.splits.specs.Problem.{tableOf}
-use lib.ListN.{length}
 use native.Mathlib.Omega.{arith}
-use Prim.Native.Nat.{ℕ, _≤_, _<_, _-_, _*_}
+use Prim.Native.Nat.{_≤_, _-_}
 use mathlib.Core.Bool.{false}
-use mathlib.Core.Path.{_≡_, refl, sym, ap, _∙_}
+use mathlib.Core.Path.{_≡_, refl}
 use borrow.Author.Needs.{needs}
 use Rattle.splits.proofs.checks.look.Statement.{statement}
 use Rattle.splits.proofs.checks.look.Tie as tie
-use Rattle.splits.proofs.checks.look.Reads as reads
-use Rattle.splits.proofs.checks.look.Lts as lts
-use Rattle.splits.proofs.checks.does_forbid.Reads as does-forbid-reads
-use Rattle.splits.proofs.checks.is_looked_at.Reads as is-looked-at-reads
 
 abbrev Inv-loop : tie.InvT-loop
 Inv-loop top n d tables variable value count₀ conflict₀ i₀ count conflict i = (i ≤ n) × ((count ≤ i) × ((conflict ≡ false) × Looking n (tableOf n d tables) top variable value i count))
@@ -22,40 +19,31 @@ Inv-loop top n d tables variable value count₀ conflict₀ i₀ count conflict 
 abbrev μ-loop : tie.MeasureT-loop
 μ-loop top n d tables variable value count₀ conflict₀ i₀ count conflict i = n - i
 
--- src/checks.rt:53:5
 loop-holds : tie.Need-loop-holds Inv-loop μ-loop
 unfolding forbidden some below keep
 loop-holds c = (search needs, (search needs, (refl, record { passed = refl; none = refl })))
 
--- src/checks.rt:54:12
 is-looked-at-requires : tie.Need-is-looked-at-requires Inv-loop μ-loop
 is-looked-at-requires c κs = search needs
 
--- src/checks.rt:55:13
 add-count : tie.Need-add-count Inv-loop μ-loop
 add-count c = search needs
 
--- src/checks.rt:56:16
 does-forbid-requires : tie.Need-does-forbid-requires Inv-loop μ-loop
 does-forbid-requires c κs = search needs
 
--- src/checks.rt:61:9
 add-i : tie.Need-add-i Inv-loop μ-loop
 add-i c = search needs
 
--- src/checks.rt:53:5
 loop-less : tie.Need-loop-less Inv-loop μ-loop
 loop-less c = search needs
 
--- src/checks.rt:53:5
 loop-again : tie.Need-loop-again Inv-loop μ-loop
 loop-again c = let inv = c .before .before .before .loop .inv .1 .1 in let e = c .before .is-looked-at .ensures in (omega arith, ⊎-elim (λ w. (omega (arith, w .3), (inv .0, rw (w .3) (look-more _ _ _ _ _ _ _ (inv .1) _ _ e (w .0 .taken) (w .1 .ensures) (w .2 .left))))) (λ w. (omega (arith, w .1), (inv .0, rw (w .1) (look-skip _ _ _ _ _ _ _ (inv .1) _ e (w .0 .left))))) (c .if1 .came))
 
--- src/checks.rt:46:1
 returns : tie.Need-returns Inv-loop μ-loop
 returns c = look-end _ _ _ _ _ _ _ (c .before .loop .inv .1 .1 .1) _ (c .before .loop .inv .0) (c .loop-test .left) (c .before .loop .inv .1 .1 .0)
 
--- src/checks.rt:46:1
 returns-2 : tie.Need-returns-2 Inv-loop μ-loop
 returns-2 c = look-stop _ _ _ _ _ _ _ (c .before .before .before .before .before .loop .inv .1 .1 .1) _ _ (c .before .before .before .before .loop-test .taken) (c .before .before .before .is-looked-at .ensures) (c .before .before .if1 .taken) (c .before .does-forbid .ensures) (c .if2 .taken)
 

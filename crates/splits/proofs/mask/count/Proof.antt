@@ -1,16 +1,14 @@
+-- `splits::mask::count` meets its contract.
+-- Assumes nothing.
 use lib.Count.{ones-le}
 use native.Mathlib.Omega.{arith}
 use borrow.Author.Needs.{needs}
 use Rattle.splits.proofs.mask.count.Statement.{statement}
 use Rattle.splits.proofs.mask.count.Tie as tie
-use Rattle.splits.proofs.mask.count.Reads as reads
-use Rattle.splits.proofs.mask.count.Lts as lts
 
--- src/mask.rt:12:5
 cast-result : tie.Need-cast-result
 cast-result c = omega (arith, ones-le 16 (c .args .mask) (c .fits .mask .fits))
 
--- src/mask.rt:9:1
 returns : tie.Need-returns
 returns c = search needs
 

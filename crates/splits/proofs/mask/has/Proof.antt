@@ -1,26 +1,22 @@
+-- `splits::mask::has` meets its contract.
+-- Assumes nothing.
 use Rattle.splits.proofs.Masks.{bit-above}
 use Rattle.splits.specs.Masks.{bit}
-use mathlib.Core.Path.{_≡_, refl, ap, sym}
+use mathlib.Core.Path.{refl}
 use borrow.Author.Needs.{needs}
 use Rattle.splits.proofs.mask.has.Statement.{statement}
 use Rattle.splits.proofs.mask.has.Tie as tie
-use Rattle.splits.proofs.mask.has.Reads as reads
-use Rattle.splits.proofs.mask.has.Lts as lts
 
--- src/mask.rt:35:18
 cast-result : tie.Need-cast-result
 cast-result c = search needs
 
--- src/mask.rt:35:10
 shr-result : tie.Need-shr-result
 shr-result c = search needs
 
--- src/mask.rt:31:1
 returns : tie.Need-returns
 unfolding bit
 returns c = refl
 
--- src/mask.rt:31:1
 returns-2 : tie.Need-returns-2
 returns-2 c = simp (bit-above 16 (c .before .args .mask) (c .before .args .value) (c .before .fits .mask .fits) (c .if1 .left))
 

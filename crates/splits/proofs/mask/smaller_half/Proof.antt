@@ -1,3 +1,5 @@
+-- `splits::mask::smaller_half` meets its contract.
+-- Assumes nothing.
 use Rattle.splits.specs.Masks.{smallerHalf, smallest}
 use lib.Count.{ones-le}
 use Prim.Native.Nat.{ℕ, _+_, _/_}
@@ -6,24 +8,16 @@ use native.Mathlib.Omega.{arith}
 use borrow.Author.Needs.{needs}
 use Rattle.splits.proofs.mask.smaller_half.Statement.{statement}
 use Rattle.splits.proofs.mask.smaller_half.Tie as tie
-use Rattle.splits.proofs.mask.smaller_half.Reads as reads
-use Rattle.splits.proofs.mask.smaller_half.Lts as lts
-use Rattle.splits.proofs.mask.count.Reads as count-reads
-use Rattle.splits.proofs.mask.smallest_of.Reads as smallest-of-reads
 
--- src/mask.rt:45:24
 count-requires : tie.Need-count-requires
 count-requires c κs = search needs
 
--- src/mask.rt:45:24
 add-smallest-of : tie.Need-add-smallest-of
 add-smallest-of c = omega (arith, c .count .ensures, ones-le 16 (c .before .args .mask) (c .before .fits .mask .fits))
 
--- src/mask.rt:45:5
 smallest-of-requires : tie.Need-smallest-of-requires
 smallest-of-requires c κs = omega (arith, c .count .ensures)
 
--- src/mask.rt:42:1
 returns : tie.Need-returns
 unfolding smallerHalf
 returns c = c .smallest-of .ensures ∙ ap (λ (x : ℕ). smallest ((x + 1) / 2) (c .before .before .args .mask)) (c .before .count .ensures)

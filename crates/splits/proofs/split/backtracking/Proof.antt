@@ -1,3 +1,5 @@
+-- `splits::split::backtracking` meets its contract.
+-- Assumes nothing.
 use borrow.Author.Tests.{eq-eqb, ne-eqb, lt-ltb}
 use Rattle.splits.specs.Splits.{backtracked}
 use native.Mathlib.Nat.{le-trans}
@@ -6,45 +8,30 @@ use mathlib.Core.Path.{sym, _∙_}
 use borrow.Author.Needs.{needs}
 use Rattle.splits.proofs.split.backtracking.Statement.{statement}
 use Rattle.splits.proofs.split.backtracking.Tie as tie
-use Rattle.splits.proofs.split.backtracking.Reads as reads
-use Rattle.splits.proofs.split.backtracking.Lts as lts
-use Rattle.splits.proofs.checks.look.Reads as look-reads
-use Rattle.splits.proofs.mask.only.Reads as only-reads
-use Rattle.splits.proofs.subproblem.Subproblem.cut.Reads as cut-reads
-use Rattle.splits.proofs.subproblem.Subproblem.instantiate.Reads as instantiate-reads
-use Rattle.splits.proofs.subproblem.Subproblem.without.Reads as without-reads
 
--- src/split.rt:21:38
 only-requires : tie.Need-only-requires
 only-requires c κs = omega (arith, c .before .before .pre .fit .small, c .before .before .pre .a-value)
 
--- src/split.rt:21:9
 without-requires : tie.Need-without-requires
 without-requires c κs = search needs
 
--- src/split.rt:21:9
 returns : tie.Need-returns
 unfolding backtracked
 returns c = simp (ne-eqb _ _ (c .before .before .if1 .taken)) (cc)
 
--- src/split.rt:23:9
 look-requires : tie.Need-look-requires
 look-requires c κs = c .before .before .pre
 
--- src/split.rt:25:9
 cut-requires : tie.Need-cut-requires
 cut-requires c κs = search needs
 
--- src/split.rt:25:9
 returns-2 : tie.Need-returns-2
 unfolding backtracked
 returns-2 c = simp (eq-eqb _ _ (c .before .before .before .if1 .left), sym (c .before .before .look .ensures .met) ∙ c .before .if2 .taken) (c .cut .ensures)
 
--- src/split.rt:27:5
 instantiate-requires : tie.Need-instantiate-requires
 instantiate-requires c κs = search needs
 
--- src/split.rt:16:1
 returns-3 : tie.Need-returns-3
 unfolding backtracked
 returns-3 c = simp (eq-eqb _ _ (c .before .before .before .if1 .left), sym (c .before .before .look .ensures .met) ∙ c .before .if2 .left) (simp (lt-ltb _ _ (le-trans (c .before .before .before .before .before .pre .a-variable) (c .before .before .before .before .before .pre .fit .few)), lt-ltb _ _ (le-trans (c .before .before .before .before .before .pre .a-value) (c .before .before .before .before .before .pre .fit .small))) at (c .instantiate .ensures))

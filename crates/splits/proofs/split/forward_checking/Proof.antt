@@ -1,35 +1,26 @@
+-- `splits::split::forward_checking` meets its contract.
+-- Assumes nothing.
 use Rattle.splits.proofs.Ranges.{inside-is}
 use borrow.Author.Tests.{eq-eqb, ne-eqb}
 use Rattle.splits.specs.Splits.{checked}
 use native.Mathlib.Omega.{arith}
-use mathlib.Core.Path.{sym, _∙_}
 use borrow.Author.Needs.{needs}
 use Rattle.splits.proofs.split.forward_checking.Statement.{statement}
 use Rattle.splits.proofs.split.forward_checking.Tie as tie
-use Rattle.splits.proofs.split.forward_checking.Reads as reads
-use Rattle.splits.proofs.split.forward_checking.Lts as lts
-use Rattle.splits.proofs.mask.only.Reads as only-reads
-use Rattle.splits.proofs.subproblem.Subproblem.precluded.Reads as precluded-reads
-use Rattle.splits.proofs.subproblem.Subproblem.without.Reads as without-reads
 
--- src/split.rt:35:38
 only-requires : tie.Need-only-requires
 only-requires c κs = omega (arith, c .before .before .pre .fit .small, c .before .before .pre .a-value)
 
--- src/split.rt:35:9
 without-requires : tie.Need-without-requires
 without-requires c κs = search needs
 
--- src/split.rt:35:9
 returns : tie.Need-returns
 unfolding checked
 returns c = simp (ne-eqb _ _ (c .before .before .if1 .taken)) (cc)
 
--- src/split.rt:37:5
 precluded-requires : tie.Need-precluded-requires
 precluded-requires c κs = search needs
 
--- src/split.rt:30:1
 returns-2 : tie.Need-returns-2
 unfolding checked
 returns-2 c = simp (eq-eqb _ _ (c .before .if1 .left)) (simp (inside-is _ _ _ _ _ (c .before .before .before .pre)) at (c .precluded .ensures))

@@ -1,3 +1,5 @@
+-- `splits::split::piece` meets its contract.
+-- Assumes nothing.
 use Rattle.splits.proofs.ByKind.{inside-1, inside-2, inside-3, few, piece-over, piece-1, piece-2, piece-3, piece-4, piece-5, piece-none, peel-place}
 use borrow.Author.Tests.{not-true, not-false}
 use mathlib.Core.Logic.{inl, inr}
@@ -5,88 +7,58 @@ use mathlib.Core.Path.{sym, refl, _∙_}
 use borrow.Author.Needs.{needs}
 use Rattle.splits.proofs.split.piece.Statement.{statement}
 use Rattle.splits.proofs.split.piece.Tie as tie
-use Rattle.splits.proofs.split.piece.Reads as reads
-use Rattle.splits.proofs.split.piece.Lts as lts
-use Rattle.splits.proofs.split.backtracking.Reads as backtracking-reads
-use Rattle.splits.proofs.split.candidates.Reads as candidates-reads
-use Rattle.splits.proofs.split.extraction.Reads as extraction-reads
-use Rattle.splits.proofs.split.forward_checking.Reads as forward-checking-reads
-use Rattle.splits.proofs.split.halving.Reads as halving-reads
-use Rattle.splits.proofs.split.idc.Reads as idc-reads
-use Rattle.splits.proofs.tables.readable.Reads as readable-reads
-use Rattle.splits.proofs.words.kind.Reads as kind-reads
-use Rattle.splits.proofs.words.value.Reads as value-reads
-use Rattle.splits.proofs.words.variable.Reads as variable-reads
 
--- src/split.rt:109:9
 readable-requires : tie.Need-readable-requires
 readable-requires c κs = search needs
 
--- src/split.rt:110:9
 returns : tie.Need-returns
 returns c = simp (sym (c .before .readable .ensures) ∙ not-true _ (c .if1 .taken))
 
--- src/split.rt:112:8
 candidates-requires : tie.Need-candidates-requires
 candidates-requires c κs = search needs
 
--- src/split.rt:113:9
 returns-2 : tie.Need-returns-2
 returns-2 c = piece-over _ _ _ _ _ _ _ (sym (c .before .before .before .readable .ensures) ∙ not-false _ (c .before .before .if1 .left)) (c .before .candidates .ensures) (c .if2 .taken)
 
--- src/split.rt:115:9
 kind-requires : tie.Need-kind-requires
 kind-requires c κs = search needs
 
--- src/split.rt:116:9
 variable-requires : tie.Need-variable-requires
 variable-requires c κs = search needs
 
--- src/split.rt:117:9
 value-requires : tie.Need-value-requires
 value-requires c κs = search needs
 
--- src/split.rt:119:9
 backtracking-requires : tie.Need-backtracking-requires
 backtracking-requires c κs = inside-1 _ _ _ (c .before .before .before .before .before .before .before .before .before .before .args .top) _ (sym (c .before .before .before .before .before .before .before .readable .ensures) ∙ not-false _ (c .before .before .before .before .before .before .if1 .left)) _ (c .before .before .before .kind .ensures) _ _ (c .before .before .variable .ensures) (c .before .value .ensures) (c .if3 .taken)
 
--- src/split.rt:119:9
 returns-3 : tie.Need-returns-3
 returns-3 c = piece-1 _ _ _ _ _ _ _ (sym (c .before .before .before .before .before .before .before .before .readable .ensures) ∙ not-false _ (c .before .before .before .before .before .before .before .if1 .left)) (c .before .before .before .before .before .before .candidates .ensures) (c .before .before .before .before .before .if2 .left) _ (c .before .before .before .before .kind .ensures) _ _ _ (c .before .before .before .variable .ensures) (c .before .before .value .ensures) (c .before .if3 .taken) (c .backtracking .ensures)
 
--- src/split.rt:122:9
 forward-checking-requires : tie.Need-forward-checking-requires
 forward-checking-requires c κs = inside-2 _ _ _ (c .before .before .before .before .before .before .before .before .before .before .before .args .top) _ (sym (c .before .before .before .before .before .before .before .before .readable .ensures) ∙ not-false _ (c .before .before .before .before .before .before .before .if1 .left)) _ (c .before .before .before .before .kind .ensures) _ _ (c .before .before .before .variable .ensures) (c .before .before .value .ensures) (c .if4 .taken)
 
--- src/split.rt:122:9
 returns-4 : tie.Need-returns-4
 returns-4 c = piece-2 _ _ _ _ _ _ _ (sym (c .before .before .before .before .before .before .before .before .before .readable .ensures) ∙ not-false _ (c .before .before .before .before .before .before .before .before .if1 .left)) (c .before .before .before .before .before .before .before .candidates .ensures) (c .before .before .before .before .before .before .if2 .left) _ (c .before .before .before .before .before .kind .ensures) _ _ _ (c .before .before .before .before .variable .ensures) (c .before .before .before .value .ensures) (c .before .if4 .taken) (c .forward-checking .ensures)
 
--- src/split.rt:125:9
 idc-requires : tie.Need-idc-requires
 idc-requires c κs = (inside-3 _ _ _ (c .before .before .before .before .before .before .before .before .before .before .before .before .args .top) _ (sym (c .before .before .before .before .before .before .before .before .before .readable .ensures) ∙ not-false _ (c .before .before .before .before .before .before .before .before .if1 .left)) _ (c .before .before .before .before .before .kind .ensures) _ _ (c .before .before .before .before .variable .ensures) (c .before .before .before .value .ensures) (c .if5 .taken), peel-place _ _ _ (c .before .before .before .before .before .before .before .before .before .before .before .before .args .top) _ _ _ (sym (c .before .before .before .before .before .before .before .before .before .readable .ensures) ∙ not-false _ (c .before .before .before .before .before .before .before .before .if1 .left)) (c .before .before .before .before .before .before .before .candidates .ensures) _ (c .before .before .before .before .before .kind .ensures) (c .before .before .before .before .before .before .if2 .left) (inl (c .if5 .taken)))
 
--- src/split.rt:125:9
 returns-5 : tie.Need-returns-5
 returns-5 c = piece-3 _ _ _ _ _ _ _ (sym (c .before .before .before .before .before .before .before .before .before .before .readable .ensures) ∙ not-false _ (c .before .before .before .before .before .before .before .before .before .if1 .left)) (c .before .before .before .before .before .before .before .before .candidates .ensures) (c .before .before .before .before .before .before .before .if2 .left) _ (c .before .before .before .before .before .before .kind .ensures) _ _ _ (c .before .before .before .before .before .variable .ensures) (c .before .before .before .before .value .ensures) (c .before .if5 .taken) (c .idc .ensures)
 
--- src/split.rt:128:9
 halving-requires : tie.Need-halving-requires
 halving-requires c κs = search needs
 
--- src/split.rt:128:9
 returns-6 : tie.Need-returns-6
 returns-6 c = piece-4 _ _ _ _ _ _ _ (sym (c .before .before .before .before .before .before .before .before .before .before .before .readable .ensures) ∙ not-false _ (c .before .before .before .before .before .before .before .before .before .before .if1 .left)) (c .before .before .before .before .before .before .before .before .before .candidates .ensures) (c .before .before .before .before .before .before .before .before .if2 .left) _ (c .before .before .before .before .before .before .before .kind .ensures) _ _ _ (c .before .before .before .before .before .before .variable .ensures) (c .before .before .before .before .before .value .ensures) (c .before .if6 .taken) (c .halving .ensures)
 
--- src/split.rt:131:9
 extraction-requires : tie.Need-extraction-requires
 extraction-requires c κs = (few _ _ _ _ (sym (c .before .before .before .before .before .before .before .before .before .before .before .readable .ensures) ∙ not-false _ (c .before .before .before .before .before .before .before .before .before .before .if1 .left)), peel-place _ _ _ (c .before .before .before .before .before .before .before .before .before .before .before .before .before .before .args .top) _ _ _ (sym (c .before .before .before .before .before .before .before .before .before .before .before .readable .ensures) ∙ not-false _ (c .before .before .before .before .before .before .before .before .before .before .if1 .left)) (c .before .before .before .before .before .before .before .before .before .candidates .ensures) _ (c .before .before .before .before .before .before .before .kind .ensures) (c .before .before .before .before .before .before .before .before .if2 .left) (inr (c .if7 .taken)))
 
--- src/split.rt:131:9
 returns-7 : tie.Need-returns-7
 returns-7 c = piece-5 _ _ _ _ _ _ _ (sym (c .before .before .before .before .before .before .before .before .before .before .before .before .readable .ensures) ∙ not-false _ (c .before .before .before .before .before .before .before .before .before .before .before .if1 .left)) (c .before .before .before .before .before .before .before .before .before .before .candidates .ensures) (c .before .before .before .before .before .before .before .before .before .if2 .left) _ (c .before .before .before .before .before .before .before .before .kind .ensures) _ (c .before .if7 .taken) (c .extraction .ensures)
 
--- src/split.rt:106:1
 returns-8 : tie.Need-returns-8
 returns-8 c = piece-none _ _ _ _ _ _ _ (sym (c .before .before .before .before .before .before .before .before .before .before .before .readable .ensures) ∙ not-false _ (c .before .before .before .before .before .before .before .before .before .before .if1 .left)) (c .before .before .before .before .before .before .before .before .before .candidates .ensures) (c .before .before .before .before .before .before .before .before .if2 .left) _ (c .before .before .before .before .before .before .before .kind .ensures) _ (c .before .before .before .before .if3 .left) (c .before .before .before .if4 .left) (c .before .before .if5 .left) (c .before .if6 .left) (c .if7 .left) refl
 

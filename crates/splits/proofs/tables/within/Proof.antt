@@ -1,28 +1,23 @@
+-- `splits::tables::within` meets its contract.
+-- Assumes nothing.
 use Rattle.splits.specs.Calls.{inside}
 use borrow.Author.Tests.{le-ltb, lt-ltb}
 use mathlib.Core.Bool.{and-false}
 use borrow.Author.Needs.{needs}
 use Rattle.splits.proofs.tables.within.Statement.{statement}
 use Rattle.splits.proofs.tables.within.Tie as tie
-use Rattle.splits.proofs.tables.within.Reads as reads
-use Rattle.splits.proofs.tables.within.Lts as lts
-use Rattle.splits.proofs.tables.fits.Reads as fits-reads
 
--- src/subproblem.rt:127:9
 returns : tie.Need-returns
 unfolding inside
 returns c = simp (le-ltb _ _ (c .if1 .taken))
 
--- src/subproblem.rt:130:9
 returns-2 : tie.Need-returns-2
 unfolding inside
 returns-2 c = simp (le-ltb _ _ (c .if2 .taken), and-false)
 
--- src/subproblem.rt:132:5
 fits-requires : tie.Need-fits-requires
 fits-requires c κs = search needs
 
--- src/subproblem.rt:123:1
 returns-3 : tie.Need-returns-3
 unfolding inside
 returns-3 c = simp (lt-ltb _ _ (c .before .before .if1 .left), lt-ltb _ _ (c .before .if2 .left)) (c .fits2 .ensures)

@@ -1,3 +1,5 @@
+-- `splits::subproblem::Subproblem::all_instantiated` meets its contract.
+-- Assumes nothing.
 use Rattle.splits.proofs.Subproblems.{marks-all, marks-over, shifted}
 use lib.Pow.{pow-pos}
 use mir.Syntax.{w32}
@@ -5,34 +7,25 @@ use mir.Val.{Fits}
 use borrow.Author.Needs.{needs}
 use Rattle.splits.proofs.subproblem.Subproblem.all_instantiated.Statement.{statement}
 use Rattle.splits.proofs.subproblem.Subproblem.all_instantiated.Tie as tie
-use Rattle.splits.proofs.subproblem.Subproblem.all_instantiated.Reads as reads
-use Rattle.splits.proofs.subproblem.Subproblem.all_instantiated.Lts as lts
 
--- src/subproblem.rt:48:13
 returns : tie.Need-returns
 returns c = let h : Fits w32 (c .before .args .self .marked) = search needs in marks-over _ _ (h .fits) (c .if1 .taken)
 
--- src/subproblem.rt:50:10
 cast-result : tie.Need-cast-result
 cast-result c = search needs
 
--- src/subproblem.rt:50:33
 shl-result : tie.Need-shl-result
 shl-result c = search needs
 
--- src/subproblem.rt:50:9
 rem-result : tie.Need-rem-result
 rem-result c = rw (shifted _ (c .before .if1 .left)) (pow-pos _)
 
--- src/subproblem.rt:50:45
 shl-result-2 : tie.Need-shl-result-2
 shl-result-2 c = search needs
 
--- src/subproblem.rt:50:44
 sub-result : tie.Need-sub-result
 sub-result c = rw (shifted _ (c .before .if1 .left)) (pow-pos _)
 
--- src/subproblem.rt:44:5
 returns-2 : tie.Need-returns-2
 returns-2 c = marks-all _ _ (c .before .if1 .left)
 

@@ -1,14 +1,13 @@
+-- `splits::subproblem::Subproblem::at_targets` meets its contract.
+-- Assumes nothing.
 use Rattle.splits.proofs.Subproblems.{target-next}
 use Rattle.splits.specs.Splits.{atTargets, changed}
 use native.Mathlib.Omega.{arith}
-use Prim.Native.Nat.{ℕ, _≤_, _<_, _-_}
-use mathlib.Core.Path.{_≡_, refl, sym, ap}
+use Prim.Native.Nat.{_≤_, _-_}
+use mathlib.Core.Path.{_≡_, refl}
 use borrow.Author.Needs.{needs}
 use Rattle.splits.proofs.subproblem.Subproblem.at_targets.Statement.{statement}
 use Rattle.splits.proofs.subproblem.Subproblem.at_targets.Tie as tie
-use Rattle.splits.proofs.subproblem.Subproblem.at_targets.Reads as reads
-use Rattle.splits.proofs.subproblem.Subproblem.at_targets.Lts as lts
-use Rattle.splits.proofs.words.target.Reads as target-reads
 
 abbrev Inv-loop : tie.InvT-loop
 Inv-loop request j self₀ i₀ self i = (i ≤ j) × (self ≡ atTargets self₀ request i)
@@ -16,36 +15,28 @@ Inv-loop request j self₀ i₀ self i = (i ≤ j) × (self ≡ atTargets self�
 abbrev μ-loop : tie.MeasureT-loop
 μ-loop request j self₀ i₀ self i = j - i
 
--- src/subproblem.rt:126:9
 loop-holds : tie.Need-loop-holds Inv-loop μ-loop
 unfolding atTargets changed
 loop-holds c = (search needs, refl)
 
--- src/subproblem.rt:127:31
 target-requires : tie.Need-target-requires Inv-loop μ-loop
 target-requires c κs = search needs
 
--- src/subproblem.rt:127:13
 mul-self : tie.Need-mul-self Inv-loop μ-loop
 mul-self c = search needs
 
--- src/subproblem.rt:127:13
 element-write-self : tie.Need-element-write-self Inv-loop μ-loop
 element-write-self c = search needs
 
--- src/subproblem.rt:128:13
 add-i : tie.Need-add-i Inv-loop μ-loop
 add-i c = search needs
 
--- src/subproblem.rt:126:9
 loop-less : tie.Need-loop-less Inv-loop μ-loop
 loop-less c = search needs
 
--- src/subproblem.rt:126:9
 loop-again : tie.Need-loop-again Inv-loop μ-loop
 loop-again c = (omega arith, target-next _ _ _ _ _ (c .before .before .loop .inv .1) (c .target .ensures))
 
--- src/subproblem.rt:121:5
 returns : tie.Need-returns Inv-loop μ-loop
 returns c = let end : c .before .loop .i ≡ c .before .before .before .args .j = omega arith in rw (← end) (c .before .loop .inv .1)
 

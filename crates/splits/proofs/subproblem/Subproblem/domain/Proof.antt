@@ -1,23 +1,19 @@
+-- `splits::subproblem::Subproblem::domain` meets its contract.
+-- Assumes nothing.
 use Rattle.splits.proofs.Subproblems.{domain-out}
 use borrow.Author.Needs.{needs}
 use Rattle.splits.proofs.subproblem.Subproblem.domain.Statement.{statement}
 use Rattle.splits.proofs.subproblem.Subproblem.domain.Tie as tie
-use Rattle.splits.proofs.subproblem.Subproblem.domain.Reads as reads
-use Rattle.splits.proofs.subproblem.Subproblem.domain.Lts as lts
 
--- src/subproblem.rt:44:13
 mul-result : tie.Need-mul-result
 mul-result c = search needs
 
--- src/subproblem.rt:44:13
 element-copy-out-result : tie.Need-element-copy-out-result
 element-copy-out-result c = search needs
 
--- src/subproblem.rt:40:5
 returns : tie.Need-returns
 returns c = search needs
 
--- src/subproblem.rt:40:5
 returns-2 : tie.Need-returns-2
 returns-2 c = domain-out (c .before .args .t1) _ (search needs) (c .if1 .left)
 

@@ -1,17 +1,14 @@
+-- `splits::subproblem::Subproblem::is_empty` meets its contract.
+-- Assumes nothing.
 use Rattle.splits.proofs.Subproblems.{empty-at, empty-over, empty-more}
-use Rattle.splits.proofs.Subproblems.{domain-out}
-use Rattle.splits.proofs.Tests.{some-more, some-at}
 use Rattle.splits.specs.Subproblems.{empty, some}
-use borrow.Author.Tests.{eq-eqb, ne-eqb}
 use native.Mathlib.Omega.{arith}
-use Prim.Native.Nat.{ℕ, _≤_, _<_, _-_}
-use mathlib.Core.Bool.{true, false}
-use mathlib.Core.Path.{_≡_, refl, sym, ap}
+use Prim.Native.Nat.{_≤_, _-_}
+use mathlib.Core.Bool.{false}
+use mathlib.Core.Path.{_≡_, refl, sym}
 use borrow.Author.Needs.{needs}
 use Rattle.splits.proofs.subproblem.Subproblem.is_empty.Statement.{statement}
 use Rattle.splits.proofs.subproblem.Subproblem.is_empty.Tie as tie
-use Rattle.splits.proofs.subproblem.Subproblem.is_empty.Reads as reads
-use Rattle.splits.proofs.subproblem.Subproblem.is_empty.Lts as lts
 
 abbrev Inv-loop : tie.InvT-loop
 Inv-loop n self i₀ i = (i ≤ n) × (empty i self ≡ false)
@@ -19,40 +16,31 @@ Inv-loop n self i₀ i = (i ≤ n) × (empty i self ≡ false)
 abbrev μ-loop : tie.MeasureT-loop
 μ-loop n self i₀ i = n - i
 
--- src/subproblem.rt:58:13
 returns : tie.Need-returns Inv-loop μ-loop
 returns c = empty-over _ _ (search needs) (c .if1 .taken)
 
--- src/subproblem.rt:61:9
 loop-holds : tie.Need-loop-holds Inv-loop μ-loop
 unfolding empty some
 loop-holds c = (search needs, refl)
 
--- src/subproblem.rt:62:16
 mul-if2 : tie.Need-mul-if2 Inv-loop μ-loop
 mul-if2 c = search needs
 
--- src/subproblem.rt:62:16
 element-copy-out-if2 : tie.Need-element-copy-out-if2 Inv-loop μ-loop
 element-copy-out-if2 c = search needs
 
--- src/subproblem.rt:63:17
 returns-2 : tie.Need-returns-2 Inv-loop μ-loop
 returns-2 c = empty-at _ _ _ (c .before .before .loop-test .taken) (c .if2 .taken)
 
--- src/subproblem.rt:65:13
 add-i : tie.Need-add-i Inv-loop μ-loop
 add-i c = search needs
 
--- src/subproblem.rt:61:9
 loop-less : tie.Need-loop-less Inv-loop μ-loop
 loop-less c = search needs
 
--- src/subproblem.rt:61:9
 loop-again : tie.Need-loop-again Inv-loop μ-loop
 loop-again c = (omega arith, empty-more _ _ (c .before .before .before .loop .inv .1) (c .if2 .left))
 
--- src/subproblem.rt:54:5
 returns-3 : tie.Need-returns-3 Inv-loop μ-loop
 returns-3 c = let end : c .before .loop .i ≡ c .before .before .before .args .n = omega arith in rw (← end) (sym (c .before .loop .inv .1))
 

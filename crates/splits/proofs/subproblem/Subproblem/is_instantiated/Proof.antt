@@ -1,3 +1,5 @@
+-- `splits::subproblem::Subproblem::is_instantiated` meets its contract.
+-- Assumes nothing.
 use Rattle.splits.proofs.Masks.{bit-above}
 use Rattle.splits.specs.Masks.{bit}
 use mir.Syntax.{w32}
@@ -6,23 +8,17 @@ use mathlib.Core.Path.{refl}
 use borrow.Author.Needs.{needs}
 use Rattle.splits.proofs.subproblem.Subproblem.is_instantiated.Statement.{statement}
 use Rattle.splits.proofs.subproblem.Subproblem.is_instantiated.Tie as tie
-use Rattle.splits.proofs.subproblem.Subproblem.is_instantiated.Reads as reads
-use Rattle.splits.proofs.subproblem.Subproblem.is_instantiated.Lts as lts
 
--- src/subproblem.rt:55:29
 cast-result : tie.Need-cast-result
 cast-result c = search needs
 
--- src/subproblem.rt:55:14
 shr-result : tie.Need-shr-result
 shr-result c = search needs
 
--- src/subproblem.rt:51:5
 returns : tie.Need-returns
 unfolding bit
 returns c = refl
 
--- src/subproblem.rt:51:5
 returns-2 : tie.Need-returns-2
 returns-2 c = let h : Fits w32 (c .before .args .self .marked) = search needs in simp (bit-above 32 (c .before .args .self .marked) (c .before .args .variable) (h .fits) (c .if1 .left))
 

@@ -1,3 +1,5 @@
+-- `splits::subproblem::Subproblem::precluded` meets its contract.
+-- Assumes nothing.
 use Rattle.splits.proofs.Subproblems.{precluded-made}
 use Rattle.splits.proofs.Ranges.{inside-true}
 use native.Mathlib.Nat.{le-refl}
@@ -5,29 +7,19 @@ use mathlib.Core.Path.{sym, _∙_}
 use borrow.Author.Needs.{needs}
 use Rattle.splits.proofs.subproblem.Subproblem.precluded.Statement.{statement}
 use Rattle.splits.proofs.subproblem.Subproblem.precluded.Tie as tie
-use Rattle.splits.proofs.subproblem.Subproblem.precluded.Reads as reads
-use Rattle.splits.proofs.subproblem.Subproblem.precluded.Lts as lts
-use Rattle.splits.proofs.subproblem.Subproblem.cut_beside.Reads as cut-beside-reads
-use Rattle.splits.proofs.subproblem.Subproblem.instantiate.Reads as instantiate-reads
-use Rattle.splits.proofs.tables.within.Reads as within-reads
 
--- src/subproblem.rt:137:12
 within-requires : tie.Need-within-requires
 within-requires c κs = search needs
 
--- src/subproblem.rt:138:20
 cut-beside-requires : tie.Need-cut-beside-requires
 cut-beside-requires c κs = (inside-true _ _ _ _ _ (sym (c .before .within .ensures) ∙ c .if1 .taken), le-refl _)
 
--- src/subproblem.rt:138:13
 instantiate-requires : tie.Need-instantiate-requires
 instantiate-requires c κs = search needs
 
--- src/subproblem.rt:138:13
 returns : tie.Need-returns
 returns c = precluded-made _ _ _ _ _ _ _ _ (sym (c .before .before .before .within .ensures) ∙ c .before .before .if1 .taken) (c .before .cut-beside .ensures) (c .instantiate .ensures)
 
--- src/subproblem.rt:134:5
 returns-2 : tie.Need-returns-2
 returns-2 c = simp (sym (c .before .within .ensures) ∙ c .if1 .left)
 

@@ -1,3 +1,5 @@
+-- `splits::subproblem::Subproblem::without` meets its contract.
+-- Assumes nothing.
 use Rattle.splits.proofs.Subproblems.{without-in, without-out}
 use lib.ListN.{getD}
 use mir.Syntax.{w16}
@@ -5,30 +7,22 @@ use mir.Val.{Fits}
 use borrow.Author.Needs.{needs}
 use Rattle.splits.proofs.subproblem.Subproblem.without.Statement.{statement}
 use Rattle.splits.proofs.subproblem.Subproblem.without.Tie as tie
-use Rattle.splits.proofs.subproblem.Subproblem.without.Reads as reads
-use Rattle.splits.proofs.subproblem.Subproblem.without.Lts as lts
 
--- src/subproblem.rt:81:38
 mul-self : tie.Need-mul-self
 mul-self c = search needs
 
--- src/subproblem.rt:81:38
 element-copy-out-self : tie.Need-element-copy-out-self
 element-copy-out-self c = search needs
 
--- src/subproblem.rt:81:13
 mul-self-2 : tie.Need-mul-self-2
 mul-self-2 c = search needs
 
--- src/subproblem.rt:81:13
 element-write-self : tie.Need-element-write-self
 element-write-self c = search needs
 
--- src/subproblem.rt:77:5
 returns : tie.Need-returns
 returns c = let h : Fits w16 (getD (c .before .before .args .t1 .domains) (c .before .before .args .variable) 0) = search needs in without-in _ _ _ (h .fits) (c .before .before .fits .mask .fits)
 
--- src/subproblem.rt:77:5
 returns-2 : tie.Need-returns-2
 returns-2 c = without-out _ _ _ (search needs) (c .if1 .left)
 
