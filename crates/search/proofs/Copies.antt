@@ -1,0 +1,116 @@
+-- Memory that a loop writes from the front, and memory of which a part is written anew.
+-- Assumes nothing.
+use mathlib.Core.Path.{_≡_, refl, sym, ap, ap₂, _∙_}
+use mathlib.Core.List.{List, [], _∷_, _++_, append-assoc, append-nil}
+use Prim.Native.Nat.{ℕ, zero, suc, _+_, _-_, _*_, _≤_, _<_, min}
+use native.Mathlib.Omega.{arith}
+use native.Mathlib.Nat.{zero-mul, mul-le-mul-left, mul-le-mul-right}
+use native.Mathlib.Numerals.{add-one}
+use lib.ListN.{length, getD, take, drop, set, replicate, length-append, length-take, length-drop, length-replicate, length-set, take-append-drop, replicate-append-replicate}
+use borrow.Rule.Slice.PartMut.{putMid, midOf, post-is, mid-len}
+use borrow.Author.Fill.{fill-more}
+use lib.Seq.{length-take-le, take-suc, drop-cons, append-snoc, set-at, take-at, drop-at, drop-drop, take-all, drop-length}
+use Rattle.search.specs.Work.Slots.{splice, SlotIn}
+
+-- One word more of a copy.
+pub copy-more : (src d m : List ℕ) (i x : ℕ) → m ≡ take i src ++ drop i d → x ≡ getD src i 0 → i < length src → i < length d
+    → set m i x ≡ take (i + 1) src ++ drop (i + 1) d
+copy-more src d m i x e s h k =
+    rw (e, s, add-one, drop-cons d i 0)
+    (set-at (take i src) (getD d i 0) (drop (suc i) d) (getD src i 0) i (length-take-le i src (omega arith))
+    ∙ sym (append-snoc (take i src) (getD src i 0) (drop (suc i) d)) ∙ rw (take-suc src i 0) refl)
+
+-- The copy is as long as what it is written into.
+pub copy-length : (src d m : List ℕ) (i : ℕ) → m ≡ take i src ++ drop i d → i ≤ length src → i ≤ length d → length m ≡ length d
+copy-length src d m i e h k = rw e (simp (length-append, length-take, length-drop) (omega arith))
+
+-- At its end the copy is what was copied.
+pub copy-end : (src d m : List ℕ) (i : ℕ) → m ≡ take i src ++ drop i d → i ≡ length d → m ≡ take (length d) src
+copy-end src d m i e h = rw (e, h, drop-length, append-nil) refl
+
+-- What is left of zeros is zeros.
+pub drop-zeros : (k i : ℕ) → drop {A = ℕ} i (replicate k 0) ≡ replicate (k - i) 0
+drop-zeros zero zero = refl
+drop-zeros zero (suc i) = let e : 0 ≡ 0 - suc i = omega arith in ap (λ (j : ℕ). replicate {A = ℕ} j 0) e
+drop-zeros (suc k) zero = let e : suc k ≡ suc k - 0 = omega arith in ap (λ (j : ℕ). replicate {A = ℕ} j 0) e
+drop-zeros (suc k) (suc i) = let e : k - i ≡ suc k - suc i = omega arith in drop-zeros k i ∙ ap (λ (j : ℕ). replicate {A = ℕ} j 0) e
+
+-- Zeros of a number of words.
+pub zeros-end : (d m : List ℕ) (i : ℕ) → m ≡ replicate i 0 ++ drop i d → i ≡ length d → m ≡ replicate (length d) 0
+zeros-end d m i e h = rw (e, h, drop-length, append-nil) refl
+
+pub zeros-length : (d m : List ℕ) (i : ℕ) → m ≡ replicate i 0 ++ drop i d → i ≤ length d → length m ≡ length d
+zeros-length d m i e h = rw e (simp (length-append, length-replicate, length-drop) (omega arith))
+
+-- One zero more.
+pub zeros-more : (d m : List ℕ) (i : ℕ) → m ≡ replicate i 0 ++ drop i d → i < length d → set m i 0 ≡ replicate (i + 1) 0 ++ drop (i + 1) d
+zeros-more d m i e h = rw e (fill-more i 0 d h)
+
+-- ---- a part written anew
+
+-- The whole stays as long.
+pub splice-length : (l : List ℕ) (a : ℕ) (ws : List ℕ) → a + length ws ≤ length l → length (splice l a ws) ≡ length l
+unfolding splice
+splice-length l a ws h = simp (length-append, length-take, length-drop) (omega arith)
+
+-- A part that lies between two others.
+pub splice-between : (p q r ws : List ℕ) (a : ℕ) → length p ≡ a → length ws ≡ length q → splice (p ++ (q ++ r)) a ws ≡ p ++ (ws ++ r)
+unfolding splice
+splice-between p q r ws a e s =
+    let seam : length (p ++ q) ≡ a + length ws = simp length-append (omega arith) in
+    let rest : drop (a + length ws) (p ++ (q ++ r)) ≡ r = rw (← append-assoc) (drop-at (p ++ q) r (a + length ws) seam) in
+    rw (take-at p (q ++ r) a e, rest)
+
+-- Two parts, one after the other.
+pub splice-splice : (l : List ℕ) (a : ℕ) (t ws : List ℕ) (b : ℕ) → a + length t ≡ b → b ≤ length l
+    → splice (splice l a t) b ws ≡ splice l a (t ++ ws)
+unfolding splice
+splice-splice l a t ws b e h =
+    let seam : length (take a l ++ t) ≡ b = simp (length-append, length-take) (omega arith) in
+    let rest : List ℕ = drop (a + length t) l in
+    let whole : take a l ++ (t ++ rest) ≡ (take a l ++ t) ++ rest = sym (append-assoc (take a l) t rest) in
+    let front : take b (take a l ++ (t ++ rest)) ≡ take a l ++ t = rw whole (take-at (take a l ++ t) rest b seam) in
+    let sum : a + length t + length ws ≡ a + length (t ++ ws) = simp length-append (omega arith) in
+    let back : drop (b + length ws) (take a l ++ (t ++ rest)) ≡ drop (a + length (t ++ ws)) l =
+    sym (drop-drop (length ws) b (take a l ++ (t ++ rest)))
+    ∙ ap (drop (length ws)) (rw whole (drop-at (take a l ++ t) rest b seam))
+    ∙ drop-drop (length ws) (a + length t) l ∙ ap (λ (j : ℕ). drop j l) sum in
+    rw (front, back) (simp append-assoc)
+
+-- A part written after another was.
+pub splice-twice : (l m r z ws : List ℕ) (a : ℕ) → r ≡ splice m a ws → m ≡ splice l a z → r ≡ splice (splice l a z) a ws
+splice-twice l m r z ws a e s = rw (e, s) refl
+
+-- A slot below the last of whole slots lies within them.
+pub slot-below : (n k slots words : ℕ) → n ≤ 32 → k < slots → slots * (n + 2) ≤ words → SlotIn n k words
+slot-below n k slots words few h fits =
+    let up : (k + 1) * (n + 2) ≤ slots * (n + 2) = mul-le-mul-right (n + 2) (omega arith) in record { few = few; within = omega arith }
+
+-- A slot's number is less than the number of words.
+pub slot-end : (n k words : ℕ) → SlotIn n k words → k + 1 ≤ words
+slot-end n k words s = let one : (k + 1) * 1 ≤ (k + 1) * (n + 2) = mul-le-mul-left (k + 1) (omega arith) in omega (arith, s .within)
+
+-- No slot of zeros yet.
+pub clear-none : (d : List ℕ) (w : ℕ) → d ≡ replicate (0 * w) 0 ++ drop (0 * w) d
+clear-none d w = rw zero-mul refl
+
+-- A slot more of zeros.
+pub clear-more : (d m : List ℕ) (a w b : ℕ) → m ≡ replicate a 0 ++ drop a d → a + w ≡ b → b ≤ length d
+    → splice m a (replicate w 0) ≡ replicate b 0 ++ drop b d
+clear-more d m a w b e s h =
+    let fits : length {A = ℕ} (replicate w 0) ≡ length (take w (drop a d)) = simp (length-replicate, length-take, length-drop) (omega arith) in
+    let parts : drop a d ≡ take w (drop a d) ++ drop w (drop a d) = sym (take-append-drop w (drop a d)) in
+    rw (e ∙ ap (λ (t : List ℕ). replicate a 0 ++ t) parts) (splice-between (replicate a 0) (take w (drop a d)) (drop w (drop a d)) (replicate w 0) a (length-replicate a 0) fits
+    ∙ sym (append-assoc (replicate a 0) (replicate w 0) (drop w (drop a d)))
+    ∙ rw (replicate-append-replicate, drop-drop, s) refl)
+
+-- What a callee left in a part that was lent to it, as a splice of the whole.
+pub put-part : (l ys ws : List ℕ) (a w : ℕ) → ys ≡ ws → length ws ≡ w → putMid a ((a + w) - a) l ys ≡ splice l a ws
+unfolding splice
+put-part l ys ws a w e s = rw (e, post-is a (a + w) l (omega arith), s) refl
+
+pub put-zeros : (l ys : List ℕ) (a w : ℕ) → ys ≡ replicate (length (midOf a ((a + w) - a) l)) 0 → a + w ≤ length l
+    → putMid a ((a + w) - a) l ys ≡ splice l a (replicate w 0)
+put-zeros l ys a w e h =
+    let long : length (midOf a ((a + w) - a) l) ≡ w = mid-len a (a + w) l h ∙ omega arith in
+    put-part l ys (replicate w 0) a w (e ∙ ap (λ (k : ℕ). replicate k 0) long) (length-replicate w 0)

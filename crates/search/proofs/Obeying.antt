@@ -1,0 +1,105 @@
+-- What the code finds of one domain of a subproblem, and of the values of two instantiated variables, is what the tests say.
+-- Assumes nothing.
+use mathlib.Core.Path.{_≡_, sym, ap, _∙_}
+use mathlib.Core.Bool.{Bool, true, false, not, and-false, or-true}
+use mathlib.Core.List.{List}
+use Prim.Native.Nat.{ℕ, _+_, _-_, _*_, _^_, _≤_, _<_}
+use native.Mathlib.Omega.{arith}
+use native.Mathlib.Nat.{mul-le-mul}
+use lib.Arith.{digits-lt}
+use lib.Bits.{bitAnd}
+use lib.ListN.{length, List·getD-eq-default}
+use lib.Dec.{eqb}
+use borrow.Author.Tests.{eq-eqb, ne-eqb}
+use Rattle.splits.specs.Masks.{bit, minus, size, lowest}
+use Rattle.splits.specs.Problem.{Table, tableOf}
+use Rattle.splits.specs.Subproblems.{domain}
+use Rattle.splits.specs.Work.Ranges.{Sized}
+use Rattle.splits.specs.declared.subproblem.Subproblem.{Subproblem}
+use Rattle.splits.proofs.Masks.{not-minus, bit-none}
+use Rattle.splits.proofs.Refusals.{lacks}
+use Rattle.splits.proofs.Tests.{every-all}
+use Rattle.search.specs.Work.FirstTests.{partObeys, pairAgrees, rowAgrees}
+
+-- ---- one domain, m, beside the problem's
+
+module _ (whole : ℕ) (P : Subproblem) (i m : ℕ) (same : m ≡ domain P i) where
+  -- it is empty
+  pub part-empty : m ≡ 0 → false ≡ partObeys whole P i
+  unfolding partObeys
+  part-empty e = rw (← same, e)
+
+  -- it has a value that the problem's has not
+  pub part-over : m < 2 ^ 16 → whole < 2 ^ 16 → (bitAnd m (65535 - whole) ≡ 0 → ⊥) → false ≡ partObeys whole P i
+  unfolding partObeys
+  part-over h k f =
+      let over : eqb (minus m whole) 0 ≡ false = ne-eqb (minus m whole) 0 (λ z. f (not-minus 16 m whole h k ∙ z)) in
+      rw (← same) (simp (over, and-false))
+
+  -- it is a part; whether the variable is instantiated, and then its size, decides
+  pub part-marked : (b r : Bool) (s : ℕ) → m < 2 ^ 16 → whole < 2 ^ 16 → (m ≡ 0 → ⊥) → bitAnd m (65535 - whole) ≡ 0
+      → b ≡ eqb (bit (P .marked) i) 1 → b ≡ true → s ≡ size m → r ≡ eqb s 1 → r ≡ partObeys whole P i
+  unfolding partObeys
+  part-marked b r s h k f g e y z q =
+      let within : eqb (minus m whole) 0 ≡ true = eq-eqb (minus m whole) 0 (sym (not-minus 16 m whole h k) ∙ g) in
+      let marked : eqb (bit (P .marked) i) 0 ≡ false = lacks (P .marked) i b e ∙ ap not y in
+      rw (← same) (simp (ne-eqb m 0 f, within, marked) (q ∙ ap (λ (x : ℕ). eqb x 1) z))
+
+  -- the same, where it is not instantiated
+  pub part-unmarked : (b : Bool) → m < 2 ^ 16 → whole < 2 ^ 16 → (m ≡ 0 → ⊥) → bitAnd m (65535 - whole) ≡ 0
+      → b ≡ eqb (bit (P .marked) i) 1 → b ≡ false → true ≡ partObeys whole P i
+  unfolding partObeys
+  part-unmarked b h k f g e y =
+      let within : eqb (minus m whole) 0 ≡ true = eq-eqb (minus m whole) 0 (sym (not-minus 16 m whole h k) ∙ g) in
+      let marked : eqb (bit (P .marked) i) 0 ≡ true = lacks (P .marked) i b e ∙ ap not y in
+      rw (← same) (simp (ne-eqb m 0 f, within, marked))
+
+-- ---- the values of two variables
+
+module _ (allowed : Table) (P : Subproblem) (i j : ℕ) where
+  pub agrees-same : i ≡ j → true ≡ pairAgrees allowed P i j
+  unfolding pairAgrees
+  agrees-same e = simp (eq-eqb i j e)
+
+  -- one of them is not instantiated
+  pub agrees-first : (b : Bool) → b ≡ eqb (bit (P .marked) i) 1 → not b ≡ true → true ≡ pairAgrees allowed P i j
+  unfolding pairAgrees
+  agrees-first b e y = simp (lacks (P .marked) i b e ∙ y, or-true)
+
+  pub agrees-second : (b : Bool) → b ≡ eqb (bit (P .marked) j) 1 → not b ≡ true → true ≡ pairAgrees allowed P i j
+  unfolding pairAgrees
+  agrees-second b e y = simp (lacks (P .marked) j b e ∙ y, or-true)
+
+  -- both are: their values decide
+  pub agrees-values : (b c r : Bool) (s t a v : ℕ) → (i ≡ j → ⊥) → b ≡ eqb (bit (P .marked) i) 1 → not b ≡ false
+      → c ≡ eqb (bit (P .marked) j) 1 → not c ≡ false → s ≡ domain P i → a ≡ lowest s → t ≡ domain P j → v ≡ lowest t
+      → r ≡ eqb (bit (allowed i j a) v) 1 → r ≡ pairAgrees allowed P i j
+  unfolding pairAgrees
+  agrees-values b c r s t a v f e y k z es ea et ev h =
+      simp (ne-eqb i j f, lacks (P .marked) i b e ∙ y, lacks (P .marked) j c k ∙ z) (rw (ea, es, ev, et) at h)
+
+-- a variable that is not instantiated agrees with every other
+pub row-unmarked : (n : ℕ) (allowed : Table) (P : Subproblem) (i : ℕ) (b : Bool) → b ≡ eqb (bit (P .marked) i) 1 → not b ≡ true
+    → true ≡ rowAgrees n allowed P i
+unfolding rowAgrees
+row-unmarked n allowed P i b e y = sym (every-all (pairAgrees allowed P i) n (λ j h. sym (agrees-first allowed P i j b e y)))
+
+-- what is worked out on the way to a mask is small
+pub record Row (n d i j : ℕ) : Type 0 where
+  pub row : i * n ≤ 1024
+  pub pair : i * n + j ≤ 1024
+  pub masks : (i * n + j) * d ≤ 16384
+
+-- of two of the n variables it is
+pub in-row : (n d i j : ℕ) (t : List ℕ) → Sized n d t → i < n → j < n → Row n d i j
+in-row n d i j t s h k =
+    let sq : n * n ≤ 32 * 32 = mul-le-mul (s .few) (s .few) in
+    let at : i * n + j < n * n = digits-lt h k in
+    let le : i * n + j ≤ 1024 = omega arith in
+    let most : (i * n + j) * d ≤ 1024 * 16 = mul-le-mul le (s .small) in
+    record { row = omega arith; pair = le; masks = most }
+
+-- past the tables' end nothing is allowed
+pub allowed-out : (n d : ℕ) (t : List ℕ) (i j a v : ℕ) → length t ≤ (i * n + j) * d + a → false ≡ eqb (bit (tableOf n d t i j a) v) 1
+unfolding tableOf
+allowed-out n d t i j a v h = rw (List·getD-eq-default t 0 h, bit-none v)

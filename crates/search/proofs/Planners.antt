@@ -1,0 +1,36 @@
+-- What the statement of a run says at the input at which five wrong planners are tried, worked out.
+-- Assumes nothing.
+use mathlib.Core.Path.{_≡_}
+use mathlib.Core.List.{List, [], _∷_}
+use Prim.Native.Nat.{ℕ}
+use lib.Count.{ones, onesIn, trailingZeros}
+use Rattle.splits.specs.Masks.{bit, minus, smallest, smallerHalf}
+use Rattle.splits.specs.Problem.{tableOf, total}
+use Rattle.splits.specs.Subproblems.{empty, instantiated, some, every}
+use Rattle.splits.specs.Splits.{below, keep, changed, instantiate, without, cut, cutBeside, atTargets, forbids, instantiatedOther, forbidden, precluded, disjunct, extract, backtracking, forwardChecking, idc, halving, extraction, named, pieces}
+use Rattle.splits.specs.Checks.{lookedAt, others, tried, valuesIn, checks}
+use Rattle.splits.specs.Refusals.{refused-7, refused-8, refused-9, bad, someBad, allSame, refused-10, refusalOf}
+use Rattle.search.specs.Agenda.{holding, slotWords, subproblemOf, slotAt, stackOf, stackWords, agendaOf}
+use Rattle.search.specs.Verdicts.{finished, verdictOf}
+use Rattle.search.specs.Runs.{splitTop, step, refusalOfTop, refusalOfRequest, runFrom, cutInto, requestsIn}
+use Rattle.search.specs.FirstChecks.{refusalOfNumbers, wholeSlots, refusalOfLengths, refusalOfRequests, masksBelow, symmetric, refusalOfProblem, domainObeys, valuesAgree, obeys, allObey, zerosFrom, refusalOfSearch, runRefusal}
+use Rattle.search.specs.Promises.{Right}
+use Rattle.search.specs.declared.state.Ran.{Ran}
+use Rattle.search.specs.declared.state.Verdict.the-variants.{Running}
+
+-- Both requests are taken: 1,2 with 0 marked is left, after 2 steps and 1 check.
+pub record Says (after : List ℕ) (r : Ran) : Type 0 where
+  pub verdict : r .verdict ≡ Running
+  pub refusal : r .refusal ≡ 0
+  pub steps : r .state .counts .steps .0 ≡ 2
+  pub checks : r .state .counts .checks .0 ≡ 1
+  pub agenda : after ≡ 1 ∷ 2 ∷ 0 ∷ 1 ∷ 0 ∷ 0 ∷ 0 ∷ 0 ∷ []
+
+pub says : (after : List ℕ) (r : Ran) → Right after r → Says after r
+unfolding runRefusal refusalOfNumbers refusalOfLengths wholeSlots refusalOfRequests refusalOfProblem masksBelow symmetric refusalOfSearch allObey obeys
+    domainObeys valuesAgree zerosFrom tableOf stackOf subproblemOf slotAt agendaOf stackWords slotWords requestsIn cutInto
+    holding runFrom finished refusalOfRequest refusalOfTop refusalOf refused-7 refused-8 refused-9 refused-10 bad someBad allSame
+    step splitTop pieces named keep below backtracking forwardChecking idc halving extraction instantiate without cut cutBeside atTargets forbids
+    instantiatedOther forbidden precluded disjunct extract changed empty some every instantiated smallest smallerHalf minus bit ones onesIn trailingZeros
+    checks lookedAt others tried valuesIn total verdictOf
+says after r h = record { verdict = h .verdict; refusal = h .refusal; steps = h .steps; checks = h .checks; agenda = h .agenda }

@@ -1,0 +1,129 @@
+-- When a search is unsolvable, solved or running, and that it is finished when it is not running.
+-- Assumes nothing.
+use mathlib.Core.Path.{_≡_, refl, sym}
+use mathlib.Core.Logic.{_↔_}
+use mathlib.Core.Bool.{Bool, true, false, cond}
+use mathlib.Core.List.{List, [], _∷_}
+use Prim.Native.Nat.{ℕ, _<_}
+use native.Mathlib.Omega.{arith}
+use lib.Dec.{eqb}
+use borrow.Author.Tests.{eq-eqb, eqb-true}
+use Rattle.splits.specs.Masks.{bit, single, lowest}
+use Rattle.splits.specs.Problem.{Problem, Solution}
+use Rattle.splits.specs.Subproblems.{domain, Instantiated, instantiated}
+use Rattle.splits.specs.declared.subproblem.Subproblem.{Subproblem}
+use Rattle.splits.proofs.Masks.{single-of}
+use Rattle.splits.proofs.Pieces.{Held}
+use Rattle.splits.proofs.Splitting.{lowest-in}
+use Rattle.splits.proofs.Tests.{true-false, every-at, every-all}
+use Rattle.search.specs.Verdicts.{verdictOf, finished}
+use Rattle.search.specs.declared.state.Verdict.the-variants.{Running, Solved, Unsolvable}
+
+-- Verdicts are told apart.
+pub solved-running : Solved ≡ Running → ⊥
+solved-running e = let z : _≡_ {A = ℕ} 0 1 = cc in omega arith
+
+pub unsolvable-running : Unsolvable ≡ Running → ⊥
+unsolvable-running e = let z : _≡_ {A = ℕ} 0 1 = cc in omega arith
+
+pub unsolvable-solved : Unsolvable ≡ Solved → ⊥
+unsolvable-solved e = let z : _≡_ {A = ℕ} 0 1 = cc in omega arith
+
+-- A stack is not both empty and not.
+pub some-none : (P : Subproblem) (S : List Subproblem) → P ∷ S ≡ [] → ⊥
+some-none P S e = let z : _≡_ {A = ℕ} 0 1 = cc in omega arith
+
+-- The test of the top, and what it says.
+pub all-instantiated : (n : ℕ) (P : Subproblem) → instantiated n P ≡ true → (i : ℕ) → i < n → Instantiated P i
+unfolding instantiated
+all-instantiated n P e i l = eqb-true (bit (P .marked) i) 1 (every-at (λ i. eqb (bit (P .marked) i) 1) n i l e)
+
+pub instantiated-all : (n : ℕ) (P : Subproblem) → ((i : ℕ) → i < n → Instantiated P i) → instantiated n P ≡ true
+unfolding instantiated
+instantiated-all n P h = every-all (λ i. eqb (bit (P .marked) i) 1) n (λ i l. eq-eqb (bit (P .marked) i) 1 (h i l))
+
+pub top-solved : (n : ℕ) (P : Subproblem) (S : List Subproblem) → verdictOf n (P ∷ S) ≡ Solved → instantiated n P ≡ true
+unfolding verdictOf
+top-solved n P S e = go (instantiated n P) e
+  where
+    go : (b : Bool) → cond b Solved Running ≡ Solved → b ≡ true
+    go true e = refl
+    go false e = absurd (solved-running (sym e))
+
+-- Finished is not running.
+pub finished-not : (n : ℕ) (S : List Subproblem) → finished n S ≡ true → verdictOf n S ≡ Running → ⊥
+unfolding finished verdictOf
+finished-not n [] e h = unsolvable-running h
+finished-not n (P ∷ S) e h = go (instantiated n P) e h
+  where
+    go : (b : Bool) → b ≡ true → cond b Solved Running ≡ Running → ⊥
+    go true e h = solved-running h
+    go false e h = true-false (sym e)
+
+pub running : (n : ℕ) (S : List Subproblem) → finished n S ≡ false → verdictOf n S ≡ Running
+unfolding finished verdictOf
+running n [] e = absurd (true-false e)
+running n (P ∷ S) e = rw e
+
+pub not-running : (n : ℕ) (S : List Subproblem) → (verdictOf n S ≡ Running → ⊥) → finished n S ≡ true
+not-running n S h = go (finished n S) refl
+  where
+    go : (b : Bool) → finished n S ≡ b → b ≡ true
+    go true e = refl
+    go false e = absurd (h (running n S e))
+
+pub is-running : (n : ℕ) (S : List Subproblem) → verdictOf n S ≡ Running → finished n S ≡ false
+is-running n S h = go (finished n S) refl
+  where
+    go : (b : Bool) → finished n S ≡ b → b ≡ false
+    go true e = absurd (finished-not n S e h)
+    go false e = refl
+
+-- A running search has a top.
+pub running-top : (n : ℕ) (S : List Subproblem) → finished n S ≡ false → (P : Subproblem) × (T : List Subproblem) × (S ≡ P ∷ T)
+unfolding finished
+running-top n [] e = absurd (true-false e)
+running-top n (P ∷ T) e = (P, T, refl)
+
+-- ---- when each verdict is given
+
+pub unsolvable-if : (n : ℕ) (S : List Subproblem) → (verdictOf n S ≡ Unsolvable) ↔ (S ≡ [])
+unfolding verdictOf
+unsolvable-if n [] = (λ e. refl, λ e. refl)
+unsolvable-if n (P ∷ S) = (λ e. absurd (go (instantiated n P) e), λ e. absurd (some-none P S e))
+  where
+    go : (b : Bool) → cond b Solved Running ≡ Unsolvable → ⊥
+    go true e = unsolvable-solved (sym e)
+    go false e = unsolvable-running (sym e)
+
+pub solved-if : (n : ℕ) (P : Subproblem) (S : List Subproblem) → (verdictOf n (P ∷ S) ≡ Solved) ↔ ((i : ℕ) → i < n → Instantiated P i)
+unfolding verdictOf
+solved-if n P S = (λ e. all-instantiated n P (top-solved n P S e), λ h. rw (instantiated-all n P h))
+
+pub running-if : (n : ℕ) (S : List Subproblem)
+    → (verdictOf n S ≡ Running) ↔ ((verdictOf n S ≡ Unsolvable → ⊥) × (verdictOf n S ≡ Solved → ⊥))
+unfolding verdictOf
+running-if n [] = (λ e. absurd (unsolvable-running e), λ h. absurd (h .0 refl))
+running-if n (P ∷ S) = go (instantiated n P)
+  where
+    go : (b : Bool) → (cond b Solved Running ≡ Running) ↔ ((cond b Solved Running ≡ Unsolvable → ⊥) × (cond b Solved Running ≡ Solved → ⊥))
+    go true = (λ e. absurd (solved-running e), λ h. absurd (h .1 refl))
+    go false = (λ e. (λ f. unsolvable-running (sym f), λ f. solved-running (sym f)), λ h. refl)
+
+-- ---- what "solved" shows
+
+pub solved-top : (n : ℕ) (S : List Subproblem) → verdictOf n S ≡ Solved → (P : Subproblem) × (T : List Subproblem) × (S ≡ P ∷ T) × (instantiated n P ≡ true)
+unfolding verdictOf
+solved-top n [] e = absurd (unsolvable-solved e)
+solved-top n (P ∷ T) e = (P, T, refl, top-solved n P T e)
+
+-- A subproblem on the agenda with every variable instantiated is a solution of the problem, each variable at its one value.
+pub shown : {p : Problem} {P : Subproblem} → Held p P → ((i : ℕ) → i < p .n → Instantiated P i)
+    → ((i : ℕ) → i < p .n → domain P i ≡ single (lowest (domain P i))) × Solution (p .n) (p .allowed) (p .domain) (λ i. lowest (domain P i))
+shown {p} {P} held all = (
+  λ i k. single-of (domain P i) (lowest (domain P i)) (held .rules .one-value i k (all i k)) (lowest-in held i k),
+  record {
+    possible = λ i k. held .rules .part i k (lowest (domain P i)) (lowest-in held i k);
+    consistent = λ i j k l d. held .rules .mutual-values i j _ _ k l d (all i k) (all j l) (lowest-in held i k) (lowest-in held j l);
+  },
+)

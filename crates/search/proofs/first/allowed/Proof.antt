@@ -1,0 +1,42 @@
+-- `first::allowed` meets its contract: the place is inside the tables.
+-- Assumes nothing.
+use mathlib.Core.Path.{refl}
+use native.Mathlib.Omega.{arith}
+use Rattle.splits.specs.Problem.{tableOf}
+use Rattle.splits.proofs.Ranges.{in-table}
+use Rattle.search.proofs.first.allowed.Statement.{statement}
+use Rattle.search.proofs.first.allowed.Tie as tie
+
+mul-result : tie.Need-mul-result
+mul-result c = omega (arith, in-table _ _ _ _ _ _ (c .pre .0) (c .pre .1))
+
+add-result : tie.Need-add-result
+add-result c = omega (arith, in-table _ _ _ _ _ _ (c .pre .0) (c .pre .1))
+
+mul-result-2 : tie.Need-mul-result-2
+mul-result-2 c = omega (arith, in-table _ _ _ _ _ _ (c .pre .0) (c .pre .1))
+
+add-result-2 : tie.Need-add-result-2
+add-result-2 c = omega (arith, in-table _ _ _ _ _ _ (c .pre .0) (c .pre .1), c .pre .1 .third, c .pre .0 .small)
+
+mul-result-3 : tie.Need-mul-result-3
+mul-result-3 c = omega (arith, in-table _ _ _ _ _ _ (c .pre .0) (c .pre .1), c .pre .1 .third, c .pre .0 .small)
+
+shared-slice-read-result : tie.Need-shared-slice-read-result
+shared-slice-read-result c = in-table _ _ _ _ _ _ (c .before .pre .0) (c .before .pre .1) .word
+
+returns : tie.Need-returns
+unfolding tableOf
+returns c = refl
+
+pub allowed-spec : {M : Type 1} → statement M
+allowed-spec =
+    tie.close
+    (tie.spec
+    mul-result
+    add-result
+    mul-result-2
+    add-result-2
+    mul-result-3
+    shared-slice-read-result
+    returns)

@@ -1,0 +1,26 @@
+-- `first::search_refusal` meets its contract: opening's first checks, then the search.
+-- Assumes nothing.
+use mathlib.Core.Path.{sym, _∙_}
+use borrow.Author.Needs.{needs}
+use Rattle.search.specs.FirstChecks.{searchRefusal}
+use Rattle.search.proofs.FirstParts.{else-first, else-rest, open-pass}
+use Rattle.search.proofs.first.search_refusal.Statement.{statement}
+use Rattle.search.proofs.first.search_refusal.Tie as tie
+
+open-refusal-requires : tie.Need-open-refusal-requires
+open-refusal-requires c κs = search needs
+
+returns : tie.Need-returns
+unfolding searchRefusal
+returns c = else-first _ _ _ (c .before .open-refusal .ensures) (c .if1 .taken)
+
+refusal-of-search-requires : tie.Need-refusal-of-search-requires
+refusal-of-search-requires c κs = open-pass _ _ _ _ _ (sym (c .before .open-refusal .ensures) ∙ c .if1 .left)
+
+returns-2 : tie.Need-returns-2
+unfolding searchRefusal
+returns-2 c = else-rest _ _ _ (sym (c .before .before .open-refusal .ensures) ∙ c .before .if1 .left) (c .refusal-of-search .ensures)
+
+pub search-refusal-spec : {M : Type 1} → statement M
+search-refusal-spec =
+    tie.close (tie.spec open-refusal-requires returns refusal-of-search-requires returns-2)

@@ -1,0 +1,10 @@
+-- The search, in the order of document 01. What only mirrors a loop of the code stands in Work.
+pub mod Agenda
+pub mod Verdicts
+pub mod Runs
+pub mod Chooser
+pub mod FirstChecks
+pub mod Calls
+pub mod Cases
+pub mod Promises
+pub mod Work

@@ -1,0 +1,6 @@
+-- Definitions that mirror a loop or a test of the code. No public contract and no promise cites them.
+pub mod FirstTests
+pub mod Slots
+pub mod Kept
+pub mod Choices
+pub mod Ends

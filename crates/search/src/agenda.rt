@@ -1,0 +1,112 @@
+// The lent agenda: slots of n + 2 words, slot 0 the bottom. Slots are read, written and cleared here and nowhere else.
+use splits::subproblem::Subproblem;
+ghost use mathlib.Core.Path.{_≡_};
+ghost use Prim.Native.Nat.{ℕ, _+_, _*_, _≤_, _<_};
+ghost use lib.ListN.{length, take, replicate};
+ghost use Rattle.search.specs.Agenda.{holding, slotWords, subproblemOf, slotAt, slotsIn};
+ghost use Rattle.search.specs.Work.Slots.{splice, SlotIn};
+
+// The subproblem of the first `n` words as domains.
+pub(crate) fn holding(n: usize, words: &[u16], marked: u32) -> Subproblem
+    requires { ⌜ (n ≤ 32) × (n ≤ length (now words)) ⌝ }
+    ensures { λ r. ⌜ r ≡ holding n (now (words .entry)) marked ⌝ }
+{
+    let mut domains = [0u16; 32];
+    let mut i = 0;
+    while i < n {
+        domains[i] = words[i];
+        i += 1;
+    }
+    Subproblem { domains, marked }
+}
+
+// The marked set of two words, high first.
+fn marked_of(high: u16, low: u16) -> u32
+    ensures { λ r. ⌜ r ≡ high * 65536 + low ⌝ }
+{
+    (high as u32) * 65536 + (low as u32)
+}
+
+// The subproblem that the words of a slot hold.
+fn subproblem_of(n: usize, slot: &[u16]) -> Subproblem
+    requires { ⌜ (n ≤ 32) × (length (now slot) ≡ n + 2) ⌝ }
+    ensures { λ r. ⌜ r ≡ subproblemOf n (now (slot .entry)) ⌝ }
+{
+    holding(n, slot, marked_of(slot[n], slot[n + 1]))
+}
+
+// The subproblem in slot `k`.
+pub(crate) fn read_slot(n: usize, agenda: &[u16], k: usize) -> Subproblem
+    requires { ⌜ SlotIn n k (length (now agenda)) ⌝ }
+    ensures { λ r. ⌜ r ≡ subproblemOf n (slotAt n (now (agenda .entry)) k) ⌝ }
+{
+    let at = k * (n + 2);
+    let end = at + (n + 2);
+    subproblem_of(n, &agenda[at..end])
+}
+
+// A domain for each word.
+fn put_domains(words: &mut [u16], p: Subproblem)
+    requires { ⌜ length (now words) ≤ 32 ⌝ }
+    ensures { λ r. ⌜ now (words .exit) ≡ take (length (now (words .entry))) (p .domains) ⌝ }
+{
+    let mut i = 0;
+    while i < words.len() {
+        words[i] = p.domain(i);
+        i += 1;
+    }
+}
+
+// The words of a slot.
+fn put_words(n: usize, slot: &mut [u16], p: Subproblem)
+    requires { ⌜ (n ≤ 32) × (length (now slot) ≡ n + 2) ⌝ }
+    ensures { λ r. ⌜ now (slot .exit) ≡ slotWords n p ⌝ }
+{
+    put_domains(&mut slot[..n], p);
+    slot[n] = (p.marked / 65536) as u16;
+    slot[n + 1] = (p.marked % 65536) as u16;
+}
+
+// Slot `k` holds the subproblem.
+pub(crate) fn write_slot(n: usize, agenda: &mut [u16], k: usize, p: Subproblem)
+    requires { ⌜ SlotIn n k (length (now agenda)) ⌝ }
+    ensures { λ r. ⌜ now (agenda .exit) ≡ splice (now (agenda .entry)) (k * (n + 2)) (slotWords n p) ⌝ }
+{
+    let at = k * (n + 2);
+    let end = at + (n + 2);
+    put_words(n, &mut agenda[at..end], p);
+}
+
+// Zeros.
+fn put_zeros(words: &mut [u16])
+    ensures { λ r. ⌜ now (words .exit) ≡ replicate (length (now (words .entry))) 0 ⌝ }
+{
+    let mut i = 0;
+    while i < words.len() {
+        words[i] = 0;
+        i += 1;
+    }
+}
+
+// Slot `k` holds zeros.
+pub(crate) fn clear_slot(n: usize, agenda: &mut [u16], k: usize)
+    requires { ⌜ SlotIn n k (length (now agenda)) ⌝ }
+    ensures { λ r. ⌜ now (agenda .exit) ≡ splice (now (agenda .entry)) (k * (n + 2)) (replicate (n + 2) 0) ⌝ }
+{
+    let at = k * (n + 2);
+    let end = at + (n + 2);
+    put_zeros(&mut agenda[at..end]);
+}
+
+// Every slot holds zeros.
+pub(crate) fn clear(n: usize, agenda: &mut [u16])
+    requires { ⌜ (n ≤ 32) × (length (now agenda) ≡ slotsIn n (length (now agenda)) * (n + 2)) ⌝ }
+    ensures { λ r. ⌜ now (agenda .exit) ≡ replicate (length (now (agenda .entry))) 0 ⌝ }
+{
+    let slots = agenda.len() / (n + 2);
+    let mut k = 0;
+    while k < slots {
+        clear_slot(n, agenda, k);
+        k += 1;
+    }
+}

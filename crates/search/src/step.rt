@@ -1,0 +1,191 @@
+// A step: the top subproblem gives way to the pieces of a request, in the lent agenda.
+use crate::agenda;
+use crate::state::Checks;
+use crate::state::Counts;
+use crate::state::State;
+use crate::state::Steps;
+use splits::checks;
+use splits::refusal;
+use splits::split;
+use splits::subproblem::Subproblem;
+ghost use mathlib.Core.Path.{_≡_};
+ghost use mathlib.Core.Bool.{true, false};
+ghost use mathlib.Core.List.{[], _∷_};
+ghost use Prim.Native.Nat.{ℕ, _+_, _-_, _*_, _≤_, _<_, _^_};
+ghost use lib.ListN.{length};
+ghost use lib.Dec.{ltb};
+ghost use Rattle.splits.specs.Problem.{tableOf};
+ghost use Rattle.splits.specs.Splits.{pieces};
+ghost use Rattle.splits.specs.Checks.{checks};
+ghost use Rattle.splits.specs.Calls.{readable};
+ghost use Rattle.search.specs.Agenda.{problemOf, stackWords, slotsIn};
+ghost use Rattle.search.specs.Runs.{runFrom};
+ghost use Rattle.search.specs.Calls.{searchOf};
+ghost use Rattle.search.specs.Work.Slots.{splice};
+ghost use Rattle.search.specs.Work.Kept.{Fitting, Placing, Replaced, Taking, Stops, refusalFor};
+
+// Where a run stops: the refusal, the requests taken and the state it leaves.
+pub(crate) struct Stop {
+    pub(crate) refusal: u32,
+    pub(crate) taken: usize,
+    pub(crate) state: State,
+}
+
+// The number of pieces of a request that are not empty.
+fn count_pieces(top: Subproblem, n: usize, d: usize, tables: &[u16], request: &[u16]) -> usize
+    requires { ⌜ readable n d (now tables) (now request) ≡ true ⌝ }
+    ensures { λ r. ⌜ r ≡ length (pieces n (tableOf n d (now (tables .entry))) top (now (request .entry))) ⌝ }
+{
+    let named = split::candidates(n, request);
+    let mut count = 0;
+    let mut k = 0;
+    while k < named {
+        let piece = split::piece(top, n, d, tables, request, k);
+        if !piece.is_empty(n) {
+            count += 1;
+        }
+        k += 1;
+    }
+    count
+}
+
+// Whether they exceed the free slots. They are counted only where the pieces that the kind can name exceed them.
+pub(crate) fn has_no_room(
+    top: Subproblem,
+    n: usize,
+    d: usize,
+    tables: &[u16],
+    request: &[u16],
+    free: usize,
+) -> bool
+    requires { ⌜ readable n d (now tables) (now request) ≡ true ⌝ }
+    ensures { λ r. ⌜ r ≡ ltb free (length (pieces n (tableOf n d (now (tables .entry))) top (now (request .entry)))) ⌝ }
+{
+    if split::candidates(n, request) <= free {
+        return false;
+    }
+    free < count_pieces(top, n, d, tables, request)
+}
+
+// The refusal of a request, in the order 11, 7 to 10, 12; 0 for none.
+fn refusal_of(
+    top: Subproblem,
+    n: usize,
+    d: usize,
+    tables: &[u16],
+    request: &[u16],
+    steps: u32,
+    free: usize,
+) -> u32
+    requires { ⌜ Fitting n d (now tables) ⌝ }
+    ensures { λ r. ⌜ r ≡ refusalFor n d (now (tables .entry)) top (now (request .entry)) steps free ⌝ }
+{
+    if steps == 4294967295 {
+        return 11;
+    }
+    let refused = refusal::refusal(top, n, d, request);
+    if refused != 0 {
+        return refused;
+    }
+    if has_no_room(top, n, d, tables, request, free) {
+        return 12;
+    }
+    0
+}
+
+// The pieces written from slot `from` on, the last named lowest; the number of slots then used.
+fn place(
+    top: Subproblem,
+    n: usize,
+    d: usize,
+    tables: &[u16],
+    agenda: &mut [u16],
+    request: &[u16],
+    from: usize,
+) -> usize
+    requires { ⌜ Placing n d (now tables) top (now request) from (length (now agenda)) ⌝ }
+    ensures { λ r. ⌜ (r ≡ from + length (pieces n (tableOf n d (now (tables .entry))) top (now (request .entry)))) × (now (agenda .exit) ≡ splice (now (agenda .entry)) (from * (n + 2)) (stackWords n (pieces n (tableOf n d (now (tables .entry))) top (now (request .entry))))) ⌝ }
+{
+    let mut at = from;
+    let mut k = split::candidates(n, request);
+    while 0 < k {
+        k -= 1;
+        let piece = split::piece(top, n, d, tables, request, k);
+        if !piece.is_empty(n) {
+            agenda::write_slot(n, agenda, at, piece);
+            at += 1;
+        }
+    }
+    at
+}
+
+// The pieces in the place of the top, which stood in slot `below`; the number of subproblems then.
+fn replace(
+    top: Subproblem,
+    n: usize,
+    d: usize,
+    tables: &[u16],
+    agenda: &mut [u16],
+    request: &[u16],
+    below: usize,
+) -> usize
+    requires { ⌜ Placing n d (now tables) top (now request) below (length (now agenda)) × ((below + 1) * (n + 2) ≤ length (now agenda)) ⌝ }
+    ensures { λ r. ⌜ Replaced n (pieces n (tableOf n d (now (tables .entry))) top (now (request .entry))) below (now (agenda .entry)) (now (agenda .exit)) r ⌝ }
+{
+    agenda::clear_slot(n, agenda, below);
+    place(top, n, d, tables, agenda, request, below)
+}
+
+// The checks so far with those of a request.
+fn with_checks(
+    top: Subproblem,
+    n: usize,
+    d: usize,
+    tables: &[u16],
+    request: &[u16],
+    before: u64,
+) -> u64
+    requires { ⌜ (readable n d (now tables) (now request) ≡ true) × (before + checks n (tableOf n d (now tables)) top (now request) < 2 ^ 64) ⌝ }
+    ensures { λ r. ⌜ r ≡ before + checks n (tableOf n d (now (tables .entry))) top (now (request .entry)) ⌝ }
+{
+    before + (checks::checks(top, n, d, tables, request) as u64)
+}
+
+// One request taken by a search that runs and whose top is `top`.
+pub(crate) fn take(
+    top: Subproblem,
+    n: usize,
+    d: usize,
+    tables: &[u16],
+    agenda: &mut [u16],
+    request: &[u16],
+    state: State,
+) -> Stop
+    requires { ⌜ Taking n d (now tables) (now agenda) top state ⌝ }
+    ensures { λ r. ⌜ Stops n d (now (tables .entry)) (now (agenda .entry)) (now (agenda .exit)) (runFrom (problemOf n d [] (now (tables .entry))) (slotsIn n (length (now (agenda .entry)))) (now (request .entry) ∷ []) (searchOf n (now (agenda .entry)) state) 0) r ⌝ }
+{
+    let steps = state.counts.steps.0;
+    let below = state.subproblems - 1;
+    let free = agenda.len() / (n + 2) - below;
+    let refusal = refusal_of(top, n, d, tables, request, steps, free);
+    if refusal != 0 {
+        return Stop {
+            refusal,
+            taken: 0,
+            state,
+        };
+    }
+    let checks = with_checks(top, n, d, tables, request, state.counts.checks.0);
+    let subproblems = replace(top, n, d, tables, agenda, request, below);
+    Stop {
+        refusal: 0,
+        taken: 1,
+        state: State {
+            counts: Counts {
+                steps: Steps(steps + 1),
+                checks: Checks(checks),
+            },
+            subproblems,
+        },
+    }
+}
