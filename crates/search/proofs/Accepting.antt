@@ -1,43 +1,47 @@
 -- What the refusal of a request tells: of one that is accepted the words fit, the targets are parts of the domains, and its checks are few.
 -- Assumes nothing.
-use mathlib.Core.Path.{_≡_, refl, sym, ap, _∙_}
-use mathlib.Core.Logic.{_⊎_, inl, inr, ⊎-elim}
-use mathlib.Core.Bool.{Bool, true, false, not, cond, _&&_, _||_}
-use mathlib.Core.List.{List, [], _∷_}
-use Prim.Native.Nat.{ℕ, zero, suc, _+_, _-_, _*_, _^_, _≤_, _<_}
+use mathlib.Core.Path.{_≡_, refl, sym, _∙_}
+use mathlib.Core.Logic.{_⊎_, inl, inr}
+use mathlib.Core.Bool.{Bool, true, false, not, cond, _||_}
+use mathlib.Core.List.{List}
+use Prim.Native.Nat.{ℕ, _-_, _≤_, _<_}
 use native.Mathlib.Omega.{arith}
 use lib.ListN.{length}
 use lib.Dec.{eqb, leb, ltb}
-use borrow.Author.Tests.{leb-false, ltb-false, le-leb, lt-ltb, eq-eqb, ne-eqb, eqb-true, eqb-false, not-true, not-false}
+use borrow.Author.Tests.{leb-false, ltb-false, le-leb, lt-ltb, eq-eqb, ne-eqb, eqb-true, eqb-false, not-false}
 use Rattle.splits.specs.Masks.{bit, Part, minus}
 use Rattle.splits.specs.Problem.{tableOf}
-use Rattle.splits.specs.Subproblems.{domain, some}
+use Rattle.splits.specs.Subproblems.{domain}
 use Rattle.splits.specs.Requests.{kindOf, variableOf, valueOf, targetOf}
 use Rattle.splits.specs.Splits.{pieces}
 use Rattle.splits.specs.Checks.{checks}
 use Rattle.splits.specs.Refusals.{refusalOf, refused-7, refused-8, refused-9, refused-10, someBad, allSame, bad}
-use Rattle.splits.specs.Calls.{readable, inside, Checks-of, Refusal-of}
+use Rattle.splits.specs.Calls.{readable, inside, Refusal-of}
 use Rattle.splits.specs.declared.subproblem.Subproblem.{Subproblem}
 use Rattle.splits.proofs.Masks.{minus-part-of}
 use Rattle.splits.proofs.Tests.{or-left, or-right, some-none, true-false}
 use Rattle.splits.proofs.Ranges.{inside-is}
 use Rattle.splits.proofs.ByKind.{kinds}
-use Rattle.search.specs.Work.Kept.{Fitting, refusalFor}
+use Rattle.search.specs.Work.Kept.{Fitting}
+use Rattle.search.specs.Work.Steps.{refusalFor}
 
 -- A refusal that is none was not given by the first test, and not by those after it.
-not-first : (b : Bool) (x y : ℕ) → (x ≡ 0 → ⊥) → cond b x y ≡ 0 → b ≡ false
+pub not-first : (b : Bool) (x y : ℕ) → (x ≡ 0 → ⊥) → cond b x y ≡ 0 → b ≡ false
 not-first true x y h e = absurd (h e)
 not-first false x y h e = refl
 
-then-none : (b : Bool) (x y : ℕ) → (x ≡ 0 → ⊥) → cond b x y ≡ 0 → y ≡ 0
+-- Those after it gave none either.
+pub then-none : (b : Bool) (x y : ℕ) → (x ≡ 0 → ⊥) → cond b x y ≡ 0 → y ≡ 0
 then-none true x y h e = absurd (h e)
 then-none false x y h e = e
 
 module _ (n d : ℕ) (P : Subproblem) (r : List ℕ) (accepted : refusalOf n d P r ≡ 0) where
+  -- None of the four tests refuses.
   unrefused-7 : refused-7 r ≡ false
   unfolding refusalOf
   unrefused-7 = not-first (refused-7 r) 7 _ (λ z. omega arith) accepted
 
+  -- What the tests after 7 and after 8 gave.
   after-7 : _≡_ {A = ℕ} (cond (refused-8 n P r) 8 (cond (refused-9 d P r) 9 (cond (refused-10 n P r) 10 0))) 0
   unfolding refusalOf
   after-7 = then-none (refused-7 r) 7 _ (λ z. omega arith) accepted
@@ -99,19 +103,23 @@ module _ (n d : ℕ) (P : Subproblem) (r : List ℕ) (accepted : refusalOf n d P
 
 -- ---- the refusal, test by test
 module _ (n d : ℕ) (t : List ℕ) (P : Subproblem) (r : List ℕ) (steps free : ℕ) where
+  -- 11.
   pub refused-at-11 : steps ≡ 4294967295 → 11 ≡ refusalFor n d t P r steps free
   unfolding refusalFor
   refused-at-11 e = rw (eq-eqb steps 4294967295 e) refl
 
   module _ (go-on : steps ≡ 4294967295 → ⊥) (refused : ℕ) (its : Refusal-of P n d r refused) where
+    -- 7 to 10.
     pub refused-by-top : (refused ≡ 0 → ⊥) → refused ≡ refusalFor n d t P r steps free
     unfolding refusalFor
     refused-by-top h = its ∙ rw (ne-eqb steps 4294967295 go-on, ne-eqb (refusalOf n d P r) 0 (λ z. h (its ∙ z))) refl
 
+    -- 12.
     pub refused-at-12 : (b : Bool) → refused ≡ 0 → b ≡ ltb free (length (pieces n (tableOf n d t) P r)) → b ≡ true → 12 ≡ refusalFor n d t P r steps free
     unfolding refusalFor
     refused-at-12 b h e z = rw (ne-eqb steps 4294967295 go-on, eq-eqb (refusalOf n d P r) 0 (sym its ∙ h), ← e, z) refl
 
+    -- None.
     pub refused-by-none : (b : Bool) → refused ≡ 0 → b ≡ ltb free (length (pieces n (tableOf n d t) P r)) → b ≡ false → 0 ≡ refusalFor n d t P r steps free
     unfolding refusalFor
     refused-by-none b h e z = rw (ne-eqb steps 4294967295 go-on, eq-eqb (refusalOf n d P r) 0 (sym its ∙ h), ← e, z) refl
@@ -122,6 +130,7 @@ pub record Unrefused (n d : ℕ) (t : List ℕ) (P : Subproblem) (r : List ℕ) 
   pub accepted : refusalOf n d P r ≡ 0
   pub room : length (pieces n (tableOf n d t) P r) ≤ free
 
+-- The test of the code tells it.
 pub unrefused : (n d : ℕ) (t : List ℕ) (P : Subproblem) (r : List ℕ) (steps free : ℕ) → refusalFor n d t P r steps free ≡ 0 → Unrefused n d t P r steps free
 unfolding refusalFor
 unrefused n d t P r steps free e =

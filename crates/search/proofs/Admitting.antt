@@ -4,27 +4,28 @@ use mathlib.Core.Path.{_≡_, refl, sym, ap, _∙_}
 use mathlib.Core.Logic.{⊎-elim}
 use mathlib.Core.Bool.{Bool, true, false, not, cond, _&&_, _||_}
 use mathlib.Core.List.{List, List·Memᴰ, List·Memᴰ·not-nil, List·Memᴰ·cases-cons, [], _∷_, _++_}
-use Prim.Native.Nat.{ℕ, zero, suc, _+_, _-_, _*_, _/_, _%_, _^_, _≤_, _<_}
+use Prim.Native.Nat.{ℕ, zero, suc, _+_, _-_, _*_, _%_, _^_, _≤_, _<_}
 use native.Mathlib.Omega.{arith}
 use native.Mathlib.Decide.{decLt}
-use native.Mathlib.Nat.{mul-le-mul-right, div-add-mod', le-refl, le-trans}
-use lib.ListN.{length, getD, take, drop, replicate, length-append, length-take, length-drop, length-replicate, List·getD-append, List·getD-eq-default}
-use lib.Seq.{length-take-le, getD-append-add, getD-take, getD-drop}
+use native.Mathlib.Nat.{mul-le-mul-right, div-add-mod', le-refl}
+use lib.ListN.{length, getD, take, drop, replicate, length-append, length-take, length-drop, length-replicate, List·getD-eq-default}
+use lib.Seq.{length-take-le, getD-append-add}
 use lib.Pow.{pow-pos}
 use lib.Dec.{eqb, leb, ltb}
 use borrow.Author.Tests.{eqb-true, eqb-false, leb-true, ltb-false, ltb-true, not-true}
-use Rattle.splits.specs.Masks.{bit, minus, size}
-use Rattle.splits.specs.Problem.{Problem, tableOf}
-use Rattle.splits.specs.Subproblems.{domain, every}
+use Rattle.splits.specs.Masks.{minus}
+use Rattle.splits.specs.Problem.{Problem}
+use Rattle.splits.specs.Subproblems.{domain}
 use Rattle.splits.specs.declared.subproblem.Subproblem.{Subproblem}
 use Rattle.splits.proofs.Masks.{minus-part-of, part-lt}
-use Rattle.splits.proofs.Tests.{and-left, and-right, or-left, or-right, every-at, true-false}
-use Rattle.search.specs.Agenda.{problemOf, holding, subproblemOf, slotAt, stackOf, slotsIn, agendaOf}
-use Rattle.search.specs.FirstChecks.{orElse, refusalOfNumbers, wholeSlots, refusalOfLengths, refusalOfRequests, masksBelow, symmetric, refusalOfProblem, domainObeys, obeys, allObey, zerosFrom, refusalOfSearch, openRefusal, searchRefusal, runRefusal}
+use Rattle.splits.proofs.Tests.{and-left, and-right, or-left, or-right, every-at}
+use Rattle.search.specs.Agenda.{problemOf, holding, subproblemOf, slotAt, stackOf, slotsIn}
+use Rattle.search.specs.FirstChecks.{orElse, refusalOfNumbers, wholeSlots, refusalOfLengths, refusalOfRequests, masksBelow, refusalOfProblem, domainObeys, obeys, allObey, zerosFrom, refusalOfSearch, openRefusal, searchRefusal, runRefusal}
 use Rattle.search.specs.Calls.{searchOf}
-use Rattle.search.specs.Work.Kept.{Shape, Regular, Fitting, Ready}
+use Rattle.search.specs.Work.Kept.{Regular, Ready}
 use Rattle.search.specs.Work.Ends.{Openable}
 use Rattle.search.specs.declared.state.State.{State}
+use Rattle.search.proofs.Accepting.{not-first, then-none}
 use Rattle.search.proofs.Encoding.{length-stackOf, agenda-of-words, part-small}
 
 -- Of two refusals that are none together each is none.
@@ -35,6 +36,7 @@ or-first a b e = go (eqb a 0) refl e
     go true h e = eqb-true a 0 h
     go false h e = e
 
+-- The second.
 or-then : (a b : ℕ) → orElse a b ≡ 0 → b ≡ 0
 or-then a b e = go (eqb a 0) refl e
   where
@@ -42,15 +44,7 @@ or-then a b e = go (eqb a 0) refl e
     go true h e = e
     go false h e = absurd (eqb-false a 0 h e)
 
--- A test that refuses did not pass, and one that must pass did.
-unmet : (b : Bool) (x y : ℕ) → (x ≡ 0 → ⊥) → cond b x y ≡ 0 → b ≡ false
-unmet true x y h e = absurd (h e)
-unmet false x y h e = refl
-
-after : (b : Bool) (x y : ℕ) → (x ≡ 0 → ⊥) → cond b x y ≡ 0 → y ≡ 0
-after true x y h e = absurd (h e)
-after false x y h e = e
-
+-- A test that must pass did.
 met : (b : Bool) (x y : ℕ) → (y ≡ 0 → ⊥) → cond b x y ≡ 0 → b ≡ true
 met true x y h e = refl
 met false x y h e = absurd (h e)
@@ -59,9 +53,9 @@ met false x y h e = absurd (h e)
 numbers-fit : (n d : ℕ) → refusalOfNumbers n d ≡ 0 → (1 ≤ n) × (n ≤ 32) × (d ≤ 16)
 unfolding refusalOfNumbers
 numbers-fit n d e =
-    let first : (ltb n 1 || ltb 32 n) ≡ false = unmet (ltb n 1 || ltb 32 n) 1 _ (λ z. omega arith) e in
+    let first : (ltb n 1 || ltb 32 n) ≡ false = not-first (ltb n 1 || ltb 32 n) 1 _ (λ z. omega arith) e in
     let second : (ltb d 1 || ltb 16 d) ≡ false =
-    unmet (ltb d 1 || ltb 16 d) 2 0 (λ z. omega arith) (after (ltb n 1 || ltb 32 n) 1 _ (λ z. omega arith) e) in (
+    not-first (ltb d 1 || ltb 16 d) 2 0 (λ z. omega arith) (then-none (ltb n 1 || ltb 32 n) 1 _ (λ z. omega arith) e) in (
       ltb-false n 1 (or-left (ltb n 1) (ltb 32 n) first),
       ltb-false 32 n (or-right (ltb n 1) (ltb 32 n) first),
       ltb-false 16 d (or-right (ltb d 1) (ltb 16 d) second),
@@ -74,6 +68,7 @@ pub record Lengths (n d domains tables agenda : ℕ) : Type 0 where
   pub some : 1 ≤ slotsIn n agenda
   pub whole : agenda ≡ slotsIn n agenda * (n + 2)
 
+-- The lengths tell it.
 lengths-fit : (n d domains tables agenda : ℕ) → refusalOfLengths n d domains tables agenda ≡ 0 → Lengths n d domains tables agenda
 unfolding refusalOfLengths wholeSlots
 lengths-fit n d domains tables agenda e =
@@ -96,12 +91,14 @@ pub record Opened (n d : ℕ) (domains tables agenda : List ℕ) : Type 0 where
   pub lengths : Lengths n d (length domains) (length tables) (length agenda)
   pub masks : (i : ℕ) → i < n → getD domains i 0 < 2 ^ d
 
+-- 4 and 5: the domains have d values at most.
 problem-fits : (n d : ℕ) (domains tables : List ℕ) → refusalOfProblem (problemOf n d domains tables) ≡ 0 → (i : ℕ) → i < n → getD domains i 0 < 2 ^ d
 unfolding refusalOfProblem masksBelow
 problem-fits n d domains tables e i h =
     let all : masksBelow (problemOf n d domains tables) ≡ true = met (masksBelow (problemOf n d domains tables)) _ 4 (λ z. omega arith) e in
     ltb-true (getD domains i 0) (2 ^ d) (every-at (λ i. ltb (getD domains i 0) (2 ^ d)) n i h (and-left _ _ all))
 
+-- The three parts together.
 parts-opened : (n d : ℕ) (domains tables agenda : List ℕ) → refusalOfNumbers n d ≡ 0
     → refusalOfLengths n d (length domains) (length tables) (length agenda) ≡ 0 → refusalOfProblem (problemOf n d domains tables) ≡ 0
     → Opened n d domains tables agenda
@@ -109,6 +106,7 @@ parts-opened n d domains tables agenda a b c =
     let (some, few, small) = numbers-fit n d a in
     record { few = few; small = small; lengths = lengths-fit n d (length domains) (length tables) (length agenda) b; masks = problem-fits n d domains tables c }
 
+-- The first checks of opening tell it.
 pub opened : (n d : ℕ) (domains tables agenda : List ℕ) → openRefusal n d domains tables agenda ≡ 0 → Opened n d domains tables agenda
 unfolding openRefusal
 opened n d domains tables agenda e =
@@ -117,6 +115,7 @@ opened n d domains tables agenda e =
     (or-first (refusalOfLengths n d (length domains) (length tables) (length agenda)) _ rest)
     (or-then (refusalOfLengths n d (length domains) (length tables) (length agenda)) _ rest)
 
+-- So there is a slot for the problem.
 pub openable : (n d : ℕ) (domains tables agenda : List ℕ) (x : ℕ) → x ≡ openRefusal n d domains tables agenda → x ≡ 0 → Openable n domains agenda
 openable n d domains tables agenda x e z =
     let o = opened n d domains tables agenda (sym e ∙ z) in
@@ -133,6 +132,7 @@ member-slot n agenda (suc m) P i =
     ⊎-elim (λ (e : P ≡ subproblemOf n (slotAt n agenda m)). (m, le-refl (suc m), e))
     (λ (j : List·Memᴰ P (stackOf n agenda m)). let (k, h, e) = member-slot n agenda m P j in (k, omega arith, e)) (List·Memᴰ·cases-cons i)
 
+-- Each of a stack that obeys does.
 member-obeys : (p : Problem) (S : List Subproblem) → allObey p S ≡ true → (P : Subproblem) → List·Memᴰ P S → obeys p P ≡ true
 unfolding allObey
 member-obeys p [] e P i = absurd (List·Memᴰ·not-nil i)
@@ -148,10 +148,12 @@ zero-at (suc k) (suc j) = zero-at k j
 
 -- What words make a subproblem of: 32 domains, empty from n on, and marks of two words.
 module _ (n : ℕ) (ws : List ℕ) (few : n ≤ 32) (long : length ws ≡ n + 2) (small : (i : ℕ) → getD ws i 0 < 2 ^ 16) where
+  -- 32 domains.
   words-long : length (subproblemOf n ws .domains) ≡ 32
   unfolding subproblemOf holding
   words-long = simp (length-append, length-take, length-replicate) (omega arith)
 
+  -- Empty from n on.
   words-past : (i : ℕ) → n ≤ i → domain (subproblemOf n ws) i ≡ 0
   unfolding subproblemOf holding
   words-past i h =
@@ -160,6 +162,7 @@ module _ (n : ℕ) (ws : List ℕ) (few : n ≤ 32) (long : length ws ≡ n + 2)
       ap (λ (j : ℕ). getD (take n ws ++ replicate (32 - n) 0) j 0) (sym at)
       ∙ getD-append-add (take n ws) (replicate (32 - n) 0) (i - n) 0 ∙ zero-at (32 - n) (i - n)
 
+  -- Marks of 32 bits.
   words-marks : subproblemOf n ws .marked < 2 ^ 32
   unfolding subproblemOf holding
   words-marks = omega (arith, small n, small (n + 1))
@@ -169,11 +172,13 @@ obeys-at : (p : Problem) (P : Subproblem) (i : ℕ) → obeys p P ≡ true → i
 unfolding obeys
 obeys-at p P i e h = every-at (domainObeys p P) (p .n) i h (and-left _ _ (and-left _ (ltb (P .marked) (2 ^ p .n)) e))
 
+-- It is not empty.
 obeys-filled : (p : Problem) (P : Subproblem) (i : ℕ) → obeys p P ≡ true → i < p .n → domain P i ≡ 0 → ⊥
 unfolding domainObeys
 obeys-filled p P i e h =
     eqb-false (domain P i) 0 (not-true (eqb (domain P i) 0) (and-left (not (eqb (domain P i) 0)) _ (and-left _ _ (obeys-at p P i e h))))
 
+-- It has d values at most.
 obeys-small : (p : Problem) (P : Subproblem) (i : ℕ) → obeys p P ≡ true → i < p .n → p .domain i < 2 ^ p .d → domain P i < 2 ^ p .d
 unfolding domainObeys
 obeys-small p P i e h s =
@@ -187,6 +192,7 @@ record Found (n d : ℕ) (domains tables agenda : List ℕ) (s : State) : Type 0
   pub zeros : (i : ℕ) → s .subproblems * (n + 2) ≤ i → getD agenda i 0 ≡ 0
   pub counted : s .counts .checks .0 ≤ 496 * s .counts .steps .0
 
+-- A test of zeros tells of every word.
 zeros-are : (from : ℕ) (l : List ℕ) → zerosFrom from l ≡ true → (i : ℕ) → from ≤ i → getD l i 0 ≡ 0
 unfolding zerosFrom
 zeros-are from l e i h = elim (decLt i (length l)) [
@@ -197,6 +203,7 @@ zeros-are from l e i h = elim (decLt i (length l)) [
   | no k ↦ let past : length l ≤ i = omega arith in List·getD-eq-default l 0 past
 ]
 
+-- The checks of the search tell it.
 found : (n d : ℕ) (domains tables agenda : List ℕ) (s : State)
     → refusalOfSearch (problemOf n d domains tables) agenda (s .counts .steps .0) (s .counts .checks .0) (s .subproblems) ≡ 0
     → Found n d domains tables agenda s
@@ -219,9 +226,11 @@ found n d domains tables agenda s e =
 -- Memory of words that passed holds a search that is ready.
 module _ (n d : ℕ) (domains tables agenda : List ℕ) (s : State) (o : Opened n d domains tables agenda) (f : Found n d domains tables agenda s)
     (small : (i : ℕ) → getD agenda i 0 < 2 ^ 16) (stepped : s .counts .steps .0 < 2 ^ 32) where
+  -- The slots in use lie within.
   within : s .subproblems * (n + 2) ≤ length agenda
   within = rw (o .lengths .whole) (mul-le-mul-right (n + 2) (f .fits))
 
+  -- Each subproblem in them is regular.
   each-regular : (P : Subproblem) → List·Memᴰ P (stackOf n agenda (s .subproblems)) → Regular n d P
   unfolding slotAt
   each-regular P i =
@@ -245,6 +254,7 @@ module _ (n d : ℕ) (domains tables agenda : List ℕ) (s : State) (o : Opened 
         filled = λ j. obeys-filled (problemOf n d domains tables) P j fine;
       }
 
+  -- The search is ready.
   ready : Ready n d tables agenda (searchOf n agenda s)
   ready = record {
     fitting = record { few = o .few; small = o .small; words = o .lengths .tables-fit };
@@ -259,6 +269,7 @@ module _ (n d : ℕ) (domains tables agenda : List ℕ) (s : State) (o : Opened 
 -- So do the first checks of the chooser, and those of a run.
 module _ (n d : ℕ) (domains tables agenda : List ℕ) (s : State) (x : ℕ) (none : x ≡ 0) (small : (i : ℕ) → getD agenda i 0 < 2 ^ 16)
     (stepped : s .counts .steps .0 < 2 ^ 32) where
+  -- Those of the chooser.
   pub search-ready : x ≡ searchRefusal n d domains tables agenda (s .counts .steps .0) (s .counts .checks .0) (s .subproblems)
       → Ready n d tables agenda (searchOf n agenda s)
   unfolding searchRefusal
@@ -267,6 +278,7 @@ module _ (n d : ℕ) (domains tables agenda : List ℕ) (s : State) (x : ℕ) (n
       ready n d domains tables agenda s (opened n d domains tables agenda (or-first (openRefusal n d domains tables agenda) _ z))
       (found n d domains tables agenda s (or-then (openRefusal n d domains tables agenda) _ z)) small stepped
 
+  -- Those of a run.
   pub run-ready : (requests : List ℕ) → x ≡ runRefusal n d domains tables agenda requests (s .counts .steps .0) (s .counts .checks .0) (s .subproblems)
       → Ready n d tables agenda (searchOf n agenda s)
   unfolding runRefusal

@@ -1,30 +1,31 @@
 -- The pieces that a request places are its candidates in order, empty ones dropped: what a loop over the candidates gathers.
 -- Assumes nothing.
-use mathlib.Core.Path.{_≡_, refl, sym, ap, ap₂, _∙_}
+use mathlib.Core.Path.{_≡_, refl, sym, ap, _∙_}
 use mathlib.Core.Logic.{_⊎_, inl, inr, ⊎-elim}
-use mathlib.Core.Bool.{Bool, true, false, not, cond, _&&_}
+use mathlib.Core.Bool.{Bool, true, false, not, cond}
 use mathlib.Core.List.{List, [], _∷_, _++_, map, append-assoc, append-nil}
-use Prim.Native.Nat.{ℕ, zero, suc, _+_, _-_, _*_, _≤_, _<_}
+use Prim.Native.Nat.{ℕ, zero, suc, _+_, _-_, _≤_, _<_}
 use native.Mathlib.Omega.{arith}
 use native.Mathlib.Numerals.{add-one}
 use native.Mathlib.Nat.{le-trans, le-refl}
 use native.Mathlib.Decide.{ℕ-discrete}
 use lib.ListN.{length, getD, set, length-append}
 use lib.Seq.{getD-set-same}
-use lib.Dec.{eqb, leb, ltb}
-use borrow.Author.Tests.{eq-eqb, ne-eqb, eqb-true, not-false, not-true}
+use lib.Dec.{eqb}
+use borrow.Author.Tests.{eq-eqb, ne-eqb}
 use Rattle.splits.specs.Masks.{minus, common, single, smallerHalf}
-use Rattle.splits.specs.Problem.{Table, tableOf}
+use Rattle.splits.specs.Problem.{tableOf}
 use Rattle.splits.specs.Subproblems.{domain, empty}
 use Rattle.splits.specs.Requests.{kindOf, variableOf, valueOf, targetOf}
-use Rattle.splits.specs.Splits.{below, keep, changed, pieces, named, candidates, candidate, backtracking, forwardChecking, idc, halving, extraction, backtracked, checked, inferred, halved, extracted, instantiate, without, cut, cutBeside, atTargets, precluded, disjunct, extract, forbidden, byKind}
-use Rattle.splits.specs.Calls.{readable, inside}
+use Rattle.splits.specs.Splits.{below, keep, changed, pieces, named, candidates, candidate, backtracking, forwardChecking, idc, halving, extraction, backtracked, checked, inferred, halved, extracted, instantiate, without, cut, atTargets, precluded, disjunct, extract, forbidden}
+use Rattle.splits.specs.Calls.{readable}
 use Rattle.splits.specs.declared.subproblem.Subproblem.{Subproblem}
 use Rattle.splits.proofs.Masks.{common-none, minus-self}
 use Rattle.splits.proofs.Domains.{length-changed, changed-after}
 use Rattle.splits.proofs.Subproblems.{empty-at}
 use Rattle.splits.proofs.Ranges.{inside-true}
-use Rattle.splits.proofs.ByKind.{few, kinds, no-kind}
+use Rattle.splits.proofs.ByKind.{few}
+use Rattle.splits.proofs.ByKind.{kinds, no-kind}
 
 -- A piece if it is not empty.
 unfoldable pub one : ℕ → Subproblem → List Subproblem
@@ -40,10 +41,12 @@ module _ (n : ℕ) where
   filled : List Subproblem → List Subproblem
   filled l = keep (λ Q. not (empty n Q)) l
 
+  -- An empty piece is dropped.
   one-empty : (Q : Subproblem) → empty n Q ≡ true → one n Q ≡ []
   unfolding one
   one-empty Q e = rw e
 
+  -- Those of a list with one more in front.
   filled-more : (Q : Subproblem) (l : List Subproblem) → filled (Q ∷ l) ≡ one n Q ++ filled l
   unfolding filled keep one
   filled-more Q l = go (empty n Q)
@@ -52,20 +55,19 @@ module _ (n : ℕ) where
       go true = refl
       go false = refl
 
+  -- Those of the empty list.
   filled-none : filled [] ≡ []
   unfolding filled keep
   filled-none = refl
 
+  -- Those of a list of two, and of one.
   filled-two : (Q R : Subproblem) → filled (Q ∷ R ∷ []) ≡ one n Q ++ one n R
   filled-two Q R = filled-more Q (R ∷ []) ∙ ap (λ (l : List Subproblem). one n Q ++ l) (filled-more R [] ∙ rw filled-none (append-nil (one n R)))
 
   filled-one : (Q : Subproblem) → filled (Q ∷ []) ≡ one n Q
   filled-one Q = filled-more Q [] ∙ rw filled-none (append-nil (one n Q))
 
-  filled-append : (l m : List Subproblem) → filled (l ++ m) ≡ filled l ++ filled m
-  filled-append [] m = rw filled-none refl
-  filled-append (Q ∷ l) m = filled-more Q (l ++ m) ∙ rw (filled-append l m, filled-more Q l) (sym (append-assoc (one n Q) (filled l) (filled m)))
-
+  -- Two candidates.
   firsts-two : (f : ℕ → Subproblem) → firsts n f 2 ≡ one n (f 0) ++ one n (f 1)
   unfolding firsts
   firsts-two f = refl
@@ -124,9 +126,11 @@ module _ (n d : ℕ) (t : List ℕ) (P : Subproblem) (r : List ℕ) (fits : read
   Same : Type 0
   Same = pieces n (tableOf n d t) P r ≡ firsts n (candidate n (tableOf n d t) P r) (candidates n r)
 
+  -- At most 32 variables.
   low : n ≤ 32
   low = few n d t r fits
 
+  -- Kinds 1 and 3: V is a variable.
   below-n : (kindOf r ≡ 1) ⊎ (kindOf r ≡ 3) → variableOf r < n
   unfolding readable
   below-n h = inside-true n d t (variableOf r) (valueOf r) (⊎-elim (λ e. rw e at fits) (λ e. rw e at fits) h) .a-variable
@@ -143,6 +147,7 @@ module _ (n d : ℕ) (t : List ℕ) (P : Subproblem) (r : List ℕ) (fits : read
   by-two Q R e c f g =
       by (Q ∷ R ∷ []) 2 e c (filled-two n Q R ∙ sym (firsts-two n (candidate n (tableOf n d t) P r) ∙ rw (f, g) refl))
 
+  -- Kind by kind. Backtracking: a value that is forbidden makes an empty candidate.
   of-1 : kindOf r ≡ 1 → Same
   unfolding named candidates candidate backtracking backtracked
   of-1 e = go (forbidden n (tableOf n d t) P (variableOf r) (valueOf r)) refl
@@ -157,12 +162,14 @@ module _ (n d : ℕ) (t : List ℕ) (P : Subproblem) (r : List ℕ) (fits : read
       go false s =
           by-two (instantiate P (variableOf r) (valueOf r)) (without P (variableOf r) (single (valueOf r))) (rw (e, s) refl) (rw e refl) (rw (e, s) refl) (rw e refl)
 
+  -- Forward checking.
   of-2 : kindOf r ≡ 2 → Same
   unfolding named candidates candidate forwardChecking checked
   of-2 e =
       by-two (precluded n (tableOf n d t) P (variableOf r) (valueOf r)) (without P (variableOf r) (single (valueOf r)))
       (rw e refl) (rw e refl) (rw e refl) (rw e refl)
 
+  -- IDC: the candidate for V itself is empty.
   of-3 : kindOf r ≡ 3 → Same
   unfolding named candidates candidate idc inferred
   of-3 e =
@@ -183,12 +190,14 @@ module _ (n d : ℕ) (t : List ℕ) (P : Subproblem) (r : List ℕ) (fits : read
             | no s ↦ rw (e, later, back, ne-eqb j (variableOf r) s) refl
           ]
 
+  -- Halving.
   of-4 : kindOf r ≡ 4 → Same
   unfolding named candidates candidate halving halved
   of-4 e =
       by-two (cut P (variableOf r) (smallerHalf (domain P (variableOf r)))) (without P (variableOf r) (smallerHalf (domain P (variableOf r))))
       (rw e refl) (rw e refl) (rw e refl) (rw e refl)
 
+  -- Extraction: the candidate for a variable at its target already is empty.
   of-5 : kindOf r ≡ 5 → Same
   unfolding named candidates candidate extraction extracted
   of-5 e =
@@ -207,10 +216,12 @@ module _ (n d : ℕ) (t : List ℕ) (P : Subproblem) (r : List ℕ) (fits : read
             | no s ↦ rw (e, later, back, ne-eqb (targetOf r j) (domain P j) s) refl
           ]
 
+  -- No kind.
   of-none : (k : ℕ) → (k < 1) ⊎ (5 < k) → kindOf r ≡ k → Same
   unfolding named candidates filled keep firsts
   of-none k h e = by [] 0 (rw e (no-kind k _ _ _ _ _ _ h)) (rw e (no-kind k _ _ _ _ _ _ h)) refl
 
+  -- So of any request whose words fit.
   pub pieces-are : pieces n (tableOf n d t) P r ≡ firsts n (candidate n (tableOf n d t) P r) (candidates n r)
   unfolding Same
   pieces-are = kinds (λ k. kindOf r ≡ k → Same) of-1 of-2 of-3 of-4 of-5 of-none (kindOf r) refl
@@ -230,6 +241,7 @@ pub firsts-drop : (n : ℕ) (f : ℕ → Subproblem) (k : ℕ) → empty n (f k)
 unfolding firsts one
 firsts-drop n f k e = rw (add-one, e) (append-nil (firsts n f k))
 
+-- A candidate that is not empty comes last.
 pub firsts-keep : (n : ℕ) (f : ℕ → Subproblem) (k : ℕ) → empty n (f k) ≡ false → firsts n f (k + 1) ≡ firsts n f k ++ (f k ∷ [])
 unfolding firsts one
 firsts-keep n f k e = rw (add-one, e) refl

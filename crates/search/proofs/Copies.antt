@@ -1,15 +1,15 @@
 -- Memory that a loop writes from the front, and memory of which a part is written anew.
 -- Assumes nothing.
-use mathlib.Core.Path.{_≡_, refl, sym, ap, ap₂, _∙_}
-use mathlib.Core.List.{List, [], _∷_, _++_, append-assoc, append-nil}
-use Prim.Native.Nat.{ℕ, zero, suc, _+_, _-_, _*_, _≤_, _<_, min}
+use mathlib.Core.Path.{_≡_, refl, sym, ap, _∙_}
+use mathlib.Core.List.{List, _++_, append-assoc, append-nil}
+use Prim.Native.Nat.{ℕ, zero, suc, _+_, _-_, _*_, _≤_, _<_}
 use native.Mathlib.Omega.{arith}
 use native.Mathlib.Nat.{zero-mul, mul-le-mul-left, mul-le-mul-right}
 use native.Mathlib.Numerals.{add-one}
-use lib.ListN.{length, getD, take, drop, set, replicate, length-append, length-take, length-drop, length-replicate, length-set, take-append-drop, replicate-append-replicate}
+use lib.ListN.{length, getD, take, drop, set, replicate, length-append, length-take, length-drop, length-replicate, take-append-drop, replicate-append-replicate}
+use lib.Seq.{length-take-le, take-suc, drop-cons, append-snoc, set-at, take-at, drop-at, drop-drop, drop-length}
 use borrow.Rule.Slice.PartMut.{putMid, midOf, post-is, mid-len}
 use borrow.Author.Fill.{fill-more}
-use lib.Seq.{length-take-le, take-suc, drop-cons, append-snoc, set-at, take-at, drop-at, drop-drop, take-all, drop-length}
 use Rattle.search.specs.Work.Slots.{splice, SlotIn}
 
 -- One word more of a copy.
@@ -19,10 +19,6 @@ copy-more src d m i x e s h k =
     rw (e, s, add-one, drop-cons d i 0)
     (set-at (take i src) (getD d i 0) (drop (suc i) d) (getD src i 0) i (length-take-le i src (omega arith))
     ∙ sym (append-snoc (take i src) (getD src i 0) (drop (suc i) d)) ∙ rw (take-suc src i 0) refl)
-
--- The copy is as long as what it is written into.
-pub copy-length : (src d m : List ℕ) (i : ℕ) → m ≡ take i src ++ drop i d → i ≤ length src → i ≤ length d → length m ≡ length d
-copy-length src d m i e h k = rw e (simp (length-append, length-take, length-drop) (omega arith))
 
 -- At its end the copy is what was copied.
 pub copy-end : (src d m : List ℕ) (i : ℕ) → m ≡ take i src ++ drop i d → i ≡ length d → m ≡ take (length d) src
@@ -39,19 +35,11 @@ drop-zeros (suc k) (suc i) = let e : k - i ≡ suc k - suc i = omega arith in dr
 pub zeros-end : (d m : List ℕ) (i : ℕ) → m ≡ replicate i 0 ++ drop i d → i ≡ length d → m ≡ replicate (length d) 0
 zeros-end d m i e h = rw (e, h, drop-length, append-nil) refl
 
-pub zeros-length : (d m : List ℕ) (i : ℕ) → m ≡ replicate i 0 ++ drop i d → i ≤ length d → length m ≡ length d
-zeros-length d m i e h = rw e (simp (length-append, length-replicate, length-drop) (omega arith))
-
 -- One zero more.
 pub zeros-more : (d m : List ℕ) (i : ℕ) → m ≡ replicate i 0 ++ drop i d → i < length d → set m i 0 ≡ replicate (i + 1) 0 ++ drop (i + 1) d
 zeros-more d m i e h = rw e (fill-more i 0 d h)
 
 -- ---- a part written anew
-
--- The whole stays as long.
-pub splice-length : (l : List ℕ) (a : ℕ) (ws : List ℕ) → a + length ws ≤ length l → length (splice l a ws) ≡ length l
-unfolding splice
-splice-length l a ws h = simp (length-append, length-take, length-drop) (omega arith)
 
 -- A part that lies between two others.
 pub splice-between : (p q r ws : List ℕ) (a : ℕ) → length p ≡ a → length ws ≡ length q → splice (p ++ (q ++ r)) a ws ≡ p ++ (ws ++ r)
@@ -109,6 +97,7 @@ pub put-part : (l ys ws : List ℕ) (a w : ℕ) → ys ≡ ws → length ws ≡ 
 unfolding splice
 put-part l ys ws a w e s = rw (e, post-is a (a + w) l (omega arith), s) refl
 
+-- The same of a part that was filled with zeros.
 pub put-zeros : (l ys : List ℕ) (a w : ℕ) → ys ≡ replicate (length (midOf a ((a + w) - a) l)) 0 → a + w ≤ length l
     → putMid a ((a + w) - a) l ys ≡ splice l a (replicate w 0)
 put-zeros l ys a w e h =

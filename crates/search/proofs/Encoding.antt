@@ -1,18 +1,18 @@
 -- A subproblem in the words of a slot, and a stack in the words of an agenda: what is written is read back.
 -- Assumes nothing.
-use mathlib.Core.Path.{_≡_, refl, sym, ap, ap₂, _∙_}
+use mathlib.Core.Path.{_≡_, refl, sym, ap, _∙_}
 use mathlib.Core.List.{List, List·Memᴰ, List·Memᴰ·head, List·Memᴰ·tail, [], _∷_, _++_, append-assoc, append-nil}
-use Prim.Native.Nat.{ℕ, zero, suc, _+_, _-_, _*_, _/_, _%_, _^_, _≤_, _<_, min}
+use Prim.Native.Nat.{ℕ, zero, suc, _+_, _-_, _*_, _/_, _%_, _^_, _≤_, _<_}
 use native.Mathlib.Omega.{arith}
 use native.Mathlib.Decide.{decLt}
 use native.Mathlib.Nat.{zero-mul}
 use native.Mathlib.Numerals.{add-one}
-use lib.ListN.{length, getD, take, drop, set, replicate, length-append, length-take, length-drop, length-replicate, length-set, take-append-drop, drop-of-length-le, getD-replicate, List·getD-eq-default, replicate-append-replicate}
-use lib.Seq.{length-take-le, take-suc, drop-cons, append-snoc, set-at, take-at, drop-at, drop-drop, take-all, drop-length, getD-at, take-append-le, getD-take, getD-drop, getD-append-add, take-add, ext-getD}
+use lib.ListN.{length, getD, take, drop, set, replicate, length-append, length-take, length-drop, length-replicate, take-append-drop, drop-of-length-le, getD-replicate, List·getD-eq-default, replicate-append-replicate}
+use lib.Seq.{length-take-le, drop-cons, append-snoc, set-at, take-at, drop-at, getD-at, getD-take, getD-drop, getD-append-add, take-add, ext-getD}
 use Rattle.splits.specs.declared.subproblem.Subproblem.{Subproblem}
 use Rattle.search.specs.Agenda.{holding, slotWords, subproblemOf, slotAt, stackOf, stackWords, agendaOf}
 use Rattle.search.specs.Work.Slots.{splice}
-use Rattle.search.specs.Work.Kept.{Shape, Regular}
+use Rattle.search.specs.Work.Kept.{Shape}
 use Rattle.search.proofs.Copies.{drop-zeros, splice-between}
 
 -- What the loop that copies domains makes.
@@ -98,7 +98,11 @@ slot-back n d P few s =
     ap (λ (k : ℕ). getD words (k + 1) 0) (sym long) ∙ getD-append-add (take n (P .domains)) (P .marked / 65536 ∷ P .marked % 65536 ∷ []) 1 0 in
     let marks : getD words n 0 * 65536 + getD words (n + 1) 0 ≡ P .marked = omega (arith, at-n, at-n1) in
     let domains : take n words ++ replicate (32 - n) 0 ≡ P .domains =
-    rw (take-at (take n (P .domains)) (P .marked / 65536 ∷ P .marked % 65536 ∷ []) n long, ← ap (λ (k : ℕ). replicate {A = ℕ} (k - n) 0) (s .long), ← tail-zeros n (P .domains) (s .past)) (take-append-drop n (P .domains)) in
+    rw (
+      take-at (take n (P .domains)) (P .marked / 65536 ∷ P .marked % 65536 ∷ []) n long,
+      ← ap (λ (k : ℕ). replicate {A = ℕ} (k - n) 0) (s .long),
+      ← tail-zeros n (P .domains) (s .past),
+    ) (take-append-drop n (P .domains)) in
     λ t. record { domains = domains t; marked = marks t }
 
 -- Words of a slot are those of the subproblem that they hold.
@@ -121,6 +125,7 @@ length-stack n (P ∷ S) h =
     let slot : length (slotWords n P) ≡ n + 2 = length-slot n P (h P (List·Memᴰ·head refl)) in
     rw (length-append, rest, slot) (omega arith)
 
+-- As many subproblems as slots are read.
 pub length-stackOf : (n : ℕ) (agenda : List ℕ) (m : ℕ) → length (stackOf n agenda m) ≡ m
 unfolding stackOf
 length-stackOf n agenda zero = refl
@@ -158,10 +163,12 @@ stack-of-words n agenda (suc m) h small =
 
 -- ---- an agenda
 
+-- An agenda holds the stack that was put into it.
 pub agenda-back : (n d L : ℕ) (S : List Subproblem) → n ≤ 32 → ((P : Subproblem) → List·Memᴰ P S → Shape n d P) → stackOf n (agendaOf n L S) (length S) ≡ S
 unfolding agendaOf
 agenda-back n d L S few h = stack-back n d S _ few h
 
+-- It has the number of words that it was given.
 pub length-agenda : (n L : ℕ) (S : List Subproblem) → length (stackWords n S) ≤ L → length (agendaOf n L S) ≡ L
 unfolding agendaOf
 length-agenda n L S h = simp (length-append, length-replicate) (omega arith)

@@ -1,26 +1,22 @@
 -- How the public calls end: what they return and leave, refused by the first checks or not.
 -- Assumes nothing.
 use mathlib.Core.Path.{_≡_, refl, sym, ap, _∙_}
-use mathlib.Core.Bool.{Bool, true, false, cond}
+use mathlib.Core.Bool.{true, false, cond}
 use mathlib.Core.List.{List, [], _∷_}
-use Prim.Native.Nat.{ℕ, zero, suc, _+_, _*_, _≤_}
-use native.Mathlib.Omega.{arith}
-use native.Mathlib.Nat.{mul-le-mul-right}
+use Prim.Native.Nat.{ℕ, zero, suc, _+_}
 use lib.ListN.{length}
 use lib.Dec.{eqb}
 use borrow.Author.Tests.{eq-eqb, ne-eqb}
-use Rattle.splits.specs.Problem.{Problem}
 use Rattle.splits.specs.declared.subproblem.Subproblem.{Subproblem}
-use Rattle.search.specs.Agenda.{problemOf, stackOf, slotsIn, agendaOf}
-use Rattle.search.specs.Verdicts.{finished, verdictOf}
+use Rattle.search.specs.Agenda.{problemOf, stackOf, agendaOf}
+use Rattle.search.specs.Verdicts.{verdictOf}
 use Rattle.search.specs.Runs.{Search, Stopped, step, splitTop, refusalOfTop, refusalOfRequest, runFrom, run}
-use Rattle.search.specs.Chooser.{chosen, chooseFrom, choose}
+use Rattle.search.specs.Chooser.{chosen, chooseFrom}
 use Rattle.search.specs.FirstChecks.{openRefusal}
-use Rattle.search.specs.Calls.{opening, searchOf, Opens, Ends}
-use Rattle.search.specs.Work.Kept.{Ready, Stops}
+use Rattle.search.specs.Calls.{opening, Opens, Ends}
+use Rattle.search.specs.Work.Steps.{Stops}
 use Rattle.search.specs.Work.Ends.{Used, endedBy}
 use Rattle.search.specs.declared.state.State.{State}
-use Rattle.search.specs.declared.state.Opened.{Opened}
 use Rattle.search.specs.declared.state.Ran.{Ran}
 use Rattle.search.specs.declared.state.Verdict.{Verdict}
 use Rattle.search.specs.declared.state.Verdict.the-variants.{None}
@@ -35,6 +31,7 @@ ended-made n agenda stop v e = λ i. record { verdict = e i; refusal = stop .ref
 -- ---- a run does not read the problem's domains
 
 module _ (n d : ℕ) (domains tables : List ℕ) (room : ℕ) where
+  -- A step.
   step-same : (r : List ℕ) (s : Search) → step (problemOf n d [] tables) r s ≡ step (problemOf n d domains tables) r s
   unfolding step splitTop
   step-same r s = go (s .stack) refl
@@ -43,25 +40,30 @@ module _ (n d : ℕ) (domains tables : List ℕ) (room : ℕ) where
       go [] e = rw e refl
       go (P ∷ S) e = rw e refl
 
+  -- The refusal by the top.
   top-same : (r : List ℕ) (S : List Subproblem) → refusalOfTop (problemOf n d [] tables) room r S ≡ refusalOfTop (problemOf n d domains tables) room r S
   unfolding refusalOfTop splitTop
   top-same r [] = refl
   top-same r (P ∷ S) = refl
 
+  -- The refusal of a request.
   refusal-same : (r : List ℕ) (s : Search) → refusalOfRequest (problemOf n d [] tables) room r s ≡ refusalOfRequest (problemOf n d domains tables) room r s
   unfolding refusalOfRequest
   refusal-same r s = ap (cond (eqb (s .steps) 4294967295) 11) (top-same r (s .stack))
 
+  -- The chooser's request.
   chosen-same : (S : List Subproblem) → chosen (problemOf n d [] tables) room S ≡ chosen (problemOf n d domains tables) room S
   unfolding chosen splitTop
   chosen-same [] = refl
   chosen-same (P ∷ S) = refl
 
+  -- A run.
   pub run-same : (rs : List (List ℕ)) (s : Search) (k : ℕ) → runFrom (problemOf n d [] tables) room rs s k ≡ runFrom (problemOf n d domains tables) room rs s k
   unfolding runFrom
   run-same [] s k = refl
   run-same (r ∷ rs) s k = rw (refusal-same r s, step-same r s, run-same rs (step (problemOf n d domains tables) r s) (k + 1)) refl
 
+  -- The chooser.
   pub choose-same : (m : ℕ) (s : Search) (k : ℕ) → chooseFrom (problemOf n d [] tables) room m s k ≡ chooseFrom (problemOf n d domains tables) room m s k
   unfolding chooseFrom
   choose-same zero s k = refl
@@ -114,12 +116,14 @@ stops-used n d t before after to stop h = ready-used n d t after (stop .state) (
 -- ---- opening
 
 module _ (n d : ℕ) (domains tables before : List ℕ) (x : ℕ) (e : x ≡ openRefusal n d domains tables before) where
+  -- Refused, it changes nothing.
   pub opens-refused : (s : State) → (x ≡ 0 → ⊥) → s ≡ record { counts = record { steps = record { 0 = 0 }; checks = record { 0 = 0 } }; subproblems = 0 }
       → Opens n d domains tables before before (record { refusal = x; state = s })
   opens-refused s h f =
       let no : eqb (openRefusal n d domains tables before) 0 ≡ false = ne-eqb (openRefusal n d domains tables before) 0 (λ z. h (e ∙ z)) in
       rw f (record { refusal = e; steps = refl; checks = refl; subproblems = rw no refl; agenda = rw no refl })
 
+  -- Else it places the problem.
   pub opens-made : (after : List ℕ) (count : ℕ) (s : State) → x ≡ 0
       → (count ≡ length (opening n domains)) × (after ≡ agendaOf n (length before) (opening n domains))
       → s ≡ record { counts = record { steps = record { 0 = 0 }; checks = record { 0 = 0 } }; subproblems = count }

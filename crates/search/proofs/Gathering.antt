@@ -1,14 +1,13 @@
 -- The loops over the candidates of a request: one counts those that are not empty, one places them, the last named lowest.
 -- Assumes nothing.
 use mathlib.Core.Path.{_≡_, refl, sym, ap, _∙_}
-use mathlib.Core.Bool.{Bool, true, false, not, cond, _&&_}
+use mathlib.Core.Bool.{Bool, true, false, not}
 use mathlib.Core.List.{List, [], _∷_, _++_, append-assoc, append-nil}
-use Prim.Native.Nat.{ℕ, zero, suc, _+_, _-_, _*_, _≤_, _<_}
+use Prim.Native.Nat.{ℕ, _+_, _-_, _*_, _≤_, _<_}
 use native.Mathlib.Omega.{arith}
-use native.Mathlib.Numerals.{add-one}
-use native.Mathlib.Nat.{mul-le-mul-right, le-antisymm, zero-mul}
-use lib.ListN.{length, take, drop, length-append, take-append-drop}
-use lib.Dec.{leb, ltb}
+use native.Mathlib.Nat.{le-antisymm, zero-mul}
+use lib.ListN.{length, length-append, take-append-drop}
+use lib.Dec.{ltb}
 use borrow.Author.Tests.{le-leb, lt-ltb, le-ltb, not-true, not-false}
 use Rattle.splits.specs.Problem.{tableOf}
 use Rattle.splits.specs.Subproblems.{empty}
@@ -18,7 +17,8 @@ use Rattle.splits.specs.declared.subproblem.Subproblem.{Subproblem}
 use Rattle.splits.proofs.ByKind.{few}
 use Rattle.search.specs.Agenda.{slotWords, stackWords}
 use Rattle.search.specs.Work.Slots.{splice, SlotIn}
-use Rattle.search.proofs.Copies.{splice-length, splice-splice, slot-below}
+use Rattle.search.specs.Work.Steps.{Placed}
+use Rattle.search.proofs.Copies.{splice-splice, slot-below}
 use Rattle.search.proofs.Encoding.{length-slot}
 use Rattle.search.proofs.Candidates.{firsts, firsts-le, firsts-drop, firsts-keep, pieces-are}
 
@@ -53,6 +53,7 @@ module _ (n d : ℕ) (t : List ℕ) (P : Subproblem) (r : List ℕ) (fits : read
       let none : empty n (candidate n (tableOf n d t) P r k) ≡ false = rw (piece-is named k Q c h e) at (sym q ∙ not-true b z) in
       rw (firsts-keep n (candidate n (tableOf n d t) P r) k none) (simp length-append (omega arith))
 
+  -- An empty candidate is not counted.
   pub count-same : (named k count : ℕ) (Q : Subproblem) (b : Bool) → Candidates n r named → k < named → Piece P n d t r k Q
       → count ≡ length (firsts n (candidate n (tableOf n d t) P r) k) → b ≡ empty n Q → not b ≡ false
       → count ≡ length (firsts n (candidate n (tableOf n d t) P r) (k + 1))
@@ -60,6 +61,7 @@ module _ (n d : ℕ) (t : List ℕ) (P : Subproblem) (r : List ℕ) (fits : read
       let yes : empty n (candidate n (tableOf n d t) P r k) ≡ true = rw (piece-is named k Q c h e) at (sym q ∙ not-false b z) in
       rw (firsts-drop n (candidate n (tableOf n d t) P r) k yes) s
 
+  -- At the end the count is of all pieces.
   pub count-end : (named k count : ℕ) → length (P .domains) ≡ 32 → Candidates n r named → k ≤ named → named ≤ k
       → count ≡ length (firsts n (candidate n (tableOf n d t) P r) k) → count ≡ length (pieces n (tableOf n d t) P r)
   count-end named k count long c h l e =
@@ -72,6 +74,7 @@ module _ (n d : ℕ) (t : List ℕ) (P : Subproblem) (r : List ℕ) (fits : read
       rw (pieces-are n d t P r fits long, ← named-is named c)
       (sym (le-ltb free (length (firsts n (candidate n (tableOf n d t) P r) named)) (omega (arith, firsts-le n (candidate n (tableOf n d t) P r) named))))
 
+  -- At the start nothing is placed.
   pub gather-none : (before : List ℕ) (from named : ℕ) → length (P .domains) ≡ 32 → Candidates n r named → Gathered n d t P r before from before from named
   unfolding stackWords
   gather-none before from named long c = record {
@@ -134,8 +137,8 @@ module _ (n d : ℕ) (t : List ℕ) (P : Subproblem) (r : List ℕ) (fits : read
 
   -- At the end all are placed.
   pub gather-end : (before : List ℕ) (from : ℕ) (agenda : List ℕ) (at k : ℕ) → Gathered n d t P r before from agenda at k → k ≡ 0
-      → (at ≡ from + length (pieces n (tableOf n d t) P r)) × (agenda ≡ splice before (from * (n + 2)) (stackWords n (pieces n (tableOf n d t) P r)))
+      → Placed n (pieces n (tableOf n d t) P r) from before agenda at
   unfolding firsts
   gather-end before from agenda at k g e =
       let rest : pieces n (tableOf n d t) P r ≡ g .rest = g .all ∙ rw e refl in
-      (rw rest (g .count), rw rest (g .words))
+      record { count = rw rest (g .count); words = rw rest (g .words) }

@@ -26,5 +26,5 @@ pub mod Running
 pub mod Opening
 pub mod Admitting
 pub mod Ending
-pub mod Promises
 pub mod HandedOn
+pub mod Promises

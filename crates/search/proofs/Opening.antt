@@ -1,13 +1,13 @@
 -- What opening places: the problem with nothing instantiated in slot 0 of zeros, unless a domain is empty.
 -- Assumes nothing.
-use mathlib.Core.Path.{_≡_, refl, sym, ap, _∙_}
+use mathlib.Core.Path.{_≡_, refl, ap, _∙_}
 use mathlib.Core.Bool.{Bool, true, false, cond}
 use mathlib.Core.List.{List, [], _∷_, _++_}
-use Prim.Native.Nat.{ℕ, zero, suc, _+_, _-_, _*_, _≤_, _<_}
+use Prim.Native.Nat.{ℕ, _+_, _-_, _*_, _≤_, _<_}
 use native.Mathlib.Omega.{arith}
 use native.Mathlib.Nat.{mul-le-mul-right, zero-mul}
-use lib.ListN.{length, getD, take, replicate, length-take, length-append, length-replicate, List·getD-append}
-use lib.Seq.{length-take-le, take-length}
+use lib.ListN.{length, getD, take, replicate, List·getD-append}
+use lib.Seq.{take-length}
 use lib.Dec.{eqb}
 use Rattle.splits.specs.Subproblems.{domain, empty, some}
 use Rattle.splits.specs.declared.subproblem.Subproblem.{Subproblem}
@@ -36,10 +36,12 @@ module _ (n : ℕ) (domains agenda : List ℕ) (o : Openable n domains agenda) w
       record { few = o .few; within = rw (e, o .whole) (omega arith) }
 
   module _ (P : Subproblem) (made : P ≡ holding n domains 0) (b : Bool) (tested : b ≡ empty n P) (cleared : List ℕ) (zeros : cleared ≡ replicate (length agenda) 0) where
+    -- What opening places, by the test.
     opening-is : opening n domains ≡ cond b [] (P ∷ [])
     unfolding opening
     opening-is = rw (tested, made, problem-empty) refl
 
+    -- A domain is empty.
     pub opens-none : b ≡ true → (0 ≡ length (opening n domains)) × (cleared ≡ agendaOf n (length agenda) (opening n domains))
     unfolding agendaOf stackWords
     opens-none e =
@@ -47,6 +49,7 @@ module _ (n : ℕ) (domains agenda : List ℕ) (o : Openable n domains agenda) w
         let all : length agenda - 0 ≡ length agenda = omega arith in
         rw (none, all) (refl, zeros)
 
+    -- None is.
     pub opens-one : (after : List ℕ) → b ≡ false → after ≡ splice cleared (0 * (n + 2)) (slotWords n P) → length (slotWords n P) ≡ n + 2
         → (1 ≡ length (opening n domains)) × (after ≡ agendaOf n (length agenda) (opening n domains))
     unfolding agendaOf stackWords

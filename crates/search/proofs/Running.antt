@@ -1,29 +1,29 @@
 -- The loops of a run and of the chooser: a search goes on in memory as it does by the rules, request by request.
 -- Assumes nothing.
 use mathlib.Core.Path.{_≡_, refl, sym, ap, _∙_}
-use mathlib.Core.Bool.{Bool, true, false, cond}
-use mathlib.Core.List.{List, List·Memᴰ, List·Memᴰ·head, [], _∷_, _++_}
-use Prim.Native.Nat.{ℕ, zero, suc, _+_, _-_, _*_, _/_, _^_, _≤_, _<_}
+use mathlib.Core.Bool.{Bool, true, false}
+use mathlib.Core.List.{List, List·Memᴰ, List·Memᴰ·head, [], _∷_}
+use Prim.Native.Nat.{ℕ, zero, suc, _+_, _-_, _*_, _/_, _≤_, _<_}
 use native.Mathlib.Omega.{arith}
 use native.Mathlib.Numerals.{add-one}
-use native.Mathlib.Nat.{mul-le-mul-right, zero-mul, le-refl, div-mul-le-self}
+use native.Mathlib.Nat.{mul-le-mul-right, zero-mul, div-mul-le-self}
 use lib.ListN.{length, take, drop}
 use lib.Seq.{drop-drop}
 use lib.Dec.{eqb}
-use Rattle.splits.specs.Problem.{Problem, tableOf}
+use Rattle.splits.specs.Problem.{Problem}
 use Rattle.splits.specs.Subproblems.{instantiated}
 use Rattle.splits.specs.declared.subproblem.Subproblem.{Subproblem}
-use Rattle.search.specs.Agenda.{problemOf, subproblemOf, slotAt, stackOf, slotsIn, agendaOf}
+use Rattle.search.specs.Agenda.{problemOf, subproblemOf, slotAt, stackOf, slotsIn}
 use Rattle.search.specs.Verdicts.{finished, verdictOf}
-use Rattle.search.specs.Runs.{Search, Stopped, step, splitTop, refusalOfTop, refusalOfRequest, runFrom, run, cutInto, requestsIn}
+use Rattle.search.specs.Runs.{Search, Stopped, step, refusalOfRequest, runFrom, run, cutInto, requestsIn}
 use Rattle.search.specs.Chooser.{chosen, chooseFrom, choose}
 use Rattle.search.specs.Calls.{searchOf}
 use Rattle.search.specs.Work.Slots.{SlotIn}
-use Rattle.search.specs.Work.Kept.{Regular, Ready, Taking, Stops}
+use Rattle.search.specs.Work.Kept.{Regular, Ready}
+use Rattle.search.specs.Work.Steps.{Taking, Stops}
 use Rattle.search.specs.Work.Choices.{chosenFor}
 use Rattle.search.specs.Work.Ends.{Used}
 use Rattle.search.specs.declared.state.State.{State}
-use Rattle.search.specs.declared.state.Verdict.{Verdict}
 use Rattle.search.specs.declared.state.Verdict.the-variants.{Running, Solved, Unsolvable}
 use Rattle.search.specs.declared.step.Stop.{Stop}
 use Rattle.search.proofs.Encoding.{length-stackOf, agenda-back}
@@ -37,26 +37,32 @@ pub used-slot : (n m words : ℕ) → Used n m words → (m ≡ 0 → ⊥) → S
 used-slot n m words u h = let up : (m - 1) + 1 ≡ m = omega arith in record { few = u .few; within = rw up (u .within) }
 
 module _ (n : ℕ) (agenda : List ℕ) (m : ℕ) where
+  -- The empty agenda is finished.
   pub finished-empty : m ≡ 0 → finished n (stackOf n agenda m) ≡ true
   unfolding finished stackOf
   finished-empty e = rw e refl
 
+  -- It is unsolvable.
   pub verdict-empty : m ≡ 0 → Unsolvable ≡ verdictOf n (stackOf n agenda m)
   unfolding verdictOf stackOf
   verdict-empty e = rw e refl
 
   module _ (h : m ≡ 0 → ⊥) (P : Subproblem) (top : P ≡ subproblemOf n (slotAt n agenda (m - 1))) (b : Bool) (tested : b ≡ instantiated n P) where
+    -- The stack, top first.
     stack-is : stackOf n agenda m ≡ P ∷ stackOf n agenda (m - 1)
     stack-is = stack-more n agenda m P (omega arith) top
 
+    -- A search is finished if its top is solved.
     pub finished-is : finished n (stackOf n agenda m) ≡ b
     unfolding finished
     finished-is = rw stack-is (sym tested)
 
+    -- It is solved then.
     pub verdict-solved : b ≡ true → Solved ≡ verdictOf n (stackOf n agenda m)
     unfolding verdictOf
     verdict-solved e = rw (stack-is, ← tested, e) refl
 
+    -- Else it runs.
     pub verdict-running : b ≡ false → Running ≡ verdictOf n (stackOf n agenda m)
     unfolding verdictOf
     verdict-running e = rw (stack-is, ← tested, e) refl
@@ -64,6 +70,7 @@ module _ (n : ℕ) (agenda : List ℕ) (m : ℕ) where
 -- ---- one step
 
 module _ (n d : ℕ) (t agenda : List ℕ) (s : State) (ready : Ready n d t agenda (searchOf n agenda s)) where
+  -- The slots in use lie within.
   pub ready-used : Used n (s .subproblems) (length agenda)
   ready-used =
       let fits : s .subproblems ≤ slotsIn n (length agenda) = rw (length-stackOf n agenda (s .subproblems)) at (ready .fits) in
@@ -85,6 +92,7 @@ module _ (n d : ℕ) (t agenda : List ℕ) (s : State) (ready : Ready n d t agen
         same = refl;
       })
 
+  -- A search that runs may take a request.
   pub taking : (P : Subproblem) (b : Bool) → (s .subproblems ≡ 0 → ⊥) → P ≡ subproblemOf n (slotAt n agenda (s .subproblems - 1))
       → b ≡ instantiated n P → b ≡ false → Taking n d t agenda P s
   taking P b h top tested e = record { ready = ready; some = omega arith; top = top; runs = sym tested ∙ e }
@@ -97,11 +105,13 @@ left-is n d t before after to r h =
     ∙ agenda-back n d (length after) (to .search .stack) (h .ready .fitting .few) (λ P m. h .ready .each P m .shape) in
     λ i. record { stack = stack i; steps = h .steps i; checks = h .checks i }
 
+-- It is ready for the next step.
 pub left-ready : (n d : ℕ) (t before after : List ℕ) (to : Stopped) (r : Stop) → Stops n d t before after to r → Ready n d t after (searchOf n after (r .state))
 left-ready n d t before after to r h = rw (left-is n d t before after to r h) (h .ready)
 
 -- ---- the requests of a list of words
 
+-- The next request, and the rest.
 cut-next : (k m w : ℕ) (ws : List ℕ) → k < m → drop k (cutInto m w ws) ≡ take w (drop (k * w) ws) ∷ drop (suc k) (cutInto m w ws)
 unfolding cutInto
 cut-next zero zero w ws h = absurd (omega arith)
@@ -111,6 +121,7 @@ cut-next (suc k) (suc m) w ws h =
     let along : w + k * w ≡ suc k * w = omega arith in
     cut-next k m w (drop w ws) (omega arith) ∙ rw (drop-drop (k * w) w ws, along) refl
 
+-- After the last there is none.
 cut-end : (k m w : ℕ) (ws : List ℕ) → m ≤ k → drop k (cutInto m w ws) ≡ []
 unfolding cutInto
 cut-end zero zero w ws h = refl
@@ -127,6 +138,7 @@ pub record Going (n d : ℕ) (t requests before : List ℕ) (start : State) (age
   pub same : run (problemOf n d [] t) (slotsIn n (length before)) (requestsIn n requests) (searchOf n before start)
       ≡ runFrom (problemOf n d [] t) (slotsIn n (length before)) (drop taken (requestsIn n requests)) (searchOf n agenda s) taken
 
+-- At the start none is taken.
 pub going-none : (n d : ℕ) (t requests before : List ℕ) (start : State) → Ready n d t before (searchOf n before start) → Going n d t requests before start before start 0
 going-none n d t requests before start h = record { ready = h; room = refl; same = refl }
 
@@ -158,17 +170,20 @@ module _ (n d : ℕ) (t requests before : List ℕ) (start : State) (agenda : Li
     one : Stopped
     one = runFrom (problemOf n d [] t) (slotsIn n (length before)) (request ∷ []) (searchOf n agenda s) 0
 
+    -- The step that was made.
     one-stops : Stops n d t agenda after one stop
     unfolding one request
     one-stops =
         let w : (taken * (n + 3) + (n + 3)) - taken * (n + 3) ≡ n + 3 = omega arith in
         rw (w, g .room) at stepped
 
+    -- The run from the request on.
     from-here : run (problemOf n d [] t) (slotsIn n (length before)) (requestsIn n requests) (searchOf n before start)
         ≡ runFrom (problemOf n d [] t) (slotsIn n (length before)) (request ∷ drop (taken + 1) (requestsIn n requests)) (searchOf n agenda s) taken
     unfolding requestsIn request
     from-here = g .same ∙ rw (add-one, cut-next taken (length requests / (n + 3)) (n + 3) requests more) refl
 
+    -- A request that was taken.
     pub going-on : (stop .taken ≡ 0 → ⊥) → Going n d t requests before start after (stop .state) (taken + 1)
     unfolding one
     going-on h = record {
@@ -179,12 +194,14 @@ module _ (n d : ℕ) (t requests before : List ℕ) (start : State) (agenda : Li
           ∙ rw (← left-is n d t agenda after one stop one-stops) refl;
     }
 
+    -- A request that was not.
     pub going-stops : stop .taken ≡ 0
         → Stops n d t before after (run (problemOf n d [] t) (slotsIn n (length before)) (requestsIn n requests) (searchOf n before start))
         (record { refusal = stop .refusal; taken = taken; state = stop .state })
     unfolding one
     going-stops h =
-        rw (from-here ∙ run-stops (problemOf n d [] t) (slotsIn n (length before)) request (searchOf n agenda s) (drop (taken + 1) (requestsIn n requests)) taken (sym (one-stops .taken) ∙ h))
+        rw (from-here ∙ run-stops (problemOf n d [] t) (slotsIn n (length before)) request (searchOf n agenda s)
+        (drop (taken + 1) (requestsIn n requests)) taken (sym (one-stops .taken) ∙ h))
         (record {
           refusal = one-stops .refusal;
           taken = refl;
@@ -209,6 +226,7 @@ module _ (p : Problem) (room : ℕ) (s : Search) where
   unfolding chooseFrom runFrom
   choose-one = refl
 
+  -- A step that was taken, and one that was not.
   choose-on : (m k : ℕ) → (chooseFrom p room 1 s 0 .taken ≡ 0 → ⊥) → chooseFrom p room (suc m) s k ≡ chooseFrom p room m (chooseFrom p room 1 s 0 .search) (k + 1)
   unfolding chooseFrom
   choose-on m k h = go (finished (p .n) (s .stack)) refl (eqb (refusalOfRequest p room (chosen p room (s .stack)) s) 0) refl
@@ -231,20 +249,21 @@ module _ (p : Problem) (room : ℕ) (s : Search) where
       go false e false f = rw (e, f) refl
 
 -- The chooser that has taken some steps.
-pub record Choosing (n d : ℕ) (t : List ℕ) (limit : ℕ) (before : List ℕ) (start : State) (agenda : List ℕ) (s : State) (taken : ℕ) : Type 0 where
+pub record GoingChosen (n d : ℕ) (t : List ℕ) (limit : ℕ) (before : List ℕ) (start : State) (agenda : List ℕ) (s : State) (taken : ℕ) : Type 0 where
   pub ready : Ready n d t agenda (searchOf n agenda s)
   pub room : length agenda ≡ length before
   pub same : choose (problemOf n d [] t) (slotsIn n (length before)) limit (searchOf n before start)
       ≡ chooseFrom (problemOf n d [] t) (slotsIn n (length before)) (limit - taken) (searchOf n agenda s) taken
 
+-- At the start none is taken.
 pub choosing-none : (n d : ℕ) (t : List ℕ) (limit : ℕ) (before : List ℕ) (start : State) → Ready n d t before (searchOf n before start)
-    → Choosing n d t limit before start before start 0
+    → GoingChosen n d t limit before start before start 0
 choosing-none n d t limit before start h =
     let all : limit ≡ limit - 0 = omega arith in
     record { ready = h; room = refl; same = ap (λ (m : ℕ). choose (problemOf n d [] t) (slotsIn n (length before)) m (searchOf n before start)) all }
 
 module _ (n d : ℕ) (t : List ℕ) (limit : ℕ) (before : List ℕ) (start : State) (agenda : List ℕ) (s : State) (taken : ℕ)
-    (g : Choosing n d t limit before start agenda s taken) where
+    (g : GoingChosen n d t limit before start agenda s taken) where
   -- At the limit.
   pub choosing-end : limit ≤ taken
       → Stops n d t before agenda (choose (problemOf n d [] t) (slotsIn n (length before)) limit (searchOf n before start))
@@ -265,20 +284,24 @@ module _ (n d : ℕ) (t : List ℕ) (limit : ℕ) (before : List ℕ) (start : S
 
   module _ (more : taken < limit) (after : List ℕ) (stop : Stop)
       (stepped : Stops n d t agenda after (chooseFrom (problemOf n d [] t) (slotsIn n (length agenda)) 1 (searchOf n agenda s) 0) stop) where
+    -- The step at hand.
     one-step : Stopped
     one-step = chooseFrom (problemOf n d [] t) (slotsIn n (length before)) 1 (searchOf n agenda s) 0
 
+    -- The step that was made.
     step-stops : Stops n d t agenda after one-step stop
     unfolding one-step
     step-stops = rw (g .room) at stepped
 
+    -- The chooser from here on.
     from-step : choose (problemOf n d [] t) (slotsIn n (length before)) limit (searchOf n before start)
         ≡ chooseFrom (problemOf n d [] t) (slotsIn n (length before)) (suc (limit - (taken + 1))) (searchOf n agenda s) taken
     from-step =
         let next : limit - taken ≡ suc (limit - (taken + 1)) = omega arith in
         g .same ∙ ap (λ (m : ℕ). chooseFrom (problemOf n d [] t) (slotsIn n (length before)) m (searchOf n agenda s) taken) next
 
-    pub choosing-on : (stop .taken ≡ 0 → ⊥) → Choosing n d t limit before start after (stop .state) (taken + 1)
+    -- A step that was taken.
+    pub choosing-on : (stop .taken ≡ 0 → ⊥) → GoingChosen n d t limit before start after (stop .state) (taken + 1)
     unfolding one-step
     choosing-on h = record {
       ready = left-ready n d t agenda after one-step stop step-stops;
@@ -287,6 +310,7 @@ module _ (n d : ℕ) (t : List ℕ) (limit : ℕ) (before : List ℕ) (start : S
           ∙ rw (← left-is n d t agenda after one-step stop step-stops) refl;
     }
 
+    -- A step that was not.
     pub choosing-stops : stop .taken ≡ 0
         → Stops n d t before after (choose (problemOf n d [] t) (slotsIn n (length before)) limit (searchOf n before start))
         (record { refusal = stop .refusal; taken = taken; state = stop .state })
@@ -306,6 +330,7 @@ module _ (n d : ℕ) (t : List ℕ) (limit : ℕ) (before : List ℕ) (start : S
 -- ---- a step of the chooser
 
 module _ (n d : ℕ) (t agenda : List ℕ) (s : State) (ready : Ready n d t agenda (searchOf n agenda s)) where
+  -- A search that is finished stays as it is.
   pub stays-chosen : finished n (stackOf n agenda (s .subproblems)) ≡ true
       → Stops n d t agenda agenda (chooseFrom (problemOf n d [] t) (slotsIn n (length agenda)) 1 (searchOf n agenda s) 0)
       (record { refusal = 0; taken = 0; state = s })
@@ -318,9 +343,11 @@ module _ (n d : ℕ) (t agenda : List ℕ) (s : State) (ready : Ready n d t agen
   below-room = let fits : s .subproblems ≤ slotsIn n (length agenda) = rw (length-stackOf n agenda (s .subproblems)) at (ready .fits) in omega arith
 
   module _ (P : Subproblem) (some : s .subproblems ≡ 0 → ⊥) (top : P ≡ subproblemOf n (slotAt n agenda (s .subproblems - 1))) where
+    -- The stack, top first.
     whole-stack : stackOf n agenda (s .subproblems) ≡ P ∷ stackOf n agenda (s .subproblems - 1)
     whole-stack = stack-more n agenda (s .subproblems) P (omega arith) top
 
+    -- The top is regular.
     pub top-regular : Regular n d P
     top-regular = ready .each P (rw whole-stack (List·Memᴰ·head refl))
 

@@ -1,24 +1,23 @@
 -- The pieces of an accepted request have the shape that a slot holds, and none of their domains is empty.
 -- Assumes nothing.
-use mathlib.Core.Path.{_≡_, refl, sym, ap, _∙_}
-use mathlib.Core.Logic.{_⊎_, inl, inr, ⊎-elim}
+use mathlib.Core.Path.{_≡_, refl, _∙_}
+use mathlib.Core.Logic.{_⊎_, ⊎-elim}
 use mathlib.Core.Bool.{Bool, true, false, not, cond}
-use mathlib.Core.List.{List, List·Memᴰ, List·Memᴰ·not-nil, List·Memᴰ·append-cases, List·Memᴰ·eq-of-singleton, [], _∷_, _++_}
-use Prim.Native.Nat.{ℕ, zero, suc, _+_, _-_, _*_, _^_, _≤_, _<_}
+use mathlib.Core.List.{List, List·Memᴰ, List·Memᴰ·not-nil, List·Memᴰ·append-cases, List·Memᴰ·eq-of-singleton, [], _∷_}
+use Prim.Native.Nat.{ℕ, zero, suc, _+_, _-_, _^_, _≤_, _<_}
 use native.Mathlib.Omega.{arith}
-use native.Mathlib.Numerals.{add-one}
 use native.Mathlib.Nat.{le-trans, le-refl}
-use native.Mathlib.Decide.{ℕ-discrete, decLt}
-use lib.ListN.{length, getD, set, length-set}
+use native.Mathlib.Decide.{ℕ-discrete}
+use lib.ListN.{length, length-set}
 use lib.Seq.{getD-set-same, getD-set-other}
-use lib.Bits.{bitOr, or-lt}
+use lib.Bits.{or-lt}
 use lib.Dec.{eqb}
 use borrow.Author.Tests.{eqb-false}
-use Rattle.splits.specs.Masks.{Part, single, common, minus, smallerHalf}
+use Rattle.splits.specs.Masks.{Part, single, common, smallerHalf}
 use Rattle.splits.specs.Problem.{Table, tableOf}
 use Rattle.splits.specs.Subproblems.{domain, empty}
 use Rattle.splits.specs.Requests.{kindOf, variableOf, valueOf, targetOf}
-use Rattle.splits.specs.Splits.{changed, pieces, candidates, candidate, backtracked, checked, inferred, halved, extracted, instantiate, without, cut, cutBeside, atTargets, precluded, disjunct, extract, forbidden}
+use Rattle.splits.specs.Splits.{pieces, candidates, candidate, backtracked, checked, inferred, halved, extracted, instantiate, without, cut, cutBeside, atTargets, precluded, disjunct, extract, forbidden}
 use Rattle.splits.specs.Refusals.{refusalOf}
 use Rattle.splits.specs.declared.subproblem.Subproblem.{Subproblem}
 use Rattle.splits.proofs.Masks.{common-part, minus-part, part-lt, single-lt}
@@ -42,6 +41,7 @@ module _ (n d : ℕ) (few : n ≤ 32) (P : Subproblem) (s : Shape n d P) where
     marks = rw m (s .marks);
   }
 
+  -- A domain without some values, or cut.
   shape-without : (i m : ℕ) → Shape n d (without P i m)
   unfolding without
   shape-without i m = less (without P i m) refl (length-set (P .domains) i _) (within-set (P .domains) i _ (minus-part (domain P i) m))
@@ -50,6 +50,7 @@ module _ (n d : ℕ) (few : n ≤ 32) (P : Subproblem) (s : Shape n d P) where
   unfolding cut
   shape-cut i m = less (cut P i m) refl (length-set (P .domains) i _) (within-set (P .domains) i _ (common-part (domain P i) m))
 
+  -- Domains cut beside a value.
   shape-beside : (allowed : Table) (V′ v j : ℕ) → Shape n d (cutBeside allowed P V′ v j)
   unfolding cutBeside
   shape-beside allowed V′ v j =
@@ -60,12 +61,14 @@ module _ (n d : ℕ) (few : n ≤ 32) (P : Subproblem) (s : Shape n d P) where
       either true i v m = m
       either false i v m = common-part (domain P i) (allowed V′ i _) v m
 
+  -- Domains at their targets.
   shape-targets : (r : List ℕ) (j : ℕ) → j ≤ n → ((i : ℕ) → i < n → Part (targetOf r i) (domain P i)) → Shape n d (atTargets P r j)
   unfolding atTargets
   shape-targets r j h parts =
       less (atTargets P r j) refl (length-changed j _ (P .domains))
       (within-changed j (λ i m. targetOf r i) (P .domains) (λ i l. parts i (le-trans l h)))
 
+  -- A variable instantiated.
   shape-instantiate : (V′ v : ℕ) → V′ < n → v < d → Shape n d (instantiate P V′ v)
   unfolding instantiate
   shape-instantiate V′ v h k = record {
@@ -79,15 +82,18 @@ module _ (n d : ℕ) (few : n ≤ 32) (P : Subproblem) (s : Shape n d P) where
   }
 
 module _ (n d : ℕ) (few : n ≤ 32) (P : Subproblem) (s : Shape n d P) (allowed : Table) where
+  -- The precluded piece.
   shape-precluded : (V′ v : ℕ) → V′ < n → v < d → Shape n d (precluded n allowed P V′ v)
   unfolding precluded
   shape-precluded V′ v = shape-instantiate n d few (cutBeside allowed P V′ v n) (shape-beside n d few P s allowed V′ v n) V′ v
 
+  -- A further piece of IDC.
   shape-disjunct : (V′ v j : ℕ) → Shape n d (disjunct allowed P V′ v j)
   unfolding disjunct
   shape-disjunct V′ v j =
       shape-without n d few _ (shape-beside n d few (without P V′ (single v)) (shape-without n d few P s V′ (single v)) allowed V′ v j) j (allowed V′ j v)
 
+  -- A further piece of extraction.
   shape-extract : (r : List ℕ) (j : ℕ) → j ≤ n → ((i : ℕ) → i < n → Part (targetOf r i) (domain P i)) → Shape n d (extract P r j)
   unfolding extract
   shape-extract r j h parts = shape-without n d few (atTargets P r j) (shape-targets n d few P s r j h parts) j (targetOf r j)
@@ -101,6 +107,7 @@ member-one n R Q m = go (empty n R) refl m
     go true e m = absurd (List·Memᴰ·not-nil m)
     go false e m = let same : Q ≡ R = List·Memᴰ·eq-of-singleton m in (same, rw same e)
 
+-- So of all that were gathered.
 member-firsts : (n : ℕ) (f : ℕ → Subproblem) (m : ℕ) (Q : Subproblem) → List·Memᴰ Q (firsts n f m)
     → (k : ℕ) × (k < m) × (Q ≡ f k) × (empty n Q ≡ false)
 unfolding firsts
@@ -124,13 +131,16 @@ module _ (n d : ℕ) (t : List ℕ) (P : Subproblem) (r : List ℕ) (fit : Fitti
   Shaped : ℕ → Type 0
   Shaped k = Shape n d (candidate n (tableOf n d t) P r k)
 
+  -- V without some values.
   rest : (m : ℕ) → Shape n d (without P (variableOf r) m)
   rest m = shape-without n d (fit .few) P s (variableOf r) m
 
+  -- The precluded piece of an accepted request.
   first : (kind : ℕ) → kindOf r ≡ kind → kind ≤ 3 → Shape n d (precluded n (tableOf n d t) P (variableOf r) (valueOf r))
   first kind e l =
       shape-precluded n d (fit .few) P s (tableOf n d t) (variableOf r) (valueOf r) (its-variable n d P r accepted kind e (omega arith)) (its-value n d P r accepted kind e l)
 
+  -- Kind by kind.
   of-1 : (k : ℕ) → kindOf r ≡ 1 → Shaped k
   unfolding Shaped candidate backtracked
   of-1 k e =

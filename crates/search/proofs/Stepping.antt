@@ -1,38 +1,36 @@
 -- One request taken by a search that runs: its refusal, the room, the checks, and the memory that it leaves.
 -- Assumes nothing.
 use mathlib.Core.Path.{_≡_, refl, sym, ap, _∙_}
-use mathlib.Core.Logic.{_⊎_, inl, inr, ⊎-elim}
-use mathlib.Core.Bool.{Bool, true, false, not, cond, _&&_}
+use mathlib.Core.Logic.{_⊎_, ⊎-elim}
+use mathlib.Core.Bool.{Bool, true, false, cond, _&&_}
 use mathlib.Core.List.{List, List·Memᴰ, List·Memᴰ·head, List·Memᴰ·tail, List·Memᴰ·append-cases, [], _∷_, _++_}
-use Prim.Native.Nat.{ℕ, zero, suc, _+_, _-_, _*_, _/_, _^_, _≤_, _<_}
+use Prim.Native.Nat.{ℕ, zero, suc, _+_, _-_, _*_, _^_, _≤_, _<_}
 use native.Mathlib.Omega.{arith}
-use native.Mathlib.Numerals.{add-one}
 use native.Mathlib.Decide.{decLt}
-use native.Mathlib.Nat.{mul-le-mul-right, lt-of-lt-of-le, le-refl, zero-add}
+use native.Mathlib.Nat.{mul-le-mul-right, lt-of-lt-of-le}
 use lib.ListN.{length, replicate, length-append}
 use lib.Count.{ones-le}
 use lib.Pow.{pow-mono}
 use lib.Dec.{eqb, ltb}
-use borrow.Author.Tests.{eq-eqb, ne-eqb, eqb-true, eqb-false, ltb-true, ltb-false, lt-ltb, le-ltb}
+use borrow.Author.Tests.{eq-eqb, ne-eqb, lt-ltb, le-ltb}
 use Rattle.splits.specs.Masks.{bit, size}
 use Rattle.splits.specs.Problem.{Problem, tableOf, total}
-use Rattle.splits.specs.Subproblems.{domain, instantiated}
+use Rattle.splits.specs.Subproblems.{domain}
 use Rattle.splits.specs.Requests.{kindOf, variableOf, valueOf}
-use Rattle.splits.specs.Splits.{below, keep, forbids, byKind, pieces}
+use Rattle.splits.specs.Splits.{below, keep, forbids, pieces}
 use Rattle.splits.specs.Checks.{lookedAt, others, tried, valuesIn, checks}
-use Rattle.splits.specs.Refusals.{refusalOf}
 use Rattle.splits.specs.Calls.{readable}
 use Rattle.splits.specs.declared.subproblem.Subproblem.{Subproblem}
 use Rattle.splits.proofs.ByKind.{kind-any}
 use Rattle.splits.proofs.Looking.{keep-append}
 use Rattle.search.specs.Agenda.{problemOf, subproblemOf, slotAt, stackOf, stackWords, slotsIn, agendaOf}
 use Rattle.search.specs.Verdicts.{finished}
-use Rattle.search.specs.Runs.{Search, Stopped, splitTop, step, refusalOfTop, refusalOfRequest, runFrom}
+use Rattle.search.specs.Runs.{Search, splitTop, step, refusalOfTop, refusalOfRequest, runFrom}
 use Rattle.search.specs.Work.Slots.{splice}
-use Rattle.search.specs.Work.Kept.{Shape, Regular, Fitting, Ready, Placing, Replaced, Taking, Stops, refusalFor}
+use Rattle.search.specs.Work.Kept.{Shape, Regular, Fitting, Ready}
+use Rattle.search.specs.Work.Steps.{Replaced, Taking, Stops, refusalFor}
 use Rattle.search.specs.Calls.{searchOf}
 use Rattle.search.specs.declared.state.State.{State}
-use Rattle.search.specs.declared.step.Stop.{Stop}
 use Rattle.search.proofs.Encoding.{length-stack, length-stackOf, stack-append, length-agenda, agenda-pop, agenda-push}
 use Rattle.search.proofs.Accepting.{accepted-reads, Unrefused, unrefused}
 use Rattle.search.proofs.Shapes.{pieces-regular}
@@ -55,6 +53,7 @@ looked-le f (i ∷ is) = go (f i) (looked-le f is)
     go true h = omega arith
     go false h = omega arith
 
+-- Those kept are at most all.
 kept-le : (t : ℕ → Bool) (n : ℕ) → length (keep t (below n)) ≤ n
 unfolding below keep
 kept-le t zero = omega arith
@@ -64,25 +63,30 @@ kept-le t (suc n) = rw (keep-append t (below n) (n ∷ []), length-append) (go (
     go true h = omega arith
     go false h = omega arith
 
+-- A variable that is not counted adds nothing.
 one-of : (b : Bool) (x c : ℕ) → x ≤ c → cond b x 0 ≤ c
 one-of true x c h = h
 one-of false x c h = omega arith
 
 module _ (n d : ℕ) (t : List ℕ) (P : Subproblem) (r : List ℕ) (fit : Fitting n d t) (s : Shape n d P) where
+  -- Kind 1.
   tried-few : tried (others (variableOf r)) n (tableOf n d t) P (variableOf r) (valueOf r) ≤ 512
   unfolding tried
   tried-few =
       let seen : ℕ → Bool = λ i. eqb (bit (P .marked) i) 1 && others (variableOf r) i in
       omega (arith, fit .few, kept-le seen n, looked-le (forbids (tableOf n d t) P (variableOf r) (valueOf r)) (keep seen (below n)))
 
+  -- Kinds 2 and 3.
   values-few : valuesIn (others (variableOf r)) n P ≤ 512
   unfolding valuesIn
   values-few =
       let word : (i : ℕ) → domain P i < 2 ^ 16 = λ i. lt-of-lt-of-le (s .masks i) (pow-mono (fit .small)) in
-      let all = total-up-to 16 n (λ i. cond (others (variableOf r) i) (size (domain P i)) 0) (λ i. one-of (others (variableOf r) i) (size (domain P i)) 16 (ones-le 16 (domain P i) (word i))) in
+      let all = total-up-to 16 n (λ i. cond (others (variableOf r) i) (size (domain P i)) 0)
+      (λ i. one-of (others (variableOf r) i) (size (domain P i)) 16 (ones-le 16 (domain P i) (word i))) in
       let most : n * 16 ≤ 32 * 16 = mul-le-mul-right 16 (fit .few) in
       omega arith
 
+  -- Any kind.
   pub checks-few : checks n (tableOf n d t) P r ≤ 512
   unfolding checks
   checks-few = kind-any (kindOf r) _ _ _ _ _ _ (λ x. x ≤ 512) tried-few values-few values-few (omega arith) (omega arith) (omega arith)
@@ -102,6 +106,7 @@ module _ (p : Problem) (room : ℕ) (r : List ℕ) (s : Search) where
       go false e true f = rw (e, f) refl
       go false e false f = absurd (h (rw (e, f) refl))
 
+  -- A run that stops at the first request.
   pub run-stops : (rs : List (List ℕ)) (k : ℕ) → runFrom p room (r ∷ []) s 0 .taken ≡ 0
       → runFrom p room (r ∷ rs) s k ≡ record { search = runFrom p room (r ∷ []) s 0 .search; refusal = runFrom p room (r ∷ []) s 0 .refusal; taken = k }
   unfolding runFrom
@@ -114,15 +119,18 @@ module _ (p : Problem) (room : ℕ) (r : List ℕ) (s : Search) where
       go false e true f = let z : 0 + 1 ≡ 0 = rw (e, f) at h in absurd (omega arith)
       go false e false f = rw (e, f) refl
 
+  -- A finished search takes nothing.
   pub one-finished : finished (p .n) (s .stack) ≡ true → runFrom p room (r ∷ []) s 0 ≡ record { search = s; refusal = 0; taken = 0 }
   unfolding runFrom
   one-finished e = rw e refl
 
   module _ (runs : finished (p .n) (s .stack) ≡ false) where
+    -- A refused request leaves the search.
     pub one-refused : (x : ℕ) → x ≡ refusalOfRequest p room r s → (x ≡ 0 → ⊥) → runFrom p room (r ∷ []) s 0 ≡ record { search = s; refusal = x; taken = 0 }
     unfolding runFrom
     one-refused x e h = rw (e, runs, ne-eqb (refusalOfRequest p room r s) 0 (λ z. h (e ∙ z))) refl
 
+    -- An accepted one is a step.
     pub one-taken : 0 ≡ refusalOfRequest p room r s → runFrom p room (r ∷ []) s 0 ≡ record { search = step p r s; refusal = 0; taken = 1 }
     unfolding runFrom
     one-taken e = rw (runs, eq-eqb (refusalOfRequest p room r s) 0 (sym e)) refl
@@ -160,12 +168,15 @@ refusal-same n d t room r s P S top h =
     rw (top, same) refl
 
 module _ (n d : ℕ) (t agenda : List ℕ) (P : Subproblem) (r : List ℕ) (s : State) (h : Taking n d t agenda P s) where
+  -- The stack, top first.
   top-is : stackOf n agenda (s .subproblems) ≡ P ∷ stackOf n agenda (s .subproblems - 1)
   top-is = stack-more n agenda (s .subproblems) P (h .some) (h .top)
 
+  -- How many lie below the top.
   many : length (stackOf n agenda (s .subproblems - 1)) ≡ s .subproblems - 1
   many = length-stackOf n agenda (s .subproblems - 1)
 
+  -- All have their slots.
   in-slots : s .subproblems ≤ slotsIn n (length agenda)
   in-slots = rw (length-stackOf n agenda (s .subproblems)) at (h .ready .fits)
 
@@ -173,10 +184,12 @@ module _ (n d : ℕ) (t agenda : List ℕ) (P : Subproblem) (r : List ℕ) (s : 
   pub below-slots : s .subproblems - 1 ≤ slotsIn n (length agenda)
   below-slots = omega (arith, in-slots)
 
+  -- The search is not finished.
   runs : finished n (stackOf n agenda (s .subproblems)) ≡ false
   unfolding finished
   runs = rw top-is (h .runs)
 
+  -- The refusal that the code works out is that of the rules.
   its-refusal : refusalFor n d t P r (s .counts .steps .0) (slotsIn n (length agenda) - (s .subproblems - 1))
       ≡ refusalOfRequest (problemOf n d [] t) (slotsIn n (length agenda)) r (searchOf n agenda s)
   its-refusal =
@@ -203,6 +216,7 @@ module _ (n d : ℕ) (t agenda : List ℕ) (P : Subproblem) (r : List ℕ) (s : 
     told : Unrefused n d t P r (s .counts .steps .0) (slotsIn n (length agenda) - (s .subproblems - 1))
     told = unrefused n d t P r (s .counts .steps .0) (slotsIn n (length agenda) - (s .subproblems - 1)) (sym e ∙ none)
 
+    -- The top is regular.
     top-regular : Regular n d P
     top-regular = h .ready .each P (rw top-is (List·Memᴰ·head refl))
 
@@ -210,9 +224,11 @@ module _ (n d : ℕ) (t agenda : List ℕ) (P : Subproblem) (r : List ℕ) (s : 
     pub take-reads : readable n d t r ≡ true
     take-reads = accepted-reads n d P r (told .accepted) t (h .ready .fitting)
 
+    -- The checks fit a u64.
     pub take-counts : s .counts .checks .0 + checks n (tableOf n d t) P r < 2 ^ 64
     take-counts = omega (arith, checks-few n d t P r (h .ready .fitting) (top-regular .shape), h .ready .counted, h .ready .stepped)
 
+    -- The steps fit a u32.
     pub take-steps : s .counts .steps .0 + 1 < 2 ^ 32
     take-steps = omega (arith, told .more, h .ready .stepped)
 
@@ -220,9 +236,11 @@ module _ (n d : ℕ) (t agenda : List ℕ) (P : Subproblem) (r : List ℕ) (s : 
     fit-slots : (s .subproblems - 1) + length (pieces n (tableOf n d t) P r) ≤ slotsIn n (length agenda)
     fit-slots = omega (arith, told .room, below-slots)
 
+    -- So of the words.
     pub take-room : ((s .subproblems - 1) + length (pieces n (tableOf n d t) P r)) * (n + 2) ≤ length agenda
     take-room = rw (h .ready .whole) (mul-le-mul-right (n + 2) fit-slots)
 
+    -- The top's slot lies within.
     pub take-slot : ((s .subproblems - 1) + 1) * (n + 2) ≤ length agenda
     take-slot = rw (h .ready .whole) (mul-le-mul-right (n + 2) (omega (arith, in-slots, h .some)))
 
@@ -232,14 +250,17 @@ module _ (n d : ℕ) (t agenda : List ℕ) (P : Subproblem) (r : List ℕ) (s : 
         length-stack n (pieces n (tableOf n d t) P r)
         (λ Q m. omega (arith, pieces-regular n d t P r (h .ready .fitting) (top-regular .shape) (told .accepted) Q m .shape .long, h .ready .fitting .few))
 
+    -- What lies below the top stays regular.
     rest-regular : (Q : Subproblem) → List·Memᴰ Q (stackOf n agenda (s .subproblems - 1)) → Regular n d Q
     rest-regular Q m = h .ready .each Q (rw top-is (List·Memᴰ·tail m))
 
+    -- It fills whole slots too.
     rest-sized : length (stackWords n (stackOf n agenda (s .subproblems - 1))) ≡ (s .subproblems - 1) * (n + 2)
     rest-sized =
         length-stack n (stackOf n agenda (s .subproblems - 1)) (λ Q m. omega (arith, rest-regular Q m .shape .long, h .ready .fitting .few))
         ∙ ap (λ (k : ℕ). k * (n + 2)) many
 
+    -- The words: the top cleared, the pieces written.
     made-words : (after : List ℕ) (count : ℕ) → Replaced n (pieces n (tableOf n d t) P r) (s .subproblems - 1) agenda after count
         → after ≡ agendaOf n (length agenda) (pieces n (tableOf n d t) P r ++ stackOf n agenda (s .subproblems - 1))
     made-words after count m =
@@ -251,6 +272,7 @@ module _ (n d : ℕ) (t agenda : List ℕ) (P : Subproblem) (r : List ℕ) (s : 
         ∙ agenda-pop n (length agenda) a P S (omega (arith, top-regular .shape .long, h .ready .fitting .few)) rest-sized (omega (arith, take-slot)) in
         m .words ∙ rw pop (agenda-push n (length agenda) a (pieces n (tableOf n d t) P r) S rest-sized (omega (arith, take-room, sized)))
 
+    -- As many words as before.
     made-length : (after : List ℕ) (count : ℕ) → Replaced n (pieces n (tableOf n d t) P r) (s .subproblems - 1) agenda after count → length after ≡ length agenda
     made-length after count m =
         let short : length (stackWords n (pieces n (tableOf n d t) P r ++ stackOf n agenda (s .subproblems - 1))) ≤ length agenda =
@@ -258,6 +280,7 @@ module _ (n d : ℕ) (t agenda : List ℕ) (P : Subproblem) (r : List ℕ) (s : 
         ap length (made-words after count m)
         ∙ length-agenda n (length agenda) (pieces n (tableOf n d t) P r ++ stackOf n agenda (s .subproblems - 1)) short
 
+    -- The search is ready for the next step.
     made-ready : (after : List ℕ) (count : ℕ) → Replaced n (pieces n (tableOf n d t) P r) (s .subproblems - 1) agenda after count
         → Ready n d t after (record {
           stack = pieces n (tableOf n d t) P r ++ stackOf n agenda (s .subproblems - 1);
@@ -277,6 +300,7 @@ module _ (n d : ℕ) (t agenda : List ℕ) (P : Subproblem) (r : List ℕ) (s : 
           stepped = take-steps;
         }
 
+    -- Accepted, memory holds the search after the step.
     pub take-taken : (after : List ℕ) (count c : ℕ) → Replaced n (pieces n (tableOf n d t) P r) (s .subproblems - 1) agenda after count
         → c ≡ s .counts .checks .0 + checks n (tableOf n d t) P r
         → Stops n d t agenda after (runFrom (problemOf n d [] t) (slotsIn n (length agenda)) (r ∷ []) (searchOf n agenda s) 0)

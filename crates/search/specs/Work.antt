@@ -2,5 +2,6 @@
 pub mod FirstTests
 pub mod Slots
 pub mod Kept
+pub mod Steps
 pub mod Choices
 pub mod Ends

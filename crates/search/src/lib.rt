@@ -14,42 +14,13 @@ use crate::state::Steps;
 use crate::state::Verdict;
 use crate::step::Stop;
 ghost use mathlib.Core.Path.{_≡_};
-ghost use mathlib.Core.List.{[], _∷_};
 ghost use lib.ListN.{length};
-ghost use Rattle.search.specs.Agenda.{problemOf, stackOf, slotsIn, agendaOf};
+ghost use Rattle.search.specs.Agenda.{stackOf, agendaOf};
 ghost use Rattle.search.specs.Verdicts.{verdictOf};
-ghost use Rattle.search.specs.Runs.{runFrom, run, requestsIn};
-ghost use Rattle.search.specs.Chooser.{chooseFrom, choose};
 ghost use Rattle.search.specs.Calls.{opening, searchOf, Opens, Runs, Chooses};
-ghost use Rattle.search.specs.Work.Kept.{Ready, Stops};
+ghost use Rattle.search.specs.Work.Kept.{Ready};
+ghost use Rattle.search.specs.Work.Steps.{TakesOne, TakesAll, ChoosesOne, ChoosesAll};
 ghost use Rattle.search.specs.Work.Ends.{Openable, Used, endedBy};
-
-// Counts of 0, and so many subproblems.
-fn fresh(subproblems: usize) -> State
-    ensures { λ r. ⌜ r ≡ record { counts = record { steps = record { 0 = 0 }; checks = record { 0 = 0 } }; subproblems = subproblems } ⌝ }
-{
-    State {
-        counts: Counts {
-            steps: Steps(0),
-            checks: Checks(0),
-        },
-        subproblems,
-    }
-}
-
-// The agenda cleared, and the problem in it unless a domain is empty; the number of subproblems.
-fn place_problem(n: usize, domains: &[u16], agenda: &mut [u16]) -> usize
-    requires { ⌜ Openable n (now domains) (now agenda) ⌝ }
-    ensures { λ r. ⌜ (r ≡ length (opening n (now (domains .entry)))) × (now (agenda .exit) ≡ agendaOf n (length (now (agenda .entry))) (opening n (now (domains .entry)))) ⌝ }
-{
-    agenda::clear(n, agenda);
-    let problem = agenda::holding(n, domains, 0);
-    if problem.is_empty(n) {
-        return 0;
-    }
-    agenda::write_slot(n, agenda, 0, problem);
-    1
-}
 
 // Opens a search.
 pub fn open(n: usize, d: usize, domains: &[u16], tables: &[u16], agenda: &mut [u16]) -> Opened
@@ -69,99 +40,30 @@ pub fn open(n: usize, d: usize, domains: &[u16], tables: &[u16], agenda: &mut [u
     }
 }
 
-// The verdict of the first so many slots.
-fn verdict(n: usize, agenda: &[u16], subproblems: usize) -> Verdict
-    requires { ⌜ Used n subproblems (length (now agenda)) ⌝ }
-    ensures { λ r. ⌜ r ≡ verdictOf n (stackOf n (now (agenda .entry)) subproblems) ⌝ }
+// The agenda cleared, and the problem in it unless a domain is empty; the number of subproblems.
+fn place_problem(n: usize, domains: &[u16], agenda: &mut [u16]) -> usize
+    requires { ⌜ Openable n (now domains) (now agenda) ⌝ }
+    ensures { λ r. ⌜ (r ≡ length (opening n (now (domains .entry)))) × (now (agenda .exit) ≡ agendaOf n (length (now (agenda .entry))) (opening n (now (domains .entry)))) ⌝ }
 {
-    if subproblems == 0 {
-        return Verdict::Unsolvable;
+    agenda::clear(n, agenda);
+    let problem = agenda::holding(n, domains, 0);
+    if problem.is_empty(n) {
+        return 0;
     }
-    let top = agenda::read_slot(n, agenda, subproblems - 1);
-    if top.all_instantiated(n) {
-        return Verdict::Solved;
-    }
-    Verdict::Running
+    agenda::write_slot(n, agenda, 0, problem);
+    1
 }
 
-// What a call returns that stopped so.
-fn ended(n: usize, agenda: &[u16], stop: Stop) -> Ran
-    requires { ⌜ Used n (stop .state .subproblems) (length (now agenda)) ⌝ }
-    ensures { λ r. ⌜ r ≡ endedBy n (now (agenda .entry)) stop ⌝ }
+// Counts of 0, and so many subproblems.
+fn fresh(subproblems: usize) -> State
+    ensures { λ r. ⌜ r ≡ record { counts = record { steps = record { 0 = 0 }; checks = record { 0 = 0 } }; subproblems = subproblems } ⌝ }
 {
-    let state = stop.state;
-    Ran {
-        verdict: verdict(n, agenda, state.subproblems),
-        refusal: stop.refusal,
-        taken: stop.taken,
-        state,
-    }
-}
-
-// One request of a run, unless the search is finished.
-fn step_by(
-    n: usize,
-    d: usize,
-    tables: &[u16],
-    agenda: &mut [u16],
-    request: &[u16],
-    state: State,
-) -> Stop
-    requires { ⌜ Ready n d (now tables) (now agenda) (searchOf n (now agenda) state) ⌝ }
-    ensures { λ r. ⌜ Stops n d (now (tables .entry)) (now (agenda .entry)) (now (agenda .exit)) (runFrom (problemOf n d [] (now (tables .entry))) (slotsIn n (length (now (agenda .entry)))) (now (request .entry) ∷ []) (searchOf n (now (agenda .entry)) state) 0) r ⌝ }
-{
-    let subproblems = state.subproblems;
-    if subproblems == 0 {
-        return Stop {
-            refusal: 0,
-            taken: 0,
-            state,
-        };
-    }
-    let top = agenda::read_slot(n, agenda, subproblems - 1);
-    if top.all_instantiated(n) {
-        return Stop {
-            refusal: 0,
-            taken: 0,
-            state,
-        };
-    }
-    step::take(top, n, d, tables, agenda, request, state)
-}
-
-// The requests one by one, until one is not taken.
-fn run_on(
-    n: usize,
-    d: usize,
-    tables: &[u16],
-    agenda: &mut [u16],
-    requests: &[u16],
-    state: State,
-) -> Stop
-    requires { ⌜ Ready n d (now tables) (now agenda) (searchOf n (now agenda) state) ⌝ }
-    ensures { λ r. ⌜ Stops n d (now (tables .entry)) (now (agenda .entry)) (now (agenda .exit)) (run (problemOf n d [] (now (tables .entry))) (slotsIn n (length (now (agenda .entry)))) (requestsIn n (now (requests .entry))) (searchOf n (now (agenda .entry)) state)) r ⌝ }
-{
-    let count = requests.len() / (n + 3);
-    let mut state = state;
-    let mut taken = 0;
-    while taken < count {
-        let at = taken * (n + 3);
-        let end = at + (n + 3);
-        let stop = step_by(n, d, tables, agenda, &requests[at..end], state);
-        state = stop.state;
-        if stop.taken == 0 {
-            return Stop {
-                refusal: stop.refusal,
-                taken,
-                state,
-            };
-        }
-        taken += 1;
-    }
-    Stop {
-        refusal: 0,
-        taken,
-        state,
+    State {
+        counts: Counts {
+            steps: Steps(0),
+            checks: Checks(0),
+        },
+        subproblems,
     }
 }
 
@@ -190,10 +92,53 @@ pub fn run(
     ended(n, agenda, stop)
 }
 
-// One step of the chooser, unless the search is finished.
-fn step_chosen(n: usize, d: usize, tables: &[u16], agenda: &mut [u16], state: State) -> Stop
+// The requests one by one, until one is not taken.
+fn run_on(
+    n: usize,
+    d: usize,
+    tables: &[u16],
+    agenda: &mut [u16],
+    requests: &[u16],
+    state: State,
+) -> Stop
     requires { ⌜ Ready n d (now tables) (now agenda) (searchOf n (now agenda) state) ⌝ }
-    ensures { λ r. ⌜ Stops n d (now (tables .entry)) (now (agenda .entry)) (now (agenda .exit)) (chooseFrom (problemOf n d [] (now (tables .entry))) (slotsIn n (length (now (agenda .entry)))) 1 (searchOf n (now (agenda .entry)) state) 0) r ⌝ }
+    ensures { λ r. ⌜ TakesAll n d (now (tables .entry)) (now (agenda .entry)) (now (agenda .exit)) (now (requests .entry)) state r ⌝ }
+{
+    let count = requests.len() / (n + 3);
+    let mut state = state;
+    let mut taken = 0;
+    while taken < count {
+        let at = taken * (n + 3);
+        let end = at + (n + 3);
+        let stop = step_by(n, d, tables, agenda, &requests[at..end], state);
+        state = stop.state;
+        if stop.taken == 0 {
+            return Stop {
+                refusal: stop.refusal,
+                taken,
+                state,
+            };
+        }
+        taken += 1;
+    }
+    Stop {
+        refusal: 0,
+        taken,
+        state,
+    }
+}
+
+// One request of a run, unless the search is finished.
+fn step_by(
+    n: usize,
+    d: usize,
+    tables: &[u16],
+    agenda: &mut [u16],
+    request: &[u16],
+    state: State,
+) -> Stop
+    requires { ⌜ Ready n d (now tables) (now agenda) (searchOf n (now agenda) state) ⌝ }
+    ensures { λ r. ⌜ TakesOne n d (now (tables .entry)) (now (agenda .entry)) (now (agenda .exit)) (now (request .entry)) state r ⌝ }
 {
     let subproblems = state.subproblems;
     if subproblems == 0 {
@@ -211,42 +156,7 @@ fn step_chosen(n: usize, d: usize, tables: &[u16], agenda: &mut [u16], state: St
             state,
         };
     }
-    let free = agenda.len() / (n + 2) - (subproblems - 1);
-    let request = chooser::chosen(top, n, d, tables, free);
-    step::take(top, n, d, tables, agenda, &request, state)
-}
-
-// Chosen requests one by one, until one is not taken or the limit is met.
-fn choose_on(
-    n: usize,
-    d: usize,
-    tables: &[u16],
-    agenda: &mut [u16],
-    limit: usize,
-    state: State,
-) -> Stop
-    requires { ⌜ Ready n d (now tables) (now agenda) (searchOf n (now agenda) state) ⌝ }
-    ensures { λ r. ⌜ Stops n d (now (tables .entry)) (now (agenda .entry)) (now (agenda .exit)) (choose (problemOf n d [] (now (tables .entry))) (slotsIn n (length (now (agenda .entry)))) limit (searchOf n (now (agenda .entry)) state)) r ⌝ }
-{
-    let mut state = state;
-    let mut taken = 0;
-    while taken < limit {
-        let stop = step_chosen(n, d, tables, agenda, state);
-        state = stop.state;
-        if stop.taken == 0 {
-            return Stop {
-                refusal: stop.refusal,
-                taken,
-                state,
-            };
-        }
-        taken += 1;
-    }
-    Stop {
-        refusal: 0,
-        taken,
-        state,
-    }
+    step::take(top, n, d, tables, agenda, request, state)
 }
 
 // Runs up to `limit` steps by the house chooser.
@@ -272,4 +182,92 @@ pub fn choose(
     }
     let stop = choose_on(n, d, tables, agenda, limit, state);
     ended(n, agenda, stop)
+}
+
+// Chosen requests one by one, until one is not taken or the limit is met.
+fn choose_on(
+    n: usize,
+    d: usize,
+    tables: &[u16],
+    agenda: &mut [u16],
+    limit: usize,
+    state: State,
+) -> Stop
+    requires { ⌜ Ready n d (now tables) (now agenda) (searchOf n (now agenda) state) ⌝ }
+    ensures { λ r. ⌜ ChoosesAll n d (now (tables .entry)) (now (agenda .entry)) (now (agenda .exit)) limit state r ⌝ }
+{
+    let mut state = state;
+    let mut taken = 0;
+    while taken < limit {
+        let stop = step_chosen(n, d, tables, agenda, state);
+        state = stop.state;
+        if stop.taken == 0 {
+            return Stop {
+                refusal: stop.refusal,
+                taken,
+                state,
+            };
+        }
+        taken += 1;
+    }
+    Stop {
+        refusal: 0,
+        taken,
+        state,
+    }
+}
+
+// One step of the chooser, unless the search is finished.
+fn step_chosen(n: usize, d: usize, tables: &[u16], agenda: &mut [u16], state: State) -> Stop
+    requires { ⌜ Ready n d (now tables) (now agenda) (searchOf n (now agenda) state) ⌝ }
+    ensures { λ r. ⌜ ChoosesOne n d (now (tables .entry)) (now (agenda .entry)) (now (agenda .exit)) state r ⌝ }
+{
+    let subproblems = state.subproblems;
+    if subproblems == 0 {
+        return Stop {
+            refusal: 0,
+            taken: 0,
+            state,
+        };
+    }
+    let top = agenda::read_slot(n, agenda, subproblems - 1);
+    if top.all_instantiated(n) {
+        return Stop {
+            refusal: 0,
+            taken: 0,
+            state,
+        };
+    }
+    let free = agenda.len() / (n + 2) - (subproblems - 1);
+    let request = chooser::chosen(top, n, d, tables, free);
+    step::take(top, n, d, tables, agenda, &request, state)
+}
+
+// What a call returns that stopped so.
+fn ended(n: usize, agenda: &[u16], stop: Stop) -> Ran
+    requires { ⌜ Used n (stop .state .subproblems) (length (now agenda)) ⌝ }
+    ensures { λ r. ⌜ r ≡ endedBy n (now (agenda .entry)) stop ⌝ }
+{
+    let state = stop.state;
+    Ran {
+        verdict: verdict(n, agenda, state.subproblems),
+        refusal: stop.refusal,
+        taken: stop.taken,
+        state,
+    }
+}
+
+// The verdict of the first so many slots.
+fn verdict(n: usize, agenda: &[u16], subproblems: usize) -> Verdict
+    requires { ⌜ Used n subproblems (length (now agenda)) ⌝ }
+    ensures { λ r. ⌜ r ≡ verdictOf n (stackOf n (now (agenda .entry)) subproblems) ⌝ }
+{
+    if subproblems == 0 {
+        return Verdict::Unsolvable;
+    }
+    let top = agenda::read_slot(n, agenda, subproblems - 1);
+    if top.all_instantiated(n) {
+        return Verdict::Solved;
+    }
+    Verdict::Running
 }

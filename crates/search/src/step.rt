@@ -9,20 +9,16 @@ use splits::refusal;
 use splits::split;
 use splits::subproblem::Subproblem;
 ghost use mathlib.Core.Path.{_≡_};
-ghost use mathlib.Core.Bool.{true, false};
-ghost use mathlib.Core.List.{[], _∷_};
-ghost use Prim.Native.Nat.{ℕ, _+_, _-_, _*_, _≤_, _<_, _^_};
+ghost use mathlib.Core.Bool.{true};
+ghost use Prim.Native.Nat.{_+_, _*_, _≤_, _<_, _^_};
 ghost use lib.ListN.{length};
 ghost use lib.Dec.{ltb};
 ghost use Rattle.splits.specs.Problem.{tableOf};
 ghost use Rattle.splits.specs.Splits.{pieces};
 ghost use Rattle.splits.specs.Checks.{checks};
 ghost use Rattle.splits.specs.Calls.{readable};
-ghost use Rattle.search.specs.Agenda.{problemOf, stackWords, slotsIn};
-ghost use Rattle.search.specs.Runs.{runFrom};
-ghost use Rattle.search.specs.Calls.{searchOf};
-ghost use Rattle.search.specs.Work.Slots.{splice};
-ghost use Rattle.search.specs.Work.Kept.{Fitting, Placing, Replaced, Taking, Stops, refusalFor};
+ghost use Rattle.search.specs.Work.Kept.{Fitting};
+ghost use Rattle.search.specs.Work.Steps.{Placing, Placed, Replaced, Taking, TakesOne, refusalFor};
 
 // Where a run stops: the refusal, the requests taken and the state it leaves.
 pub(crate) struct Stop {
@@ -104,7 +100,7 @@ fn place(
     from: usize,
 ) -> usize
     requires { ⌜ Placing n d (now tables) top (now request) from (length (now agenda)) ⌝ }
-    ensures { λ r. ⌜ (r ≡ from + length (pieces n (tableOf n d (now (tables .entry))) top (now (request .entry)))) × (now (agenda .exit) ≡ splice (now (agenda .entry)) (from * (n + 2)) (stackWords n (pieces n (tableOf n d (now (tables .entry))) top (now (request .entry))))) ⌝ }
+    ensures { λ r. ⌜ Placed n (pieces n (tableOf n d (now (tables .entry))) top (now (request .entry))) from (now (agenda .entry)) (now (agenda .exit)) r ⌝ }
 {
     let mut at = from;
     let mut k = split::candidates(n, request);
@@ -162,7 +158,7 @@ pub(crate) fn take(
     state: State,
 ) -> Stop
     requires { ⌜ Taking n d (now tables) (now agenda) top state ⌝ }
-    ensures { λ r. ⌜ Stops n d (now (tables .entry)) (now (agenda .entry)) (now (agenda .exit)) (runFrom (problemOf n d [] (now (tables .entry))) (slotsIn n (length (now (agenda .entry)))) (now (request .entry) ∷ []) (searchOf n (now (agenda .entry)) state) 0) r ⌝ }
+    ensures { λ r. ⌜ TakesOne n d (now (tables .entry)) (now (agenda .entry)) (now (agenda .exit)) (now (request .entry)) state r ⌝ }
 {
     let steps = state.counts.steps.0;
     let below = state.subproblems - 1;

@@ -1,53 +1,43 @@
-use borrow.Author.Needs.{needs}
+-- `search::choose_on` meets its contract. The invariant: the chooser from here on is the whole chooser.
+-- Assumes nothing.
 use mathlib.Core.Path.{_∙_}
 use Prim.Native.Nat.{_≤_, _-_}
 use native.Mathlib.Omega.{arith}
-use Rattle.search.proofs.Running.{Choosing, choosing-none, choosing-on, choosing-stops, choosing-end}
+use borrow.Author.Needs.{needs}
+use Rattle.search.proofs.Running.{GoingChosen, choosing-none, choosing-on, choosing-stops, choosing-end}
 use Rattle.search.proofs.choose_on.Statement.{statement}
 use Rattle.search.proofs.choose_on.Tie as tie
-use Rattle.search.proofs.choose_on.Reads as reads
-use Rattle.search.proofs.choose_on.Lts as lts
-use Rattle.search.proofs.step_chosen.Reads as step-chosen-reads
 
 abbrev Inv-loop : tie.InvT-loop
-Inv-loop n d tables agenda₀ limit state₀ taken₀ agenda state taken = (taken ≤ limit) × Choosing n d tables limit agenda₀ state₀ agenda state taken
+Inv-loop n d tables agenda₀ limit state₀ taken₀ agenda state taken = (taken ≤ limit) × GoingChosen n d tables limit agenda₀ state₀ agenda state taken
 
 abbrev μ-loop : tie.MeasureT-loop
 μ-loop n d tables agenda₀ limit state₀ taken₀ agenda state taken = limit - taken
 
--- src/lib.rt:187:5
 loop-holds : tie.Need-loop-holds Inv-loop μ-loop
 loop-holds c = (search needs, choosing-none _ _ _ _ _ _ (c .before .before .pre))
 
--- src/lib.rt:188:13
 step-chosen-requires : tie.Need-step-chosen-requires Inv-loop μ-loop
 step-chosen-requires c κs = c .before .before .loop .inv .1 .ready
 
--- src/lib.rt:191:13
 same-length : tie.Need-same-length Inv-loop μ-loop
 same-length c = c .before .before .before .before .before .step-chosen .ensures .same ∙ c .before .before .before .before .before .before .before .before .loop .inv .1 .room
 
--- src/lib.rt:191:13
 returns : tie.Need-returns Inv-loop μ-loop
 returns c = choosing-stops _ _ _ _ _ _ _ _ _ (c .before .before .before .before .before .before .before .before .loop .inv .1) (c .before .before .before .before .before .before .before .loop-test .taken) _ _ (c .before .before .before .before .before .step-chosen .ensures) (c .if1 .taken)
 
--- src/lib.rt:193:9
 add-taken : tie.Need-add-taken Inv-loop μ-loop
 add-taken c = search needs
 
--- src/lib.rt:187:5
 loop-less : tie.Need-loop-less Inv-loop μ-loop
 loop-less c = search needs
 
--- src/lib.rt:187:5
 loop-again : tie.Need-loop-again Inv-loop μ-loop
 loop-again c = (omega arith, choosing-on _ _ _ _ _ _ _ _ _ (c .before .before .before .before .before .before .before .before .loop .inv .1) (c .before .before .before .before .before .before .before .loop-test .taken) _ _ (c .before .before .before .before .before .step-chosen .ensures) (c .if1 .left))
 
--- src/lib.rt:181:1
 same-length-2 : tie.Need-same-length-2 Inv-loop μ-loop
 same-length-2 c = c .before .loop .inv .1 .room
 
--- src/lib.rt:181:1
 returns-2 : tie.Need-returns-2 Inv-loop μ-loop
 returns-2 c = choosing-end _ _ _ _ _ _ _ _ _ (c .before .loop .inv .1) (c .loop-test .left)
 

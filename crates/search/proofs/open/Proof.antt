@@ -1,43 +1,32 @@
+-- `search::open` meets its contract.
+-- Assumes nothing.
 use borrow.Author.Needs.{needs}
 use Rattle.search.proofs.Admitting.{openable}
 use Rattle.search.proofs.Ending.{opens-refused, opens-made}
 use Rattle.search.proofs.open.Statement.{statement}
 use Rattle.search.proofs.open.Tie as tie
-use Rattle.search.proofs.open.Reads as reads
-use Rattle.search.proofs.open.Lts as lts
-use Rattle.search.proofs.first.open_refusal.Reads as open-refusal-reads
-use Rattle.search.proofs.fresh.Reads as fresh-reads
-use Rattle.search.proofs.place_problem.Reads as place-problem-reads
 
--- src/lib.rt:57:9
 open-refusal-requires : tie.Need-open-refusal-requires
 open-refusal-requires c κs = search needs
 
--- src/lib.rt:61:20
 fresh-requires : tie.Need-fresh-requires
 fresh-requires c κs = search needs
 
--- src/lib.rt:59:9
 same-length : tie.Need-same-length
 same-length c = search needs
 
--- src/lib.rt:59:9
 returns : tie.Need-returns
 returns c = opens-refused _ _ _ _ _ _ (c .before .before .open-refusal .ensures) _ (c .before .if1 .taken) (c .fresh .ensures)
 
--- src/lib.rt:64:9
 place-problem-requires : tie.Need-place-problem-requires
 place-problem-requires c κs = openable _ (c .before .before .before .before .before .before .before .args .d) _ (c .before .before .before .before .before .before .before .args .tables .now) _ _ (c .before .before .open-refusal .ensures) (c .before .if1 .left)
 
--- src/lib.rt:67:16
 fresh-requires-2 : tie.Need-fresh-requires-2
 fresh-requires-2 c κs = search needs
 
--- src/lib.rt:54:1
 same-length-2 : tie.Need-same-length-2
 same-length-2 c = search needs
 
--- src/lib.rt:54:1
 returns-2 : tie.Need-returns-2
 returns-2 c = opens-made _ _ _ _ _ _ (c .before .before .before .before .before .before .open-refusal .ensures) _ _ _ (c .before .before .before .before .before .if1 .left) (c .before .before .before .place-problem .ensures) (c .fresh2 .ensures)
 

@@ -1,33 +1,25 @@
-use borrow.Author.Needs.{needs}
-use mathlib.Core.Path.{_≡_}
+-- `search::run` meets its contract.
+-- Assumes nothing.
 use Prim.Native.Nat.{ℕ, _<_, _^_}
 use native.Mathlib.Omega.{arith}
 use lib.ListN.{getD}
 use mir.Val.{Fits}
 use mir.Syntax.{w32}
+use borrow.Author.Needs.{needs}
 use Rattle.search.proofs.Admitting.{run-ready}
 use Rattle.search.proofs.Ending.{ends-refused, ends-stopped, stops-used, run-same}
 use Rattle.search.proofs.run.Statement.{statement}
 use Rattle.search.proofs.run.Tie as tie
-use Rattle.search.proofs.run.Reads as reads
-use Rattle.search.proofs.run.Lts as lts
-use Rattle.search.proofs.ended.Reads as ended-reads
-use Rattle.search.proofs.first.run_refusal.Reads as run-refusal-reads
-use Rattle.search.proofs.run_on.Reads as run-on-reads
 
--- src/lib.rt:149:9
 run-refusal-requires : tie.Need-run-refusal-requires
 run-refusal-requires c κs = search needs
 
--- src/lib.rt:151:9
 same-length : tie.Need-same-length
 same-length c = search needs
 
--- src/lib.rt:151:9
 returns : tie.Need-returns
 returns c = ends-refused _ _ _ _ _ _ (c .before .run-refusal .ensures) (c .if1 .taken)
 
--- src/lib.rt:158:9
 run-on-requires : tie.Need-run-on-requires
 run-on-requires c κs =
     let a = c .before .before .before .before .before .before .before .before .args in
@@ -35,15 +27,12 @@ run-on-requires c κs =
     let stepped : Fits w32 (a .state .counts .steps .0) = search needs in
     run-ready _ _ (a .domains .now) _ _ _ _ (c .before .if1 .left) small (stepped .fits) _ (c .before .before .run-refusal .ensures)
 
--- src/lib.rt:159:5
 ended-requires : tie.Need-ended-requires
 ended-requires c κs = stops-used _ _ _ _ _ _ _ (c .before .before .before .run-on .ensures)
 
--- src/lib.rt:138:1
 same-length-2 : tie.Need-same-length-2
 same-length-2 c = search needs
 
--- src/lib.rt:138:1
 returns-2 : tie.Need-returns-2
 returns-2 c = ends-stopped _ _ _ _ _ _ _ _ _ _ _ _ (c .before .before .before .before .before .before .before .run-refusal .ensures) (c .before .before .before .before .before .before .if1 .left) (c .before .before .before .before .run-on .ensures) (run-same _ _ (c .before .before .before .before .before .before .before .before .before .before .before .before .before .args .domains .now) (c .before .before .before .before .before .before .before .before .before .before .before .before .before .args .tables .now) _ _ _ _) (c .ended .ensures)
 

@@ -1,72 +1,53 @@
-use borrow.Author.Needs.{needs}
+-- `search::step_chosen` meets its contract.
+-- Assumes nothing.
 use mathlib.Core.Path.{sym, _∙_}
+use borrow.Author.Needs.{needs}
 use Rattle.search.proofs.Running.{used-slot, ready-used, finished-empty, finished-is, stays-chosen, taking, below-room, top-regular, chosen-stops}
 use Rattle.search.proofs.step_chosen.Statement.{statement}
 use Rattle.search.proofs.step_chosen.Tie as tie
-use Rattle.search.proofs.step_chosen.Reads as reads
-use Rattle.search.proofs.step_chosen.Lts as lts
-use Rattle.search.proofs.agenda.read_slot.Reads as read-slot-reads
-use Rattle.search.proofs.chooser.chosen.Reads as chosen-reads
-use Rattle.search.proofs.step.take.Reads as take-reads
-use Rattle.splits.proofs.subproblem.Subproblem.all_instantiated.Reads as all-instantiated-reads
 
--- src/lib.rt:169:9
 returns : tie.Need-returns
 returns c = stays-chosen _ _ _ _ _ (c .before .before .before .pre) (finished-empty _ _ _ (c .if1 .taken))
 
--- src/lib.rt:171:44
 sub-read-slot : tie.Need-sub-read-slot
 sub-read-slot c = search needs
 
--- src/lib.rt:171:9
 read-slot-requires : tie.Need-read-slot-requires
 read-slot-requires c κs = used-slot _ _ _ (ready-used _ _ (c .before .before .before .before .args .tables .now) _ _ (c .before .before .before .before .pre)) (c .before .if1 .left)
 
--- src/lib.rt:172:8
 all-instantiated-requires : tie.Need-all-instantiated-requires
 all-instantiated-requires c κs = search needs
 
--- src/lib.rt:173:9
 same-length : tie.Need-same-length
 same-length c = search needs
 
--- src/lib.rt:173:9
 returns-2 : tie.Need-returns-2
 returns-2 c = stays-chosen _ _ _ _ _ (c .before .before .before .before .before .before .before .pre) (finished-is _ _ _ (c .before .before .before .before .if1 .left) _ (c .before .before .read-slot .ensures) _ (c .before .all-instantiated .ensures) ∙ c .if2 .taken)
 
--- src/lib.rt:175:32
 add-free : tie.Need-add-free
 add-free c = search needs
 
--- src/lib.rt:175:16
 div-free : tie.Need-div-free
 div-free c = search needs
 
--- src/lib.rt:175:42
 sub-free : tie.Need-sub-free
 sub-free c = search needs
 
--- src/lib.rt:175:16
 sub-free-2 : tie.Need-sub-free-2
 sub-free-2 c = below-room _ _ (c .before .before .before .before .before .before .before .args .tables .now) _ _ (c .before .before .before .before .before .before .before .pre)
 
--- src/lib.rt:176:19
 chosen-requires : tie.Need-chosen-requires
 chosen-requires c κs = (c .before .before .before .before .before .before .before .pre .fitting, (top-regular _ _ (c .before .before .before .before .before .before .before .args .tables .now) _ _ (c .before .before .before .before .before .before .before .pre) _ (c .before .before .before .before .if1 .left) (c .before .before .read-slot .ensures), sym (c .before .all-instantiated .ensures) ∙ c .if2 .left))
 
--- src/lib.rt:177:43
 slice-aggregate-take : tie.Need-slice-aggregate-take
 slice-aggregate-take c = search needs
 
--- src/lib.rt:177:5
 take-requires : tie.Need-take-requires
 take-requires c κs = taking _ _ _ _ _ (c .before .before .before .before .before .before .before .before .before .before .pre) _ _ (c .before .before .before .before .before .before .before .if1 .left) (c .before .before .before .before .before .read-slot .ensures) (c .before .before .before .before .all-instantiated .ensures) (c .before .before .before .if2 .left)
 
--- src/lib.rt:163:1
 same-length-2 : tie.Need-same-length-2
 same-length-2 c = search needs
 
--- src/lib.rt:163:1
 returns-3 : tie.Need-returns-3
 returns-3 c = chosen-stops _ _ _ _ _ (c .before .before .before .before .before .before .before .before .before .before .before .before .before .pre) _ (c .before .before .before .before .before .before .before .before .before .before .if1 .left) (c .before .before .before .before .before .before .before .before .read-slot .ensures) _ _ _ (c .before .before .before .before .before .chosen .ensures) (c .before .before .take .ensures)
 

@@ -1,33 +1,25 @@
+-- `search::verdict` meets its contract.
+-- Assumes nothing.
 use borrow.Author.Needs.{needs}
 use Rattle.search.proofs.Running.{used-slot, verdict-empty, verdict-solved, verdict-running}
 use Rattle.search.proofs.verdict.Statement.{statement}
 use Rattle.search.proofs.verdict.Tie as tie
-use Rattle.search.proofs.verdict.Reads as reads
-use Rattle.search.proofs.verdict.Lts as lts
-use Rattle.search.proofs.agenda.read_slot.Reads as read-slot-reads
-use Rattle.splits.proofs.subproblem.Subproblem.all_instantiated.Reads as all-instantiated-reads
 
--- src/lib.rt:77:9
 returns : tie.Need-returns
 returns c = verdict-empty _ _ _ (c .if1 .taken)
 
--- src/lib.rt:79:44
 sub-read-slot : tie.Need-sub-read-slot
 sub-read-slot c = search needs
 
--- src/lib.rt:79:9
 read-slot-requires : tie.Need-read-slot-requires
 read-slot-requires c κs = used-slot _ _ _ (c .before .before .pre) (c .if1 .left)
 
--- src/lib.rt:80:8
 all-instantiated-requires : tie.Need-all-instantiated-requires
 all-instantiated-requires c κs = search needs
 
--- src/lib.rt:81:9
 returns-2 : tie.Need-returns-2
 returns-2 c = verdict-solved _ _ _ (c .before .before .before .if1 .left) _ (c .before .before .read-slot .ensures) _ (c .before .all-instantiated .ensures) (c .if2 .taken)
 
--- src/lib.rt:72:1
 returns-3 : tie.Need-returns-3
 returns-3 c = verdict-running _ _ _ (c .before .before .before .if1 .left) _ (c .before .before .read-slot .ensures) _ (c .before .all-instantiated .ensures) (c .if2 .left)
 

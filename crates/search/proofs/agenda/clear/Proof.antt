@@ -1,15 +1,14 @@
-use borrow.Author.Needs.{needs}
+-- `search::agenda::clear` meets its contract. The invariant: the slots before k are zeros.
+-- Assumes nothing.
 use mathlib.Core.Path.{_≡_, refl, sym, _∙_}
 use mathlib.Core.List.{_++_}
 use Prim.Native.Nat.{_≤_, _-_, _+_, _*_, _/_}
 use native.Mathlib.Omega.{arith}
 use lib.ListN.{length, drop, replicate}
+use borrow.Author.Needs.{needs}
 use Rattle.search.proofs.Copies.{zeros-end, clear-none, clear-more, slot-below}
 use Rattle.search.proofs.agenda.clear.Statement.{statement}
 use Rattle.search.proofs.agenda.clear.Tie as tie
-use Rattle.search.proofs.agenda.clear.Reads as reads
-use Rattle.search.proofs.agenda.clear.Lts as lts
-use Rattle.search.proofs.agenda.clear_slot.Reads as clear-slot-reads
 
 abbrev Inv-loop : tie.InvT-loop
 Inv-loop n agenda₀ slots k₀ agenda k = (k ≤ slots) × ((length agenda ≡ length agenda₀) × (agenda ≡ replicate (k * (n + 2)) 0 ++ drop (k * (n + 2)) agenda₀))
@@ -17,31 +16,24 @@ Inv-loop n agenda₀ slots k₀ agenda k = (k ≤ slots) × ((length agenda ≡ 
 abbrev μ-loop : tie.MeasureT-loop
 μ-loop n agenda₀ slots k₀ agenda k = slots - k
 
--- src/agenda.rt:106:33
 add-slots : tie.Need-add-slots Inv-loop μ-loop
 add-slots c = search needs
 
--- src/agenda.rt:106:17
 div-slots : tie.Need-div-slots Inv-loop μ-loop
 div-slots c = search needs
 
--- src/agenda.rt:108:5
 loop-holds : tie.Need-loop-holds Inv-loop μ-loop
 loop-holds c = (search needs, (refl, clear-none _ (c .before .args .n + 2)))
 
--- src/agenda.rt:109:9
 clear-slot-requires : tie.Need-clear-slot-requires Inv-loop μ-loop
 clear-slot-requires c κs = slot-below _ _ _ _ (c .before .before .before .before .pre .0) (c .before .loop-test .taken) (omega arith)
 
--- src/agenda.rt:110:9
 add-k : tie.Need-add-k Inv-loop μ-loop
 add-k c = search needs
 
--- src/agenda.rt:108:5
 loop-less : tie.Need-loop-less Inv-loop μ-loop
 loop-less c = search needs
 
--- src/agenda.rt:108:5
 loop-again : tie.Need-loop-again Inv-loop μ-loop
 loop-again c =
     let a = c .before .before .before .before .before .before .before .args in
@@ -50,11 +42,9 @@ loop-again c =
     let next = clear-more (a .agenda .now) _ (c .before .before .before .before .before .loop .k * (a .n + 2)) (a .n + 2) ((c .before .before .before .before .before .loop .k + 1) * (a .n + 2)) (inv .1 .1) (omega arith) (slot .within) in
     (omega arith, (omega arith, c .before .before .clear-slot .ensures ∙ next))
 
--- src/agenda.rt:102:1
 same-length : tie.Need-same-length Inv-loop μ-loop
 same-length c = search needs
 
--- src/agenda.rt:102:1
 returns : tie.Need-returns Inv-loop μ-loop
 returns c = let end : c .before .loop .k * (c .before .before .before .args .n + 2) ≡ length (c .before .before .before .args .agenda .now) = (let e : c .before .loop .k ≡ length (c .before .before .before .args .agenda .now) / (c .before .before .before .args .n + 2) = omega arith in rw e (sym (c .before .before .before .pre .1))) in zeros-end _ _ _ (c .before .loop .inv .1 .1) end
 

@@ -1,15 +1,15 @@
-use borrow.Author.Needs.{needs}
-use mathlib.Core.Path.{_≡_, refl, sym, _∙_}
+-- `search::agenda::holding` meets its contract. The invariant: the words before i are copied, and zeros follow.
+-- Assumes nothing.
+use mathlib.Core.Path.{_≡_, refl}
 use mathlib.Core.List.{_++_}
 use Prim.Native.Nat.{ℕ, _≤_, _-_}
 use native.Mathlib.Omega.{arith}
 use lib.ListN.{length, drop, take, replicate}
+use borrow.Author.Needs.{needs}
 use Rattle.search.proofs.Copies.{copy-more}
 use Rattle.search.proofs.Encoding.{holding-made}
 use Rattle.search.proofs.agenda.holding.Statement.{statement}
 use Rattle.search.proofs.agenda.holding.Tie as tie
-use Rattle.search.proofs.agenda.holding.Reads as reads
-use Rattle.search.proofs.agenda.holding.Lts as lts
 
 abbrev Inv-loop : tie.InvT-loop
 Inv-loop n words marked domains₀ i₀ domains i = (i ≤ n) × (domains ≡ take i words ++ drop i (replicate 32 0))
@@ -17,42 +17,33 @@ Inv-loop n words marked domains₀ i₀ domains i = (i ≤ n) × (domains ≡ ta
 abbrev μ-loop : tie.MeasureT-loop
 μ-loop n words marked domains₀ i₀ domains i = n - i
 
--- src/agenda.rt:16:5
 loop-holds : tie.Need-loop-holds Inv-loop μ-loop
 loop-holds c = search needs
 
--- src/agenda.rt:17:22
 mul-domains : tie.Need-mul-domains Inv-loop μ-loop
 mul-domains c = search needs
 
--- src/agenda.rt:17:22
 shared-slice-read-domains : tie.Need-shared-slice-read-domains Inv-loop μ-loop
 shared-slice-read-domains c = search needs
 
--- src/agenda.rt:17:9
 mul-domains-2 : tie.Need-mul-domains-2 Inv-loop μ-loop
 mul-domains-2 c = search needs
 
--- src/agenda.rt:17:9
 array-write-domains : tie.Need-array-write-domains Inv-loop μ-loop
 array-write-domains c = search needs
 
--- src/agenda.rt:18:9
 add-i : tie.Need-add-i Inv-loop μ-loop
 add-i c = search needs
 
--- src/agenda.rt:16:5
 loop-less : tie.Need-loop-less Inv-loop μ-loop
 loop-less c = search needs
 
--- src/agenda.rt:16:5
 loop-again : tie.Need-loop-again Inv-loop μ-loop
 loop-again c =
     let inv = c .before .before .loop .inv in
     let long : length {A = ℕ} (replicate 32 0) ≡ 32 = refl in
     (omega arith, copy-more _ _ _ _ _ (inv .1) refl (omega arith) (omega arith))
 
--- src/agenda.rt:10:1
 returns : tie.Need-returns Inv-loop μ-loop
 returns c =
     let end : c .before .loop .i ≡ c .before .before .args .n = omega arith in

@@ -1,15 +1,14 @@
-use borrow.Author.Needs.{needs}
-use mathlib.Core.Path.{_≡_, refl, sym, _∙_}
+-- `search::agenda::put_domains` meets its contract. The invariant: the domains before i are copied.
+-- Assumes nothing.
+use mathlib.Core.Path.{_≡_}
 use mathlib.Core.List.{_++_}
 use Prim.Native.Nat.{_≤_, _-_}
 use native.Mathlib.Omega.{arith}
 use lib.ListN.{length, drop, take, length-set}
+use borrow.Author.Needs.{needs}
 use Rattle.search.proofs.Copies.{copy-more, copy-end}
 use Rattle.search.proofs.agenda.put_domains.Statement.{statement}
 use Rattle.search.proofs.agenda.put_domains.Tie as tie
-use Rattle.search.proofs.agenda.put_domains.Reads as reads
-use Rattle.search.proofs.agenda.put_domains.Lts as lts
-use Rattle.splits.proofs.subproblem.Subproblem.domain.Reads as domain-reads
 
 abbrev Inv-loop : tie.InvT-loop
 Inv-loop words₀ p i₀ words i = (i ≤ length words₀) × ((length words ≡ length words₀) × (words ≡ take i (p .domains) ++ drop i words₀))
@@ -17,42 +16,33 @@ Inv-loop words₀ p i₀ words i = (i ≤ length words₀) × ((length words ≡
 abbrev μ-loop : tie.MeasureT-loop
 μ-loop words₀ p i₀ words i = length words₀ - i
 
--- src/agenda.rt:54:5
 loop-holds : tie.Need-loop-holds Inv-loop μ-loop
 loop-holds c = search needs
 
--- src/agenda.rt:55:20
 domain-requires : tie.Need-domain-requires Inv-loop μ-loop
 domain-requires c κs = search needs
 
--- src/agenda.rt:55:9
 mul-words : tie.Need-mul-words Inv-loop μ-loop
 mul-words c = search needs
 
--- src/agenda.rt:55:9
 slice-write-words : tie.Need-slice-write-words Inv-loop μ-loop
 slice-write-words c = search needs
 
--- src/agenda.rt:56:9
 add-i : tie.Need-add-i Inv-loop μ-loop
 add-i c = search needs
 
--- src/agenda.rt:54:5
 loop-less : tie.Need-loop-less Inv-loop μ-loop
 loop-less c = search needs
 
--- src/agenda.rt:54:5
 loop-again : tie.Need-loop-again Inv-loop μ-loop
 loop-again c =
     let inv = c .before .before .loop .inv in
     let long : length (c .before .before .before .before .args .p .domains) ≡ 32 = search needs in
     (omega arith, (simp length-set (inv .1 .0), copy-more _ _ _ _ _ (inv .1 .1) (c .domain .ensures) (omega arith) (omega arith)))
 
--- src/agenda.rt:49:1
 same-length : tie.Need-same-length Inv-loop μ-loop
 same-length c = search needs
 
--- src/agenda.rt:49:1
 returns : tie.Need-returns Inv-loop μ-loop
 returns c = let e : c .before .loop .i ≡ length (c .before .before .before .args .words .now) = omega arith in copy-end _ _ _ _ (c .before .loop .inv .1 .1) e
 

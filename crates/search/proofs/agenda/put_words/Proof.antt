@@ -1,59 +1,46 @@
-use borrow.Author.Needs.{needs}
-use mathlib.Core.Path.{_≡_, sym}
+-- `search::agenda::put_words` meets its contract.
+-- Assumes nothing.
+use mathlib.Core.Path.{_≡_}
 use native.Mathlib.Omega.{arith}
-use lib.ListN.{length, length-set, length-take, length-append, length-drop}
+use lib.ListN.{length, length-set, length-take}
+use borrow.Author.Needs.{needs}
 use Rattle.search.proofs.Encoding.{slot-made}
 use Rattle.search.proofs.agenda.put_words.Statement.{statement}
 use Rattle.search.proofs.agenda.put_words.Tie as tie
-use Rattle.search.proofs.agenda.put_words.Reads as reads
-use Rattle.search.proofs.agenda.put_words.Lts as lts
-use Rattle.search.proofs.agenda.put_domains.Reads as put-domains-reads
 
--- src/agenda.rt:65:17
 slice-relend-prefix-put-domains : tie.Need-slice-relend-prefix-put-domains
 slice-relend-prefix-put-domains c = search needs
 
--- src/agenda.rt:65:17
 slice-aggregate-put-domains : tie.Need-slice-aggregate-put-domains
 slice-aggregate-put-domains c = simp length-take (omega arith)
 
--- src/agenda.rt:65:5
 put-domains-requires : tie.Need-put-domains-requires
 put-domains-requires c κs = simp length-take (omega arith)
 
--- src/agenda.rt:66:15
 cast-slot : tie.Need-cast-slot
 cast-slot c = search needs
 
--- src/agenda.rt:66:5
 mul-slot : tie.Need-mul-slot
 mul-slot c = search needs
 
--- src/agenda.rt:66:5
 slice-write-slot : tie.Need-slice-write-slot
 slice-write-slot c = search needs
 
--- src/agenda.rt:67:19
 cast-slot-2 : tie.Need-cast-slot-2
 cast-slot-2 c = search needs
 
--- src/agenda.rt:67:10
 add-slot : tie.Need-add-slot
 add-slot c = search needs
 
--- src/agenda.rt:67:5
 mul-slot-2 : tie.Need-mul-slot-2
 mul-slot-2 c = search needs
 
--- src/agenda.rt:67:5
 slice-write-slot-2 : tie.Need-slice-write-slot-2
 slice-write-slot-2 c = simp length-set (omega arith)
 
--- src/agenda.rt:61:1
 same-length : tie.Need-same-length
 same-length c = search needs
 
--- src/agenda.rt:61:1
 returns : tie.Need-returns
 returns c =
     let a = c .before .before .before .before .before .before .before .args in

@@ -1,15 +1,14 @@
-use borrow.Author.Needs.{needs}
-use borrow.Author.Fill.{fill-none, fill-more}
-use mathlib.Core.Path.{_≡_, refl, sym, _∙_}
+-- `search::agenda::put_zeros` meets its contract. The invariant: the words before i are zeros.
+-- Assumes nothing.
+use mathlib.Core.Path.{_≡_}
 use mathlib.Core.List.{_++_}
 use Prim.Native.Nat.{_≤_, _-_}
 use native.Mathlib.Omega.{arith}
 use lib.ListN.{length, drop, replicate, length-set}
+use borrow.Author.Needs.{needs}
 use Rattle.search.proofs.Copies.{zeros-more, zeros-end}
 use Rattle.search.proofs.agenda.put_zeros.Statement.{statement}
 use Rattle.search.proofs.agenda.put_zeros.Tie as tie
-use Rattle.search.proofs.agenda.put_zeros.Reads as reads
-use Rattle.search.proofs.agenda.put_zeros.Lts as lts
 
 abbrev Inv-loop : tie.InvT-loop
 Inv-loop words₀ i₀ words i = (i ≤ length words₀) × ((length words ≡ length words₀) × (words ≡ replicate i 0 ++ drop i words₀))
@@ -17,35 +16,27 @@ Inv-loop words₀ i₀ words i = (i ≤ length words₀) × ((length words ≡ l
 abbrev μ-loop : tie.MeasureT-loop
 μ-loop words₀ i₀ words i = length words₀ - i
 
--- src/agenda.rt:85:5
 loop-holds : tie.Need-loop-holds Inv-loop μ-loop
 loop-holds c = search needs
 
--- src/agenda.rt:86:9
 mul-words : tie.Need-mul-words Inv-loop μ-loop
 mul-words c = search needs
 
--- src/agenda.rt:86:9
 slice-write-words : tie.Need-slice-write-words Inv-loop μ-loop
 slice-write-words c = search needs
 
--- src/agenda.rt:87:9
 add-i : tie.Need-add-i Inv-loop μ-loop
 add-i c = search needs
 
--- src/agenda.rt:85:5
 loop-less : tie.Need-loop-less Inv-loop μ-loop
 loop-less c = search needs
 
--- src/agenda.rt:85:5
 loop-again : tie.Need-loop-again Inv-loop μ-loop
 loop-again c = let inv = c .before .loop .inv in (omega arith, (simp length-set (inv .1 .0), zeros-more _ _ _ (inv .1 .1) (omega arith)))
 
--- src/agenda.rt:81:1
 same-length : tie.Need-same-length Inv-loop μ-loop
 same-length c = search needs
 
--- src/agenda.rt:81:1
 returns : tie.Need-returns Inv-loop μ-loop
 returns c = let e : c .before .loop .i ≡ length (c .before .before .args .words .now) = omega arith in zeros-end _ _ _ (c .before .loop .inv .1 .1) e
 

@@ -1,42 +1,32 @@
-use borrow.Author.Needs.{needs}
+-- `search::agenda::subproblem_of` meets its contract.
+-- Assumes nothing.
 use mathlib.Core.Path.{refl}
+use borrow.Author.Needs.{needs}
 use Rattle.search.proofs.Encoding.{slot-held}
 use Rattle.search.proofs.agenda.subproblem_of.Statement.{statement}
 use Rattle.search.proofs.agenda.subproblem_of.Tie as tie
-use Rattle.search.proofs.agenda.subproblem_of.Reads as reads
-use Rattle.search.proofs.agenda.subproblem_of.Lts as lts
-use Rattle.search.proofs.agenda.holding.Reads as holding-reads
-use Rattle.search.proofs.agenda.marked_of.Reads as marked-of-reads
 
--- src/agenda.rt:35:32
 mul-marked-of : tie.Need-mul-marked-of
 mul-marked-of c = search needs
 
--- src/agenda.rt:35:32
 shared-slice-read-marked-of : tie.Need-shared-slice-read-marked-of
 shared-slice-read-marked-of c = search needs
 
--- src/agenda.rt:35:46
 add-marked-of : tie.Need-add-marked-of
 add-marked-of c = search needs
 
--- src/agenda.rt:35:41
 mul-marked-of-2 : tie.Need-mul-marked-of-2
 mul-marked-of-2 c = search needs
 
--- src/agenda.rt:35:41
 shared-slice-read-marked-of-2 : tie.Need-shared-slice-read-marked-of-2
 shared-slice-read-marked-of-2 c = search needs
 
--- src/agenda.rt:35:22
 marked-of-requires : tie.Need-marked-of-requires
 marked-of-requires c κs = search needs
 
--- src/agenda.rt:35:5
 holding-requires : tie.Need-holding-requires
 holding-requires c κs = search needs
 
--- src/agenda.rt:31:1
 returns : tie.Need-returns
 returns c = slot-held _ _ _ _ _ _ refl refl (c .before .marked-of .ensures) (c .holding .ensures)
 

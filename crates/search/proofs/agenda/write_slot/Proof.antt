@@ -1,56 +1,44 @@
-use borrow.Author.Needs.{needs}
+-- `search::agenda::write_slot` meets its contract.
+-- Assumes nothing.
 use mathlib.Core.Path.{_≡_}
 use native.Mathlib.Omega.{arith}
 use lib.ListN.{length}
+use borrow.Author.Needs.{needs}
 use Rattle.search.proofs.Copies.{put-part}
 use Rattle.search.proofs.Encoding.{length-slot}
 use Rattle.search.proofs.agenda.write_slot.Statement.{statement}
 use Rattle.search.proofs.agenda.write_slot.Tie as tie
-use Rattle.search.proofs.agenda.write_slot.Reads as reads
-use Rattle.search.proofs.agenda.write_slot.Lts as lts
-use Rattle.search.proofs.agenda.put_words.Reads as put-words-reads
 
--- src/agenda.rt:75:19
 add-at : tie.Need-add-at
 add-at c = search needs
 
--- src/agenda.rt:75:14
 mul-at : tie.Need-mul-at
 mul-at c = search needs
 
--- src/agenda.rt:76:21
 add-end : tie.Need-add-end
 add-end c = search needs
 
--- src/agenda.rt:76:15
 add-end-2 : tie.Need-add-end-2
 add-end-2 c = search needs
 
--- src/agenda.rt:77:18
 mul-put-words : tie.Need-mul-put-words
 mul-put-words c = search needs
 
--- src/agenda.rt:77:18
 sub-put-words : tie.Need-sub-put-words
 sub-put-words c = search needs
 
--- src/agenda.rt:77:18
 part-put-words-start : tie.Need-part-put-words-start
 part-put-words-start c = search needs
 
--- src/agenda.rt:77:18
 part-put-words-end : tie.Need-part-put-words-end
 part-put-words-end c = search needs
 
--- src/agenda.rt:77:5
 put-words-requires : tie.Need-put-words-requires
 put-words-requires c κs = search needs
 
--- src/agenda.rt:71:1
 same-length : tie.Need-same-length
 same-length c = search needs
 
--- src/agenda.rt:71:1
 returns : tie.Need-returns
 returns c =
     let a = c .before .before .before .before .before .args in

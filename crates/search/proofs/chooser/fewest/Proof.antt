@@ -1,16 +1,15 @@
-use borrow.Author.Needs.{needs}
+-- `search::chooser::fewest` meets its contract. The invariant: the best is that of the first i variables.
+-- Assumes nothing.
 use mathlib.Core.Path.{_≡_, ap, _∙_}
 use mathlib.Core.Logic.{⊎-elim}
 use Prim.Native.Nat.{_≤_, _-_}
 use native.Mathlib.Nat.{le-antisymm}
 use native.Mathlib.Omega.{arith}
+use borrow.Author.Needs.{needs}
 use Rattle.search.specs.Chooser.{fewestOf}
 use Rattle.search.proofs.Choosing.{fewest-none, fewest-taken, fewest-kept}
 use Rattle.search.proofs.chooser.fewest.Statement.{statement}
 use Rattle.search.proofs.chooser.fewest.Tie as tie
-use Rattle.search.proofs.chooser.fewest.Reads as reads
-use Rattle.search.proofs.chooser.fewest.Lts as lts
-use Rattle.search.proofs.chooser.is_better.Reads as is-better-reads
 
 abbrev Inv-loop : tie.InvT-loop
 Inv-loop top n best₀ i₀ best i = (i ≤ n) × (best ≡ fewestOf n top i)
@@ -18,29 +17,23 @@ Inv-loop top n best₀ i₀ best i = (i ≤ n) × (best ≡ fewestOf n top i)
 abbrev μ-loop : tie.MeasureT-loop
 μ-loop top n best₀ i₀ best i = n - i
 
--- src/chooser.rt:32:5
 loop-holds : tie.Need-loop-holds Inv-loop μ-loop
 loop-holds c = (search needs, fewest-none _ _)
 
--- src/chooser.rt:33:12
 is-better-requires : tie.Need-is-better-requires Inv-loop μ-loop
 is-better-requires c κs = search needs
 
--- src/chooser.rt:36:9
 add-i : tie.Need-add-i Inv-loop μ-loop
 add-i c = search needs
 
--- src/chooser.rt:32:5
 loop-less : tie.Need-loop-less Inv-loop μ-loop
 loop-less c = search needs
 
--- src/chooser.rt:32:5
 loop-again : tie.Need-loop-again Inv-loop μ-loop
 loop-again c =
     let inv = c .before .before .before .loop .inv in
     (omega arith, ⊎-elim (λ w. w .1 ∙ fewest-taken _ _ _ _ _ (inv .1) (c .before .is-better .ensures) (w .0 .taken)) (λ w. w .1 ∙ fewest-kept _ _ _ _ _ (inv .1) (c .before .is-better .ensures) (w .0 .left)) (c .if1 .came))
 
--- src/chooser.rt:27:1
 returns : tie.Need-returns Inv-loop μ-loop
 returns c = c .before .loop .inv .1 ∙ ap (fewestOf (c .before .before .args .n) (c .before .before .args .top)) (le-antisymm (c .before .loop .inv .0) (c .loop-test .left))
 

@@ -1,42 +1,31 @@
+-- `search::chooser::is_better` meets its contract.
+-- Assumes nothing.
 use borrow.Author.Needs.{needs}
 use Rattle.search.proofs.Choosing.{better-not, better-first, better-fewer}
 use Rattle.search.proofs.chooser.is_better.Statement.{statement}
 use Rattle.search.proofs.chooser.is_better.Tie as tie
-use Rattle.search.proofs.chooser.is_better.Reads as reads
-use Rattle.search.proofs.chooser.is_better.Lts as lts
-use Rattle.splits.proofs.mask.count.Reads as count-reads
-use Rattle.splits.proofs.subproblem.Subproblem.domain.Reads as domain-reads
-use Rattle.splits.proofs.subproblem.Subproblem.is_instantiated.Reads as is-instantiated-reads
 
--- src/chooser.rt:17:8
 is-instantiated-requires : tie.Need-is-instantiated-requires
 is-instantiated-requires c κs = search needs
 
--- src/chooser.rt:18:9
 returns : tie.Need-returns
 returns c = better-not _ _ _ _ _ (c .before .is-instantiated .ensures) (c .if1 .taken)
 
--- src/chooser.rt:21:9
 returns-2 : tie.Need-returns-2
 returns-2 c = better-first _ _ _ _ _ (c .before .before .is-instantiated .ensures) (c .before .if1 .left) (c .if2 .taken)
 
--- src/chooser.rt:23:17
 domain-requires : tie.Need-domain-requires
 domain-requires c κs = search needs
 
--- src/chooser.rt:23:5
 count-requires : tie.Need-count-requires
 count-requires c κs = search needs
 
--- src/chooser.rt:23:46
 domain-requires-2 : tie.Need-domain-requires-2
 domain-requires-2 c κs = search needs
 
--- src/chooser.rt:23:34
 count-requires-2 : tie.Need-count-requires-2
 count-requires-2 c κs = search needs
 
--- src/chooser.rt:14:1
 returns-3 : tie.Need-returns-3
 returns-3 c = better-fewer _ _ _ _ _ (c .before .before .before .before .before .before .is-instantiated .ensures) _ _ _ _ (c .before .before .before .before .before .if1 .left) (c .before .before .before .before .if2 .left) (c .before .before .before .domain .ensures) (c .before .before .count .ensures) (c .before .domain2 .ensures) (c .count2 .ensures)
 

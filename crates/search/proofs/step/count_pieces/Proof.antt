@@ -1,20 +1,17 @@
-use borrow.Author.Needs.{needs}
+-- `search::step::count_pieces` meets its contract. The invariant: the count is of the first k candidates.
+-- Assumes nothing.
 use mathlib.Core.Path.{_≡_, refl, _∙_}
 use mathlib.Core.Logic.{⊎-elim}
 use Prim.Native.Nat.{_≤_, _-_}
 use native.Mathlib.Omega.{arith}
 use lib.ListN.{length}
+use borrow.Author.Needs.{needs}
 use Rattle.splits.specs.Problem.{tableOf}
 use Rattle.splits.specs.Splits.{candidate}
 use Rattle.search.proofs.Candidates.{firsts}
 use Rattle.search.proofs.Gathering.{count-more, count-same, count-end}
 use Rattle.search.proofs.step.count_pieces.Statement.{statement}
 use Rattle.search.proofs.step.count_pieces.Tie as tie
-use Rattle.search.proofs.step.count_pieces.Reads as reads
-use Rattle.search.proofs.step.count_pieces.Lts as lts
-use Rattle.splits.proofs.split.candidates.Reads as candidates-reads
-use Rattle.splits.proofs.split.piece.Reads as piece-reads
-use Rattle.splits.proofs.subproblem.Subproblem.is_empty.Reads as is-empty-reads
 
 abbrev Inv-loop : tie.InvT-loop
 Inv-loop top n d tables request named count₀ k₀ count k = (k ≤ named) × ((count ≤ k) × (count ≡ length (firsts n (candidate n (tableOf n d tables) top request) k)))
@@ -22,36 +19,28 @@ Inv-loop top n d tables request named count₀ k₀ count k = (k ≤ named) × (
 abbrev μ-loop : tie.MeasureT-loop
 μ-loop top n d tables request named count₀ k₀ count k = named - k
 
--- src/step.rt:38:9
 candidates-requires : tie.Need-candidates-requires Inv-loop μ-loop
 candidates-requires c κs = search needs
 
--- src/step.rt:41:5
 loop-holds : tie.Need-loop-holds Inv-loop μ-loop
 unfolding firsts
 loop-holds c = (search needs, (search needs, refl))
 
--- src/step.rt:42:13
 piece-requires : tie.Need-piece-requires Inv-loop μ-loop
 piece-requires c κs = search needs
 
--- src/step.rt:43:13
 is-empty-requires : tie.Need-is-empty-requires Inv-loop μ-loop
 is-empty-requires c κs = search needs
 
--- src/step.rt:44:13
 add-count : tie.Need-add-count Inv-loop μ-loop
 add-count c = search needs
 
--- src/step.rt:46:9
 add-k : tie.Need-add-k Inv-loop μ-loop
 add-k c = search needs
 
--- src/step.rt:41:5
 loop-less : tie.Need-loop-less Inv-loop μ-loop
 loop-less c = search needs
 
--- src/step.rt:41:5
 loop-again : tie.Need-loop-again Inv-loop μ-loop
 loop-again c =
     let inv = c .before .before .before .before .loop .inv in
@@ -61,7 +50,6 @@ loop-again c =
     (λ w. (omega arith, (omega (arith, w .1), w .1 ∙ count-same _ _ _ _ _ pre _ _ _ _ _ (c .before .before .before .before .before .candidates .ensures) (c .before .before .before .loop-test .taken) (c .before .before .piece .ensures) (inv .1 .1) (c .before .is-empty .ensures) (w .0 .left))))
     (c .if1 .came)
 
--- src/step.rt:34:1
 returns : tie.Need-returns Inv-loop μ-loop
 returns c =
     let long : length (c .before .before .before .before .before .args .top .domains) ≡ 32 = search needs in

@@ -1,30 +1,24 @@
-use borrow.Author.Needs.{needs}
+-- `search::step::has_no_room` meets its contract.
+-- Assumes nothing.
 use mathlib.Core.Path.{_≡_, ap}
 use lib.ListN.{length}
 use lib.Dec.{ltb}
+use borrow.Author.Needs.{needs}
 use Rattle.search.proofs.Gathering.{roomy}
 use Rattle.search.proofs.step.has_no_room.Statement.{statement}
 use Rattle.search.proofs.step.has_no_room.Tie as tie
-use Rattle.search.proofs.step.has_no_room.Reads as reads
-use Rattle.search.proofs.step.has_no_room.Lts as lts
-use Rattle.search.proofs.step.count_pieces.Reads as count-pieces-reads
-use Rattle.splits.proofs.split.candidates.Reads as candidates-reads
 
--- src/step.rt:63:8
 candidates-requires : tie.Need-candidates-requires
 candidates-requires c κs = search needs
 
--- src/step.rt:64:9
 returns : tie.Need-returns
 returns c =
     let long : length (c .before .before .before .before .args .top .domains) ≡ 32 = search needs in
     roomy _ _ _ _ _ (c .before .before .before .before .pre) _ _ long (c .before .candidates .ensures) (c .if1 .taken)
 
--- src/step.rt:66:12
 count-pieces-requires : tie.Need-count-pieces-requires
 count-pieces-requires c κs = search needs
 
--- src/step.rt:52:1
 returns-2 : tie.Need-returns-2
 returns-2 c = ap (ltb (c .before .before .before .before .before .args .free)) (c .count-pieces .ensures)
 

@@ -1,19 +1,15 @@
-use borrow.Author.Needs.{needs}
-use mathlib.Core.Path.{_≡_, refl, sym, _∙_}
+-- `search::step::place` meets its contract. The invariant: the candidates from k on are placed.
+-- Assumes nothing.
+use mathlib.Core.Path.{_≡_}
 use Prim.Native.Nat.{_≤_, _+_}
 use native.Mathlib.Omega.{arith}
 use lib.ListN.{length}
-use Rattle.search.proofs.Copies.{slot-end}
+use borrow.Author.Needs.{needs}
 use Rattle.splits.proofs.ByKind.{few}
+use Rattle.search.proofs.Copies.{slot-end}
 use Rattle.search.proofs.Gathering.{Gathered, gather-none, gather-drop, gather-slot, gather-keep, gather-end}
 use Rattle.search.proofs.step.place.Statement.{statement}
 use Rattle.search.proofs.step.place.Tie as tie
-use Rattle.search.proofs.step.place.Reads as reads
-use Rattle.search.proofs.step.place.Lts as lts
-use Rattle.search.proofs.agenda.write_slot.Reads as write-slot-reads
-use Rattle.splits.proofs.split.candidates.Reads as candidates-reads
-use Rattle.splits.proofs.split.piece.Reads as piece-reads
-use Rattle.splits.proofs.subproblem.Subproblem.is_empty.Reads as is-empty-reads
 
 abbrev Inv-loop : tie.InvT-loop
 Inv-loop top n d tables agenda₀ request from at₀ k₀ agenda at k = (k ≤ k₀) × Gathered n d tables top request agenda₀ from agenda at k
@@ -21,36 +17,29 @@ Inv-loop top n d tables agenda₀ request from at₀ k₀ agenda at k = (k ≤ k
 abbrev μ-loop : tie.MeasureT-loop
 μ-loop top n d tables agenda₀ request from at₀ k₀ agenda at k = k
 
--- src/step.rt:109:9
 candidates-requires : tie.Need-candidates-requires Inv-loop μ-loop
 candidates-requires c κs = search needs
 
--- src/step.rt:110:5
 loop-holds : tie.Need-loop-holds Inv-loop μ-loop
 loop-holds c =
     let long : length (c .before .before .before .before .args .top .domains) ≡ 32 = search needs in
     (search needs, gather-none _ _ _ _ _ (c .before .before .before .before .pre .reads) _ _ _ long (c .candidates .ensures))
 
--- src/step.rt:111:9
 sub-k : tie.Need-sub-k Inv-loop μ-loop
 sub-k c = search needs
 
--- src/step.rt:112:13
 piece-requires : tie.Need-piece-requires Inv-loop μ-loop
 piece-requires c κs = search needs
 
--- src/step.rt:113:13
 is-empty-requires : tie.Need-is-empty-requires Inv-loop μ-loop
 is-empty-requires c κs = search needs
 
--- src/step.rt:114:13
 write-slot-requires : tie.Need-write-slot-requires Inv-loop μ-loop
 write-slot-requires c κs =
     let pre = c .before .before .before .before .before .before .before .before .before .before .pre in
     let inv = c .before .before .before .before .before .loop .inv in
     gather-slot _ _ _ _ _ (pre .reads) _ _ _ _ _ (inv .1) _ (c .before .before .before .before .before .before .candidates .ensures) (inv .0) (c .before .before .before .before .loop-test .taken) _ (c .before .before .before .piece .ensures) _ (c .before .before .is-empty .ensures) (c .before .if1 .taken) (few _ _ _ _ (pre .reads)) (pre .room)
 
--- src/step.rt:115:13
 add-at : tie.Need-add-at Inv-loop μ-loop
 add-at c =
     let pre = c .before .before .before .before .before .before .before .before .before .before .before .before .before .pre in
@@ -59,11 +48,9 @@ add-at c =
     let inside : c .before .before .before .before .before .before .before .before .loop .at + 1 ≤ length (c .before .before .before .before .before .before .before .before .before .before .before .before .before .args .agenda .now) = omega (arith, slot-end _ _ _ slot, inv .1 .same) in
     search needs
 
--- src/step.rt:110:5
 loop-less : tie.Need-loop-less Inv-loop μ-loop
 loop-less c = search needs
 
--- src/step.rt:110:5
 loop-again : tie.Need-loop-again Inv-loop μ-loop
 loop-again c =
     let pre = c .before .before .before .before .before .before .before .before .before .before .before .before .before .pre in
@@ -71,22 +58,18 @@ loop-again c =
     let long : length (c .before .before .before .before .before .before .piece .result .domains) ≡ 32 = search needs in
     (omega arith, gather-keep _ _ _ _ _ (pre .reads) _ _ _ _ _ (inv .1) _ (c .before .before .before .before .before .before .before .before .before .candidates .ensures) (inv .0) (c .before .before .before .before .before .before .before .loop-test .taken) _ (c .before .before .before .before .before .before .piece .ensures) _ (c .before .before .before .before .before .is-empty .ensures) (c .before .before .before .before .if1 .taken) _ (few _ _ _ _ (pre .reads)) (pre .room) long (c .before .before .write-slot .ensures) (search needs))
 
--- src/step.rt:110:5
 loop-less-2 : tie.Need-loop-less-2 Inv-loop μ-loop
 loop-less-2 c = search needs
 
--- src/step.rt:110:5
 loop-again-2 : tie.Need-loop-again-2 Inv-loop μ-loop
 loop-again-2 c =
     let pre = c .before .before .before .before .before .before .before .before .before .pre in
     let inv = c .before .before .before .before .loop .inv in
     (omega arith, gather-drop _ _ _ _ _ (pre .reads) _ _ _ _ _ (inv .1) _ (c .before .before .before .before .before .candidates .ensures) (inv .0) (c .before .before .before .loop-test .taken) _ (c .before .before .piece .ensures) _ (c .before .is-empty .ensures) (c .if1 .left))
 
--- src/step.rt:96:1
 same-length : tie.Need-same-length Inv-loop μ-loop
 same-length c = c .before .loop .inv .1 .same
 
--- src/step.rt:96:1
 returns : tie.Need-returns Inv-loop μ-loop
 returns c = gather-end _ _ _ _ _ (c .before .before .before .before .before .before .pre .reads) _ _ _ _ _ (c .before .loop .inv .1) (omega arith)
 

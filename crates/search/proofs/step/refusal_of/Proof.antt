@@ -1,34 +1,26 @@
-use borrow.Author.Needs.{needs}
+-- `search::step::refusal_of` meets its contract.
+-- Assumes nothing.
 use mathlib.Core.Path.{sym, _∙_}
+use borrow.Author.Needs.{needs}
 use Rattle.search.proofs.Accepting.{accepted-reads, refused-at-11, refused-by-top, refused-at-12, refused-by-none}
 use Rattle.search.proofs.step.refusal_of.Statement.{statement}
 use Rattle.search.proofs.step.refusal_of.Tie as tie
-use Rattle.search.proofs.step.refusal_of.Reads as reads
-use Rattle.search.proofs.step.refusal_of.Lts as lts
-use Rattle.search.proofs.step.has_no_room.Reads as has-no-room-reads
-use Rattle.splits.proofs.refusal.refusal.Reads as refusal-reads
 
--- src/step.rt:83:9
 returns : tie.Need-returns
 returns c = refused-at-11 _ _ _ _ _ _ _ (c .if1 .taken)
 
--- src/step.rt:85:9
 refusal-requires : tie.Need-refusal-requires
 refusal-requires c κs = search needs
 
--- src/step.rt:87:9
 returns-2 : tie.Need-returns-2
 returns-2 c = refused-by-top _ _ _ _ _ _ _ (c .before .before .if1 .left) _ (c .before .refusal .ensures) (c .if2 .taken)
 
--- src/step.rt:89:8
 has-no-room-requires : tie.Need-has-no-room-requires
 has-no-room-requires c κs = accepted-reads _ _ (c .before .before .before .before .before .args .top) _ (sym (c .before .refusal .ensures) ∙ c .if2 .left) _ (c .before .before .before .before .before .pre)
 
--- src/step.rt:90:9
 returns-3 : tie.Need-returns-3
 returns-3 c = refused-at-12 _ _ _ _ _ _ _ (c .before .before .before .before .if1 .left) _ (c .before .before .before .refusal .ensures) _ (c .before .before .if2 .left) (c .before .has-no-room .ensures) (c .if3 .taken)
 
--- src/step.rt:70:1
 returns-4 : tie.Need-returns-4
 returns-4 c = refused-by-none _ _ _ _ _ _ _ (c .before .before .before .before .if1 .left) _ (c .before .before .before .refusal .ensures) _ (c .before .before .if2 .left) (c .before .has-no-room .ensures) (c .if3 .left)
 

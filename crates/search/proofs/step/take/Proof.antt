@@ -1,61 +1,46 @@
+-- `search::step::take` meets its contract.
+-- Assumes nothing.
 use borrow.Author.Needs.{needs}
-use native.Mathlib.Omega.{arith}
 use Rattle.search.proofs.Stepping.{below-slots, take-refused, take-reads, take-counts, take-steps, take-room, take-slot, take-taken}
 use Rattle.search.proofs.step.take.Statement.{statement}
 use Rattle.search.proofs.step.take.Tie as tie
-use Rattle.search.proofs.step.take.Reads as reads
-use Rattle.search.proofs.step.take.Lts as lts
-use Rattle.search.proofs.step.refusal_of.Reads as refusal-of-reads
-use Rattle.search.proofs.step.replace.Reads as replace-reads
-use Rattle.search.proofs.step.with_checks.Reads as with-checks-reads
 
--- src/step.rt:167:17
 sub-below : tie.Need-sub-below
 sub-below c = search needs
 
--- src/step.rt:168:32
 add-free : tie.Need-add-free
 add-free c = let few = c .before .before .before .before .pre .ready .fitting .few in search needs
 
--- src/step.rt:168:16
 div-free : tie.Need-div-free
 div-free c = search needs
 
--- src/step.rt:168:16
 sub-free : tie.Need-sub-free
 sub-free c = let a = c .before .before .before .before .args in below-slots _ _ (a .tables .now) _ (a .top) (a .request .now) _ (c .before .before .before .before .pre)
 
--- src/step.rt:169:9
 refusal-of-requires : tie.Need-refusal-of-requires
 refusal-of-requires c κs = c .before .before .before .before .pre .ready .fitting
 
--- src/step.rt:171:9
 returns : tie.Need-returns
 returns c = take-refused _ _ _ _ _ _ _ (c .before .before .before .before .before .before .pre) _ (c .before .refusal-of .ensures) (c .if1 .taken)
 
--- src/step.rt:177:9
 with-checks-requires : tie.Need-with-checks-requires
 with-checks-requires c κs =
     let a = c .before .before .before .before .before .before .args in
     let e = c .before .refusal-of .ensures in
     (take-reads _ _ _ (a .agenda .now) (a .top) _ (a .state) (c .before .before .before .before .before .before .pre) _ e (c .if1 .left), take-counts _ _ _ (a .agenda .now) (a .top) _ (a .state) (c .before .before .before .before .before .before .pre) _ e (c .if1 .left))
 
--- src/step.rt:178:9
 replace-requires : tie.Need-replace-requires
 replace-requires c κs =
     let a = c .before .before .before .before .before .before .before .before .args in
     let e = c .before .before .before .refusal-of .ensures in
     (record { reads = take-reads _ _ _ (a .agenda .now) (a .top) _ (a .state) (c .before .before .before .before .before .before .before .before .pre) _ e (c .before .before .if1 .left); room = take-room _ _ _ (a .agenda .now) (a .top) _ (a .state) (c .before .before .before .before .before .before .before .before .pre) _ e (c .before .before .if1 .left) }, take-slot _ _ _ (a .agenda .now) (a .top) _ (a .state) (c .before .before .before .before .before .before .before .before .pre) _ e (c .before .before .if1 .left))
 
--- src/step.rt:184:30
 add-t20 : tie.Need-add-t20
 add-t20 c = let a = c .before .before .before .before .before .before .before .before .before .before .before .args in record { fits = take-steps _ _ _ (a .agenda .now) (a .top) _ (a .state) (c .before .before .before .before .before .before .before .before .before .before .before .pre) _ (c .before .before .before .before .before .before .refusal-of .ensures) (c .before .before .before .before .before .if1 .left) }
 
--- src/step.rt:154:1
 same-length : tie.Need-same-length
 same-length c = search needs
 
--- src/step.rt:154:1
 returns-2 : tie.Need-returns-2
 returns-2 c = take-taken _ _ _ _ _ _ _ (c .before .before .before .before .before .before .before .before .before .before .before .pre) _ (c .before .before .before .before .before .before .refusal-of .ensures) (c .before .before .before .before .before .if1 .left) _ _ _ (c .before .before .replace .ensures) (c .before .before .before .before .with-checks .ensures)
 
