@@ -1,4 +1,7 @@
-// Document 01's cases that are run and not proved, and every refusal of the three calls: a line for each, held to the file stdout.
+// Document 01's cases that are run and not proved, every refusal of the five calls, RFC 1071's example, and files made by hand: a line for each,
+// held to the file stdout.
+use files::saved::Loaded;
+use files::saved::Saved;
 use search::state::Checks;
 use search::state::Counts;
 use search::state::Opened;
@@ -251,10 +254,187 @@ fn choices() {
     );
 }
 
+// The words of a block by hand, its check last, in bytes.
+fn by_hand(words: &[u16], check: u16) -> [u8; 512] {
+    let mut file = [0u8; 512];
+    let mut k = 0;
+    while k < 255 {
+        let word = hand_word(words, k);
+        file[2 * k] = (word / 256) as u8;
+        file[2 * k + 1] = (word % 256) as u8;
+        k += 1;
+    }
+    file[510] = (check / 256) as u8;
+    file[511] = (check % 256) as u8;
+    file
+}
+
+fn hand_word(words: &[u16], k: usize) -> u16 {
+    if k < words.len() { words[k] } else { 0 }
+}
+
+fn loaded_line(text: &[u8], r: Loaded) {
+    io::write_all(1, text);
+    number(b": refusal ", r.refusal as u64);
+    number(b" n ", r.n as u64);
+    number(b" d ", r.d as u64);
+    let s = r.state;
+    state_line(s);
+}
+
+fn saved_line(text: &[u8], r: Saved) {
+    io::write_all(1, text);
+    number(b": refusal ", r.refusal as u64);
+    number(b" blocks ", r.blocks as u64);
+    io::write_all(1, b"\n");
+}
+
+// Loads a file into memory for two variables, d 2 and two slots.
+fn loads(text: &[u8], file: &[u8]) {
+    let mut domains = [0u16; 2];
+    let mut tables = [0u16; 8];
+    let mut agenda = [0u16; 8];
+    loaded_line(
+        text,
+        files::load(file, &mut domains, &mut tables, &mut agenda),
+    );
+}
+
+// The same into memory for one slot, and with the domains one word short.
+fn loads_short(file: &[u8]) {
+    let mut domains = [0u16; 2];
+    let mut tables = [0u16; 8];
+    let mut one = [0u16; 4];
+    loaded_line(
+        b"two subproblems, one slot",
+        files::load(file, &mut domains, &mut tables, &mut one),
+    );
+    let mut short = [0u16; 1];
+    let mut agenda = [0u16; 8];
+    loaded_line(
+        b"domains one word short",
+        files::load(file, &mut short, &mut tables, &mut agenda),
+    );
+}
+
+// RFC 1071's own example: 0001 f203 f4f5 f6f7 has the check 220d, 8717.
+fn checks_of_words() {
+    let example = [0u8, 1, 242, 3, 244, 245, 246, 247];
+    number(
+        b"RFC 1071's example: check ",
+        files::checksum::check_of(&example) as u64,
+    );
+    io::write_all(1, b"\n");
+}
+
+// Two variables, d 2, domains {0} and {0, 1}, unequal, as opening leaves it, with word `k` of its block changed and the check that it has then.
+fn changed(text: &[u8], k: usize, word: u16, check: u16) {
+    let mut words = [
+        1u16,
+        1,
+        2,
+        2,
+        0,
+        0,
+        0,
+        0,
+        0,
+        0,
+        1,
+        1,
+        3,
+        2,
+        1,
+        1,
+        3,
+        0,
+        0,
+        0,
+    ];
+    if k < 20 {
+        words[k] = word;
+        loads(text, &by_hand(&words, check));
+    }
+}
+
+fn by_hands() {
+    changed(b"by hand", 0, 1, 65517);
+    changed(b"a wrong check", 0, 1, 65516);
+    changed(b"a wrong number", 0, 2, 65516);
+    changed(b"a wrong count", 1, 2, 65516);
+    changed(b"n 0", 2, 0, 65519);
+    changed(b"d 17", 3, 17, 65502);
+    changed(b"more checks than 496 a step", 9, 1, 65516);
+    changed(b"a domain over d", 11, 4, 65514);
+    changed(b"a mask over d", 13, 4, 65515);
+    changed(b"an empty domain on the agenda", 15, 0, 65518);
+    changed(b"a mark past n", 18, 4, 65513);
+    changed(b"a word after the end", 19, 1, 65516);
+    loads(b"no file", &[]);
+    loads(b"not whole blocks", &[0; 511]);
+    let two = [
+        1u16,
+        1,
+        2,
+        2,
+        0,
+        1,
+        0,
+        0,
+        0,
+        0,
+        2,
+        1,
+        3,
+        2,
+        1,
+        1,
+        2,
+        0,
+        0,
+        1,
+        1,
+        0,
+        0,
+    ];
+    loads_short(&by_hand(&two, 65514));
+}
+
+fn saves() {
+    let mut agenda = [0u16; 8];
+    let opened = search::open(2, 2, &THREES, &UNEQUAL, &mut agenda);
+    let state = opened.state;
+    let mut file = [0u8; 600];
+    saved_line(
+        b"saved",
+        files::save(2, 2, &THREES, &UNEQUAL, &agenda, state, &mut file),
+    );
+    let mut short = [0u8; 511];
+    saved_line(
+        b"saved short",
+        files::save(2, 2, &THREES, &UNEQUAL, &agenda, state, &mut short),
+    );
+    saved_line(
+        b"saved with too many checks",
+        files::save(
+            2,
+            2,
+            &THREES,
+            &UNEQUAL,
+            &agenda,
+            counted(0, 1, 1),
+            &mut short,
+        ),
+    );
+}
+
 fn main() {
     sizes();
     ring();
     openings();
     runs();
     choices();
+    checks_of_words();
+    by_hands();
+    saves();
 }

@@ -1,0 +1,287 @@
+-- Files whose words are accepted: what passing 15 says, and what 15 says, rule by rule.
+-- Assumes nothing.
+use mathlib.Core.Path.{_≡_, refl, sym, _∙_}
+use mathlib.Core.Logic.{_⊎_, inl, inr, ⊎-elim, _↔_}
+use mathlib.Core.Bool.{Bool, true, false, not, cond, _&&_, _||_, or-true}
+use mathlib.Core.List.{List, List·Memᴰ}
+use Prim.Native.Nat.{ℕ, zero, _+_, _-_, _*_, _/_, _%_, _^_, _≤_, _<_}
+use native.Mathlib.Omega.{arith}
+use native.Mathlib.Nat.{lt-of-lt-of-le, div-add-mod', mod-lt}
+use native.Mathlib.Decide.{decLt}
+use lib.Pow.{pow-mono, pow-pos, shr-shr}
+use lib.Dec.{eqb, leb, ltb}
+use borrow.Author.Tests.{eq-eqb, le-leb, lt-ltb, le-ltb, eqb-true, eqb-false, leb-true, leb-false, ltb-true, ltb-false, not-false}
+use Rattle.splits.specs.Masks.{bit}
+use Rattle.splits.specs.Subproblems.{Rules, every}
+use Rattle.splits.specs.declared.subproblem.Subproblem.{Subproblem}
+use Rattle.splits.proofs.Masks.{bit-above, some-member}
+use Rattle.splits.proofs.Tests.{true-false, and-left, and-right, or-left, or-right, every-at, every-all}
+use Rattle.search.specs.FirstChecks.{Over, allObey}
+use Rattle.files.specs.Blocks.{blocksFor}
+use Rattle.files.specs.Reading.{blocksIn, contentWord, saidN, saidD, saidSteps, saidChecks, saidSubproblems, saidAllowed, saidProblem, saidSearch, saidWords, Deserves-15, masksBelowTriangle, refusalOfWords}
+use Rattle.files.proofs.Tests.{every-found, refused, passed, either}
+use Rattle.files.proofs.Rules.{all-rules, rules-all, some-breaks}
+
+-- A mask has a bit at d or above exactly if it is 2 ^ d or more.
+pub over-not : (d m : ℕ) → m < 2 ^ d → Over d m → ⊥
+over-not d m h (v, l, e) = omega (arith, bit-above d m v h l)
+
+-- A mask of 2 ^ d or more has such a bit.
+pub over-found : (d m : ℕ) → 2 ^ d ≤ m → Over d m
+unfolding bit
+over-found d m h =
+    let some : m / 2 ^ d ≡ 0 → ⊥ = λ e. let whole : 0 * 2 ^ d + m % 2 ^ d ≡ m = rw e at (div-add-mod' m (2 ^ d)) in omega (arith, mod-lt m (pow-pos d)) in
+    let (v, e) = some-member (m / 2 ^ d) some in
+    (d + v, omega arith, rw (← shr-shr m d v) e)
+
+-- What an accepted file says.
+pub record Accepts (file : List ℕ) : Type 0 where
+  pub some-variable : 1 ≤ saidN file
+  pub variables : saidN file ≤ 32
+  pub some-value : 1 ≤ saidD file
+  pub values : saidD file ≤ 16
+  pub few : saidSubproblems file ≤ 512
+  pub fills : blocksIn file ≡ blocksFor (saidWords file)
+  pub zeros : (k : ℕ) → saidWords file ≤ k → k < blocksIn file * 253 → contentWord file k ≡ 0
+  pub domains : (i : ℕ) → i < saidN file → saidProblem file .domain i < 2 ^ saidD file
+  pub masks : (i j a : ℕ) → i < j → j < saidN file → a < saidD file → saidAllowed file i j a < 2 ^ saidD file
+  pub rules : (P : Subproblem) → List·Memᴰ P (saidSearch file .stack) → Rules (saidProblem file) P
+  pub counted : saidChecks file ≤ 496 * saidSteps file
+
+module _ (file : List ℕ) where
+  t-one : Bool
+  t-one = leb 1 (saidN file)
+
+  t-vars : Bool
+  t-vars = leb (saidN file) 32
+
+  t-val : Bool
+  t-val = leb 1 (saidD file)
+
+  t-vals : Bool
+  t-vals = leb (saidD file) 16
+
+  t-few : Bool
+  t-few = leb (saidSubproblems file) 512
+
+  t-fills : Bool
+  t-fills = eqb (blocksIn file) (blocksFor (saidWords file))
+
+  t-zero : Bool
+  t-zero = every (blocksIn file * 253 - saidWords file) (λ k. eqb (contentWord file (saidWords file + k)) 0)
+
+  t-doms : Bool
+  t-doms = every (saidN file) (λ i. ltb (saidProblem file .domain i) (2 ^ saidD file))
+
+  t-masks : Bool
+  t-masks = masksBelowTriangle file
+
+  t-rules : Bool
+  t-rules = allObey (saidProblem file) (saidSearch file .stack)
+
+  t-count : Bool
+  t-count = leb (saidChecks file) (496 * saidSteps file)
+
+  tests : Bool
+  tests = t-one && t-vars && t-val && t-vals && t-few && t-fills && t-zero && t-doms && t-masks && t-rules && t-count
+
+  is-tests : refusalOfWords file ≡ cond tests 0 15
+  unfolding refusalOfWords tests t-one t-vars t-val t-vals t-few t-fills t-zero t-doms t-masks t-rules t-count
+  is-tests = refl
+
+  -- A domain of at most 16 values is a mask of 16 bits.
+  small : saidD file ≤ 16 → ((i : ℕ) → i < saidN file → saidProblem file .domain i < 2 ^ saidD file)
+      → (i : ℕ) → i < saidN file → saidProblem file .domain i < 2 ^ 16
+  small l h i k = lt-of-lt-of-le (h i k) (pow-mono l)
+
+  domains-say : t-doms ≡ true → (i : ℕ) → i < saidN file → saidProblem file .domain i < 2 ^ saidD file
+  unfolding t-doms
+  domains-say e i l =
+      ltb-true (saidProblem file .domain i) (2 ^ saidD file) (every-at (λ i. ltb (saidProblem file .domain i) (2 ^ saidD file)) (saidN file) i l e)
+
+  masks-say : t-masks ≡ true → (i j a : ℕ) → i < j → j < saidN file → a < saidD file → saidAllowed file i j a < 2 ^ saidD file
+  unfolding t-masks masksBelowTriangle
+  masks-say e i j a h l m =
+      let test : ℕ → ℕ → ℕ → Bool = λ i j a. ltb (saidAllowed file i j a) (2 ^ saidD file) in
+      let pair : ℕ → ℕ → Bool = λ i j. not (ltb i j) || every (saidD file) (test i j) in
+      let here = every-at (pair i) (saidN file) j l (every-at (λ i. every (saidN file) (pair i)) (saidN file) i (omega arith) e) in
+      let all : every (saidD file) (test i j) ≡ true = rw (lt-ltb i j h) at here in
+      ltb-true (saidAllowed file i j a) (2 ^ saidD file) (every-at (test i j) (saidD file) a m all)
+
+  say-masks : ((i j a : ℕ) → i < j → j < saidN file → a < saidD file → saidAllowed file i j a < 2 ^ saidD file) → t-masks ≡ true
+  unfolding t-masks masksBelowTriangle
+  say-masks h =
+      let test : ℕ → ℕ → ℕ → Bool = λ i j a. ltb (saidAllowed file i j a) (2 ^ saidD file) in
+      let pair : ℕ → ℕ → Bool = λ i j. not (ltb i j) || every (saidD file) (test i j) in
+      every-all (λ i. every (saidN file) (pair i)) (saidN file) (λ i l. every-all (pair i) (saidN file) (λ j k. elim (decLt i j) [
+        | yes q ↦ simp (every-all (test i j) (saidD file) (λ a m. lt-ltb (saidAllowed file i j a) (2 ^ saidD file) (h i j a q k m)), or-true)
+        | no q ↦ simp (le-ltb i j (omega arith))
+      ]))
+
+  masks-fail : t-masks ≡ false
+      → (i : ℕ) × (j : ℕ) × (a : ℕ) × (i < j) × (j < saidN file) × (a < saidD file) × Over (saidD file) (saidAllowed file i j a)
+  unfolding t-masks masksBelowTriangle
+  masks-fail e =
+      let test : ℕ → ℕ → ℕ → Bool = λ i j a. ltb (saidAllowed file i j a) (2 ^ saidD file) in
+      let pair : ℕ → ℕ → Bool = λ i j. not (ltb i j) || every (saidD file) (test i j) in
+      let (i, l, x) = every-found (λ i. every (saidN file) (pair i)) (saidN file) e in
+      let (j, k, y) = every-found (pair i) (saidN file) x in
+      let (a, m, z) = every-found (test i j) (saidD file) (or-right (not (ltb i j)) (every (saidD file) (test i j)) y) in (
+        i,
+        j,
+        a,
+        ltb-true i j (not-false (ltb i j) (or-left (not (ltb i j)) (every (saidD file) (test i j)) y)),
+        k,
+        m,
+        over-found (saidD file) (saidAllowed file i j a) (ltb-false (saidAllowed file i j a) (2 ^ saidD file) z),
+      )
+
+  -- What the tests say.
+  tests-accept : tests ≡ true → Accepts file
+  unfolding tests t-one t-vars t-val t-vals t-few t-fills t-zero t-doms t-rules t-count
+  tests-accept e11 =
+      let e10 : (t-one && t-vars && t-val && t-vals && t-few && t-fills && t-zero && t-doms && t-masks && t-rules) ≡ true = and-left (t-one && t-vars && t-val && t-vals && t-few && t-fills && t-zero && t-doms && t-masks && t-rules) t-count e11 in
+      let e9 : (t-one && t-vars && t-val && t-vals && t-few && t-fills && t-zero && t-doms && t-masks) ≡ true = and-left (t-one && t-vars && t-val && t-vals && t-few && t-fills && t-zero && t-doms && t-masks) t-rules e10 in
+      let e8 : (t-one && t-vars && t-val && t-vals && t-few && t-fills && t-zero && t-doms) ≡ true = and-left (t-one && t-vars && t-val && t-vals && t-few && t-fills && t-zero && t-doms) t-masks e9 in
+      let e7 : (t-one && t-vars && t-val && t-vals && t-few && t-fills && t-zero) ≡ true = and-left (t-one && t-vars && t-val && t-vals && t-few && t-fills && t-zero) t-doms e8 in
+      let e6 : (t-one && t-vars && t-val && t-vals && t-few && t-fills) ≡ true = and-left (t-one && t-vars && t-val && t-vals && t-few && t-fills) t-zero e7 in
+      let e5 : (t-one && t-vars && t-val && t-vals && t-few) ≡ true = and-left (t-one && t-vars && t-val && t-vals && t-few) t-fills e6 in
+      let e4 : (t-one && t-vars && t-val && t-vals) ≡ true = and-left (t-one && t-vars && t-val && t-vals) t-few e5 in
+      let e3 : (t-one && t-vars && t-val) ≡ true = and-left (t-one && t-vars && t-val) t-vals e4 in
+      let e2 : (t-one && t-vars) ≡ true = and-left (t-one && t-vars) t-val e3 in
+      let e1 : (t-one) ≡ true = and-left (t-one) t-vars e2 in
+      let doms = domains-say (and-right (t-one && t-vars && t-val && t-vals && t-few && t-fills && t-zero) t-doms e8) in
+      let vals : saidD file ≤ 16 = leb-true (saidD file) 16 (and-right (t-one && t-vars && t-val) t-vals e4) in
+      record {
+        some-variable = leb-true 1 (saidN file) e1;
+        variables = leb-true (saidN file) 32 (and-right (t-one) t-vars e2);
+        some-value = leb-true 1 (saidD file) (and-right (t-one && t-vars) t-val e3);
+        values = vals;
+        few = leb-true (saidSubproblems file) 512 (and-right (t-one && t-vars && t-val && t-vals) t-few e5);
+        fills = eqb-true (blocksIn file) (blocksFor (saidWords file)) (and-right (t-one && t-vars && t-val && t-vals && t-few) t-fills e6);
+        zeros = λ k l m.
+            let at : saidWords file + (k - saidWords file) ≡ k = omega arith in
+            rw (← at) (eqb-true (contentWord file (saidWords file + (k - saidWords file))) 0
+            (every-at (λ k. eqb (contentWord file (saidWords file + k)) 0) (blocksIn file * 253 - saidWords file) (k - saidWords file) (omega arith) (and-right (t-one && t-vars && t-val && t-vals && t-few && t-fills) t-zero e7)));
+        domains = doms;
+        masks = masks-say (and-right (t-one && t-vars && t-val && t-vals && t-few && t-fills && t-zero && t-doms) t-masks e9);
+        rules = all-rules (saidProblem file) (small vals doms) (saidSearch file .stack) (and-right (t-one && t-vars && t-val && t-vals && t-few && t-fills && t-zero && t-doms && t-masks) t-rules e10);
+        counted = leb-true (saidChecks file) (496 * saidSteps file) (and-right (t-one && t-vars && t-val && t-vals && t-few && t-fills && t-zero && t-doms && t-masks && t-rules) t-count e11);
+      }
+
+  accept-tests : Accepts file → tests ≡ true
+  unfolding tests t-one t-vars t-val t-vals t-few t-fills t-zero t-doms t-rules t-count
+  accept-tests a =
+      let zero : t-zero ≡ true = every-all (λ k. eqb (contentWord file (saidWords file + k)) 0) (blocksIn file * 253 - saidWords file)
+      (λ k l. eq-eqb (contentWord file (saidWords file + k)) 0 (a .zeros (saidWords file + k) (omega arith) (omega arith))) in
+      let doms : t-doms ≡ true = every-all (λ i. ltb (saidProblem file .domain i) (2 ^ saidD file)) (saidN file)
+      (λ i l. lt-ltb (saidProblem file .domain i) (2 ^ saidD file) (a .domains i l)) in
+      let rules : t-rules ≡ true = rules-all (saidProblem file) (small (a .values) (a .domains)) (saidSearch file .stack) (a .rules) in
+      rw (
+        le-leb 1 (saidN file) (a .some-variable),
+        le-leb (saidN file) 32 (a .variables),
+        le-leb 1 (saidD file) (a .some-value),
+        le-leb (saidD file) 16 (a .values),
+        le-leb (saidSubproblems file) 512 (a .few),
+        eq-eqb (blocksIn file) (blocksFor (saidWords file)) (a .fills),
+        zero,
+        doms,
+        say-masks (a .masks),
+        rules,
+      ) (le-leb (saidChecks file) (496 * saidSteps file) (a .counted))
+
+  -- If they do not all pass, a rule is broken.
+  tests-deserve : tests ≡ false → Deserves-15 file
+  unfolding tests t-one t-vars t-val t-vals t-few t-fills t-zero t-doms t-rules t-count
+  tests-deserve e = one (either t-one) (either t-vars) (either t-val) (either t-vals)
+    where
+      Way : Bool → Type 0
+      Way b = (b ≡ true) ⊎ (b ≡ false)
+
+      counts : t-one ≡ true → t-vars ≡ true → t-val ≡ true → t-vals ≡ true → t-few ≡ true → t-fills ≡ true → t-zero ≡ true → t-doms ≡ true
+          → t-masks ≡ true → t-rules ≡ true → Way t-count → Deserves-15 file
+      counts a b c d f g h i j k (inl x) = absurd (true-false (sym (rw (a, b, c, d, f, g, h, i, j, k) x) ∙ e))
+      counts a b c d f g h i j k (inr x) =
+          inr (inr (inr (inr (inr (inr (inr (inr (leb-false (saidChecks file) (496 * saidSteps file) x))))))))
+
+      rules : t-one ≡ true → t-vars ≡ true → t-val ≡ true → t-vals ≡ true → t-few ≡ true → t-fills ≡ true → t-zero ≡ true → t-doms ≡ true
+          → t-masks ≡ true → Way t-rules → Deserves-15 file
+      rules a b c d f g h i j (inl x) = counts a b c d f g h i j x (either t-count)
+      rules a b c d f g h i j (inr x) =
+          inr (inr (inr (inr (inr (inr (inr (inl
+          (some-breaks (saidProblem file) (small (leb-true (saidD file) 16 d) (domains-say i)) (saidSearch file .stack) x))))))))
+
+      masks : t-one ≡ true → t-vars ≡ true → t-val ≡ true → t-vals ≡ true → t-few ≡ true → t-fills ≡ true → t-zero ≡ true → t-doms ≡ true
+          → Way t-masks → Deserves-15 file
+      masks a b c d f g h i (inl x) = rules a b c d f g h i x (either t-rules)
+      masks a b c d f g h i (inr x) = inr (inr (inr (inr (inr (inr (inl (masks-fail x)))))))
+
+      doms : t-one ≡ true → t-vars ≡ true → t-val ≡ true → t-vals ≡ true → t-few ≡ true → t-fills ≡ true → t-zero ≡ true → Way t-doms
+          → Deserves-15 file
+      doms a b c d f g h (inl x) = masks a b c d f g h x (either t-masks)
+      doms a b c d f g h (inr x) =
+          let (i, l, z) = every-found (λ i. ltb (saidProblem file .domain i) (2 ^ saidD file)) (saidN file) x in
+          inr (inr (inr (inr (inr (inl (i, l, over-found (saidD file) (saidProblem file .domain i) (ltb-false (saidProblem file .domain i) (2 ^ saidD file) z)))))))
+
+      zeros : t-one ≡ true → t-vars ≡ true → t-val ≡ true → t-vals ≡ true → t-few ≡ true → t-fills ≡ true → Way t-zero → Deserves-15 file
+      zeros a b c d f g (inl x) = doms a b c d f g x (either t-doms)
+      zeros a b c d f g (inr x) =
+          let (k, l, z) = every-found (λ k. eqb (contentWord file (saidWords file + k)) 0) (blocksIn file * 253 - saidWords file) x in
+          inr (inr (inr (inr (inl (saidWords file + k, omega arith, omega arith, eqb-false (contentWord file (saidWords file + k)) 0 z)))))
+
+      fills : t-one ≡ true → t-vars ≡ true → t-val ≡ true → t-vals ≡ true → t-few ≡ true → Way t-fills → Deserves-15 file
+      fills a b c d f (inl x) = zeros a b c d f x (either t-zero)
+      fills a b c d f (inr x) = inr (inr (inr (inl (eqb-false (blocksIn file) (blocksFor (saidWords file)) x))))
+
+      fewer : t-one ≡ true → t-vars ≡ true → t-val ≡ true → t-vals ≡ true → Way t-few → Deserves-15 file
+      fewer a b c d (inl x) = fills a b c d x (either t-fills)
+      fewer a b c d (inr x) = inr (inr (inl (leb-false (saidSubproblems file) 512 x)))
+
+      one : Way t-one → Way t-vars → Way t-val → Way t-vals → Deserves-15 file
+      one (inl a) (inl b) (inl c) (inl d) = fewer a b c d (either t-few)
+      one (inr a) y z w = inl (inl (leb-false 1 (saidN file) a))
+      one (inl a) (inr b) z w = inl (inr (leb-false (saidN file) 32 b))
+      one (inl a) (inl b) (inr c) w = inr (inl (inl (leb-false 1 (saidD file) c)))
+      one (inl a) (inl b) (inl c) (inr d) = inr (inl (inr (leb-false (saidD file) 16 d)))
+
+  -- An accepted file breaks none.
+  pub accepts-deserves-not : Accepts file → Deserves-15 file → ⊥
+  accepts-deserves-not a (inl (inl l)) = omega (arith, a .some-variable)
+  accepts-deserves-not a (inl (inr l)) = omega (arith, a .variables)
+  accepts-deserves-not a (inr (inl (inl l))) = omega (arith, a .some-value)
+  accepts-deserves-not a (inr (inl (inr l))) = omega (arith, a .values)
+  accepts-deserves-not a (inr (inr (inl l))) = omega (arith, a .few)
+  accepts-deserves-not a (inr (inr (inr (inl f)))) = f (a .fills)
+  accepts-deserves-not a (inr (inr (inr (inr (inl (k, l, m, f)))))) = f (a .zeros k l m)
+  accepts-deserves-not a (inr (inr (inr (inr (inr (inl (i, l, o))))))) = over-not (saidD file) (saidProblem file .domain i) (a .domains i l) o
+  accepts-deserves-not a (inr (inr (inr (inr (inr (inr (inl (i, j, v, l, k, m, o)))))))) = over-not (saidD file) (saidAllowed file i j v) (a .masks i j v l k m) o
+  accepts-deserves-not a (inr (inr (inr (inr (inr (inr (inr (inl (P, m, f))))))))) = f (a .rules P m)
+  accepts-deserves-not a (inr (inr (inr (inr (inr (inr (inr (inr l)))))))) = omega (arith, a .counted)
+
+  -- Passing 15 says that the file is accepted.
+  pub words-accept : refusalOfWords file ≡ 0 → Accepts file
+  words-accept e = tests-accept (passed tests 15 (λ z. absurd (omega arith)) (sym is-tests ∙ e))
+
+  -- An accepted file passes 15.
+  pub accept-words : Accepts file → refusalOfWords file ≡ 0
+  accept-words a = is-tests ∙ rw (accept-tests a) refl
+
+  -- 15 is given exactly if it is deserved.
+  pub refusal-15 : (refusalOfWords file ≡ 15) ↔ Deserves-15 file
+  refusal-15 = (λ e. tests-deserve (refused tests 15 (λ z. absurd (omega arith)) (sym is-tests ∙ e)), λ g. is-tests ∙ go tests refl g)
+    where
+      go : (b : Bool) → tests ≡ b → Deserves-15 file → _≡_ {A = ℕ} (cond b 0 15) 15
+      go true e g = absurd (accepts-deserves-not (tests-accept e) g)
+      go false e g = refl
+
+  -- It passes exactly if 15 is not deserved.
+  pub refusal-not-15 : (refusalOfWords file ≡ 0) ↔ (Deserves-15 file → ⊥)
+  refusal-not-15 = (λ e. accepts-deserves-not (words-accept e), λ g. is-tests ∙ go tests refl g)
+    where
+      go : (b : Bool) → tests ≡ b → (Deserves-15 file → ⊥) → _≡_ {A = ℕ} (cond b 0 15) 0
+      go true e g = refl
+      go false e g = absurd (g (tests-deserve e))
+
+  -- The answer is 0 or 15.
+  pub words-either : (refusalOfWords file ≡ 0) ⊎ (refusalOfWords file ≡ 15)
+  words-either = ⊎-elim (λ e. inl (is-tests ∙ rw e refl)) (λ e. inr (is-tests ∙ rw e refl)) (either tests)

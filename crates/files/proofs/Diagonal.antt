@@ -1,0 +1,189 @@
+-- No result depends on what stands at a variable with itself: the first checks, a run, the chooser and the content.
+-- Assumes nothing.
+use mathlib.Core.Path.{_≡_, refl, ap, _∙_}
+use mathlib.Core.Bool.{false, cond}
+use mathlib.Core.List.{List}
+use Prim.Native.Nat.{ℕ, _^_, _<_}
+use native.Mathlib.Omega.{arith}
+use native.Mathlib.Decide.{ℕ-discrete}
+use lib.ListN.{length, getD}
+use lib.Dec.{eqb}
+use borrow.Author.Tests.{ne-eqb}
+use Rattle.splits.specs.Problem.{Proper, tableOf}
+use Rattle.splits.specs.declared.subproblem.Subproblem.{Subproblem}
+use Rattle.splits.proofs.Tests.{same-test}
+use Rattle.search.specs.Agenda.{problemOf, stackOf, slotsIn}
+use Rattle.search.specs.FirstChecks.{orElse, refusalOfNumbers, refusalOfLengths, refusalOfRequests, refusalOfProblem, allObey, refusalOfSearch, openRefusal, searchRefusal, runRefusal}
+use Rattle.search.specs.Runs.{Stopped, run, requestsIn}
+use Rattle.search.specs.Chooser.{choose}
+use Rattle.search.specs.Calls.{searchOf, Opens, Ends, Runs, Chooses}
+use Rattle.search.specs.Promises.{Passes}
+use Rattle.search.specs.declared.state.State.{State}
+use Rattle.search.specs.declared.state.Opened.{Opened}
+use Rattle.search.specs.declared.state.Ran.{Ran}
+use Rattle.files.specs.Content.{contentOf}
+use Rattle.files.specs.Calls.{handedContent, saveRefusal, Saves}
+use Rattle.files.specs.Promises.{Same-away}
+use Rattle.files.specs.declared.saved.Saved.{Saved}
+use Rattle.files.proofs.Tests.{else-pass}
+use Rattle.files.proofs.Stacks.{of-length}
+use Rattle.files.proofs.Triangle.{triangle-same}
+use Rattle.files.proofs.Rules.{all-rules, rules-all}
+use Rattle.files.proofs.Passing.{Passing, problem-agree, proper-small, open-proper, search-passing, run-search}
+use Rattle.files.proofs.Tables.{rules-agree, agree-back}
+use Rattle.files.proofs.AgreeingRuns.{run-same, choose-same}
+
+-- A refusal before decides alike.
+else-cong : (a x y : ℕ) → (a ≡ 0 → x ≡ y) → orElse a x ≡ orElse a y
+else-cong a x y h = elim (ℕ-discrete a 0) [
+  | yes e ↦ ap (λ (z : ℕ). cond (eqb a 0) z a) (h e)
+  | no f ↦ rw (ne-eqb a 0 f) refl
+]
+
+-- A search that passed the first checks, as the search crate says it.
+pub passing-passes : (n d : ℕ) (domains tables agenda : List ℕ) (s : State) → s .counts .steps .0 < 2 ^ 32
+    → Passing n d domains tables agenda (s .counts .steps .0) (s .counts .checks .0) (s .subproblems)
+    → Passes (problemOf n d domains tables) (slotsIn n (length agenda)) (searchOf n agenda s)
+passing-passes n d domains tables agenda s l h = record {
+  proper = h .proper;
+  rules = h .rules;
+  fits = rw (of-length n (h .proper .variables) agenda (s .subproblems)) (h .fits);
+  counted = h .counted;
+  stepped = omega arith;
+}
+
+-- Where the first checks refuse, it does not matter how the run would stop.
+ends-swap : (first n : ℕ) (before after : List ℕ) (s : State) (x y : Stopped) (r : Ran) → (first ≡ 0 → x ≡ y) → Ends first n before after s x r
+    → Ends first n before after s y r
+ends-swap first n before after s x y r h e = elim (ℕ-discrete first 0) [
+  | yes z ↦ rw (← h z) e
+  | no f ↦
+      let b : eqb first 0 ≡ false = ne-eqb first 0 f in
+      record {
+        verdict = rw b (rw b at (e .verdict));
+        refusal = rw b (rw b at (e .refusal));
+        taken = rw b (rw b at (e .taken));
+        steps = rw b (rw b at (e .steps));
+        checks = rw b (rw b at (e .checks));
+        subproblems = rw b (rw b at (e .subproblems));
+        agenda = rw b (rw b at (e .agenda));
+      }
+]
+
+module _ (n d : ℕ) (domains tables tables′ : List ℕ) (same : Same-away n d tables tables′) where
+  four-same : refusalOfProblem (problemOf n d domains tables) ≡ refusalOfProblem (problemOf n d domains tables′)
+  four-same = problem-agree (problemOf n d domains tables) (tableOf n d tables′) (same .agree)
+
+  three-same : (agenda : ℕ) → refusalOfLengths n d (length domains) (length tables) agenda ≡ refusalOfLengths n d (length domains) (length tables′) agenda
+  three-same agenda = ap (λ (x : ℕ). refusalOfLengths n d (length domains) x agenda) (same .words)
+
+  obey-same : Proper (problemOf n d domains tables) → (S : List Subproblem) → allObey (problemOf n d domains tables) S ≡ allObey (problemOf n d domains tables′) S
+  obey-same proper S =
+      let whole : ℕ → ℕ = λ i. getD domains i 0 in
+      let small = proper-small (problemOf n d domains tables) proper in
+      same-test (allObey (problemOf n d domains tables) S) (allObey (problemOf n d domains tables′) S)
+      (λ e. rules-all (problemOf n d domains tables′) small S (λ P m.
+      rules-agree n d whole (tableOf n d tables) (tableOf n d tables′) (same .agree) (proper .domains) P (all-rules (problemOf n d domains tables) small S e P m)))
+      (λ e. rules-all (problemOf n d domains tables) small S (λ P m.
+      rules-agree n d whole (tableOf n d tables′) (tableOf n d tables) (agree-back (tableOf n d tables) (tableOf n d tables′) (same .agree)) (proper .domains) P
+      (all-rules (problemOf n d domains tables′) small S e P m)))
+
+  six-same : Proper (problemOf n d domains tables) → (agenda : List ℕ) (steps checks subproblems : ℕ)
+      → refusalOfSearch (problemOf n d domains tables) agenda steps checks subproblems ≡ refusalOfSearch (problemOf n d domains tables′) agenda steps checks subproblems
+  unfolding refusalOfSearch
+  six-same proper agenda steps checks subproblems = rw (obey-same proper (stackOf n agenda subproblems)) refl
+
+  -- The first checks.
+  pub open-same : (agenda : List ℕ) → openRefusal n d domains tables agenda ≡ openRefusal n d domains tables′ agenda
+  unfolding openRefusal
+  open-same agenda = rw (three-same (length agenda), four-same) refl
+
+  -- Those of chooser and save.
+  pub search-same : (agenda : List ℕ) (steps checks subproblems : ℕ)
+      → searchRefusal n d domains tables agenda steps checks subproblems ≡ searchRefusal n d domains tables′ agenda steps checks subproblems
+  unfolding searchRefusal openRefusal
+  search-same agenda steps checks subproblems =
+      let six = refusalOfSearch (problemOf n d domains tables) agenda steps checks subproblems in
+      let six′ = refusalOfSearch (problemOf n d domains tables′) agenda steps checks subproblems in
+      else-cong (openRefusal n d domains tables agenda) six six′
+      (λ e.
+      let three = refusalOfLengths n d (length domains) (length tables) (length agenda) in
+      let five = refusalOfProblem (problemOf n d domains tables) in
+      let (a, x) = else-pass (refusalOfNumbers n d) (orElse three five) e in
+      let (b, y) = else-pass three five x in
+      six-same (open-proper n d domains tables agenda a y) agenda steps checks subproblems)
+      ∙ ap (λ (x : ℕ). orElse x six′) (open-same agenda)
+
+  -- Those of a run.
+  pub run-refusal-same : (agenda requests : List ℕ) (steps checks subproblems : ℕ)
+      → runRefusal n d domains tables agenda requests steps checks subproblems ≡ runRefusal n d domains tables′ agenda requests steps checks subproblems
+  unfolding runRefusal
+  run-refusal-same agenda requests steps checks subproblems =
+      let six = refusalOfSearch (problemOf n d domains tables) agenda steps checks subproblems in
+      let six′ = refusalOfSearch (problemOf n d domains tables′) agenda steps checks subproblems in
+      let five = refusalOfProblem (problemOf n d domains tables) in
+      let five′ = refusalOfProblem (problemOf n d domains tables′) in
+      let three : ℕ = refusalOfLengths n d (length domains) (length tables) (length agenda) in
+      let three′ : ℕ = refusalOfLengths n d (length domains) (length tables′) (length agenda) in
+      let also : ℕ = refusalOfRequests n (length requests) in
+      else-cong (refusalOfNumbers n d) (orElse three (orElse also (orElse five six))) (orElse three′ (orElse also (orElse five′ six′)))
+      (λ a. ap (λ (x : ℕ). orElse x (orElse also (orElse five six))) (three-same (length agenda))
+      ∙ else-cong three′ (orElse also (orElse five six)) (orElse also (orElse five′ six′))
+      (λ b. else-cong also (orElse five six) (orElse five′ six′)
+      (λ c. else-cong five six six′ (λ e. six-same (open-proper n d domains tables agenda a e) agenda steps checks subproblems) ∙ ap (λ (x : ℕ). orElse x six′) four-same)))
+
+  -- The content.
+  pub content-same : (agenda : List ℕ) (s : State) → handedContent n d domains tables agenda s ≡ handedContent n d domains tables′ agenda s
+  unfolding contentOf
+  content-same agenda s =
+      rw (triangle-same n d (tableOf n d tables) (tableOf n d tables′) (λ i j a l k m. same .agree i j a (omega arith) k (λ e. absurd (omega arith)) m)) refl
+
+  -- ---- the four calls
+
+  -- Opening.
+  pub diagonal-open : (before after : List ℕ) (r : Opened) → Opens n d domains tables before after r → Opens n d domains tables′ before after r
+  diagonal-open before after r h = record {
+    refusal = rw (← open-same before) (h .refusal);
+    steps = h .steps;
+    checks = h .checks;
+    subproblems = rw (← open-same before) (h .subproblems);
+    agenda = rw (← open-same before) (h .agenda);
+  }
+
+  -- A run.
+  pub diagonal-run : (before after requests : List ℕ) (s : State) (r : Ran) → s .counts .steps .0 < 2 ^ 32 → Runs n d domains tables before after requests s r
+      → Runs n d domains tables′ before after requests s r
+  diagonal-run before after requests s r l h =
+      rw (← run-refusal-same before requests (s .counts .steps .0) (s .counts .checks .0) (s .subproblems)) (ends-swap
+      (runRefusal n d domains tables before requests (s .counts .steps .0) (s .counts .checks .0) (s .subproblems)) n before after s
+      (run (problemOf n d domains tables) (slotsIn n (length before)) (requestsIn n requests) (searchOf n before s))
+      (run (problemOf n d domains tables′) (slotsIn n (length before)) (requestsIn n requests) (searchOf n before s)) r
+      (λ e. run-same (problemOf n d domains tables) (tableOf n d tables′) (same .agree) (slotsIn n (length before)) (requestsIn n requests) (searchOf n before s)
+      (passing-passes n d domains tables before s l
+      (search-passing n d domains tables before (s .counts .steps .0) (s .counts .checks .0) (s .subproblems)
+      (run-search n d domains tables before requests (s .counts .steps .0) (s .counts .checks .0) (s .subproblems) e)))) h)
+
+  -- The chooser.
+  pub diagonal-choose : (before after : List ℕ) (limit : ℕ) (s : State) (r : Ran) → s .counts .steps .0 < 2 ^ 32 → Chooses n d domains tables before after limit s r
+      → Chooses n d domains tables′ before after limit s r
+  diagonal-choose before after limit s r l h =
+      rw (← search-same before (s .counts .steps .0) (s .counts .checks .0) (s .subproblems)) (ends-swap
+      (searchRefusal n d domains tables before (s .counts .steps .0) (s .counts .checks .0) (s .subproblems)) n before after s
+      (choose (problemOf n d domains tables) (slotsIn n (length before)) limit (searchOf n before s))
+      (choose (problemOf n d domains tables′) (slotsIn n (length before)) limit (searchOf n before s)) r
+      (λ e. choose-same (problemOf n d domains tables) (tableOf n d tables′) (same .agree) (slotsIn n (length before)) limit (searchOf n before s)
+      (passing-passes n d domains tables before s l
+      (search-passing n d domains tables before (s .counts .steps .0) (s .counts .checks .0) (s .subproblems) e))) h)
+
+  save-same : (agenda : List ℕ) (s : State) (file : List ℕ) → saveRefusal n d domains tables agenda s file ≡ saveRefusal n d domains tables′ agenda s file
+  unfolding saveRefusal
+  save-same agenda s file = rw (search-same agenda (s .counts .steps .0) (s .counts .checks .0) (s .subproblems), content-same agenda s) refl
+
+  -- Save.
+  pub diagonal-save : (agenda : List ℕ) (s : State) (before after : List ℕ) (r : Saved) → Saves n d domains tables agenda s before after r
+      → Saves n d domains tables′ agenda s before after r
+  diagonal-save agenda s before after r h = record {
+    refusal = rw (← save-same agenda s before) (h .refusal);
+    blocks = rw (← save-same agenda s before, ← content-same agenda s) (h .blocks);
+    file = rw (← save-same agenda s before, ← content-same agenda s) (h .file);
+  }

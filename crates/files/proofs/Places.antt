@@ -1,0 +1,61 @@
+-- The words of a file as the code reads them, and the check that it works out.
+-- Assumes nothing.
+use mathlib.Core.Path.{_≡_, refl, sym, ap, _∙_}
+use mathlib.Core.Logic.{⊎-elim}
+use mathlib.Core.List.{List, List·Memᴰ, List·Memᴰ·cases-cons, List·Memᴰ·not-nil, [], _∷_, map}
+use Prim.Native.Nat.{ℕ, _+_, _-_, _*_, _/_, _%_, _≤_, _<_}
+use native.Mathlib.Omega.{arith}
+use native.Mathlib.Numerals.{add-one}
+use lib.ListN.{length, getD, List·getD-eq-default}
+use Rattle.splits.specs.Problem.{total}
+use Rattle.splits.specs.Splits.{below}
+use Rattle.files.specs.Blocks.{wordAt, checkOf}
+use Rattle.files.specs.Reading.{blockWord, headOf, contentWord, contentFrom}
+use Rattle.files.proofs.Lists.{map-length, map-at}
+use Rattle.files.proofs.Sums.{total-is}
+use Rattle.files.proofs.Words.{word-small}
+
+-- A word of two bytes; past the end it is 0.
+pub word-made : (file : List ℕ) (k high low : ℕ) → high ≡ getD file (2 * k) 0 → low ≡ getD file (2 * k + 1) 0 → high * 256 + low ≡ wordAt file k
+unfolding wordAt
+word-made file k high low e h = rw (e, h) refl
+
+pub word-past : (file : List ℕ) (k : ℕ) → length file ≤ k → 0 ≡ wordAt file k
+unfolding wordAt
+word-past file k h =
+    let high : length file ≤ 2 * k = omega arith in
+    let low : length file ≤ 2 * k + 1 = omega arith in
+    rw (List·getD-eq-default file 0 high, List·getD-eq-default file 0 low) refl
+
+pub block-word-small : (file : List ℕ) → ((i : ℕ) → getD file i 0 < 256) → (b k : ℕ) → blockWord file b k < 65536
+unfolding blockWord
+block-word-small file s b k = word-small file s (256 * b + k)
+
+pub content-word-small : (file : List ℕ) → ((i : ℕ) → getD file i 0 < 256) → (k : ℕ) → contentWord file k < 65536
+unfolding contentWord
+content-word-small file s k = block-word-small file s (k / 253) (2 + k % 253)
+
+-- One word more of a sum.
+pub total-more : (f : ℕ → ℕ) (k s x : ℕ) → s ≡ total k f → x ≡ f k → s + x ≡ total (k + 1) f
+unfolding total
+total-more f k s x e h = rw (add-one, e, h) refl
+
+pub total-none : (f : ℕ → ℕ) → 0 ≡ total 0 f
+unfolding total
+total-none f = refl
+
+-- A word of the content from one on.
+pub content-from : (file : List ℕ) (from words i : ℕ) → i < words → getD (contentFrom file from words) i 0 ≡ contentWord file (from + i)
+unfolding contentFrom
+content-from file from words i h = map-at (λ k. contentWord file (from + k)) words i 0 h
+
+pub length-from : (file : List ℕ) (from words : ℕ) → length (contentFrom file from words) ≡ words
+unfolding contentFrom
+length-from file from words = map-length (λ k. contentWord file (from + k)) words
+
+-- The sum folded twice, taken from 65535, is the check.
+pub check-made : (file : List ℕ) (b t y z : ℕ) → ((i : ℕ) → getD file i 0 < 256) → t ≡ total 255 (blockWord file b) → y ≡ t % 65536 + t / 65536
+    → z ≡ y % 65536 + y / 65536 → 65535 - z ≡ checkOf (headOf file b)
+unfolding checkOf headOf
+check-made file b t y z s e f g =
+    ap (λ (x : ℕ). 65535 - x) (total-is (blockWord file b) 255 t y z (block-word-small file s b) (omega arith) e f g)

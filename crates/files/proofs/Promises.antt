@@ -1,0 +1,203 @@
+-- The promises of save and load, proved.
+-- Assumes nothing.
+use mathlib.Core.Path.{_≡_, refl}
+use native.Mathlib.Omega.{arith}
+use lib.ListN.{length}
+use Rattle.files.specs.Blocks.{blocksFor, carried, onesSum, checkOf}
+use Rattle.files.specs.Content.{contentOf}
+use Rattle.files.specs.Promises.{
+  Check-of-one,
+  RFC-1071,
+  Blocks-whole,
+  Blocks-read,
+  Blocks-length,
+  Blocks-bytes,
+  Check-word,
+  Sum-folded,
+  Load-after-save,
+  Save-after-load,
+  Loaded-passes,
+  Loads-back,
+  Saves-back,
+  Largest,
+  Largest-met,
+  Save-first,
+  Save-13,
+  Save-none,
+  Load-14,
+  Load-15,
+  Load-3,
+  Load-12,
+  Load-none,
+  Save-one,
+  Load-one,
+  Diagonal-open,
+  Diagonal-run,
+  Diagonal-choose,
+  Diagonal-save,
+  Reached-again,
+  Widened,
+  Begun-passes,
+  Begun-solvable,
+  Begun-unsolvable,
+  Begun-steps,
+  Same-solutions,
+  Cut,
+  Cut-widened,
+  Cut-any,
+}
+use mathlib.Core.Logic.{_↔_}
+use mathlib.Core.List.{List·Memᴰ}
+use Rattle.splits.specs.Promises.{Solvable}
+use Rattle.splits.specs.declared.subproblem.Subproblem.{Subproblem}
+use Rattle.search.specs.Verdicts.{verdictOf}
+use Rattle.search.specs.Promises.{Passes, Has-solution}
+use Rattle.search.specs.declared.state.Verdict.the-variants.{Unsolvable}
+use Rattle.splits.proofs.Refusals.{one}
+use Rattle.search.proofs.Promises.{reached-passes, reached-solvable, reached-unsolvable, reached-steps}
+use Rattle.files.proofs.Sums
+use Rattle.files.proofs.Blocks
+use Rattle.files.proofs.Whole
+use Rattle.files.proofs.Accepted
+use Rattle.files.proofs.Contents
+use Rattle.files.proofs.RoundTrip
+use Rattle.files.proofs.Saving
+use Rattle.files.proofs.Loading
+use Rattle.files.proofs.Passing
+use Rattle.files.proofs.Refusals
+use Rattle.files.proofs.Diagonal
+use Rattle.files.proofs.Cut as Cutting
+use Rattle.files.proofs.Back
+use Rattle.files.proofs.Widening
+use Rattle.files.proofs.OneOutcome
+
+pub blocks-whole : Blocks-whole
+blocks-whole = Blocks.file-passes
+
+pub blocks-read : Blocks-read
+blocks-read = Blocks.file-content
+
+pub blocks-length : Blocks-length
+blocks-length = Blocks.file-length
+
+pub blocks-bytes : Blocks-bytes
+blocks-bytes content words few = Blocks.file-small content few words
+
+pub check-word : Check-word
+check-word = Sums.check-word
+
+pub sum-folded : Sum-folded
+sum-folded ws t y z words few = Sums.twice-is ws t y z words (omega arith)
+
+pub load-after-save : Load-after-save
+load-after-save n d domains tables agenda s words e = Saving.saved-says n d domains tables agenda s words (Passing.search-passing n d domains tables agenda _ _ _ e)
+
+pub save-after-load : Save-after-load
+save-after-load file bytes e h =
+    let a = Accepted.words-accept file h in RoundTrip.saved-again file bytes (a .variables) (Whole.file-whole file e) a
+
+pub loaded-passes : Loaded-passes
+loaded-passes file domains tables agenda bytes e =
+    let t = Loading.load-taken file (length domains) (length tables) (length agenda) e in
+    Passing.passing-search _ _ _ _ _ _ _ _ (Loading.said-passing file (t .accepts) bytes (length agenda) (t .lengths .slots) (t .room))
+
+pub loads-back : Loads-back
+loads-back = Back.loads-back
+
+pub saves-back : Saves-back
+saves-back = Back.saves-back
+
+pub largest : Largest
+largest n d domains allowed s few values words stack canonical =
+    (RoundTrip.content-few n d domains allowed s few values words stack canonical, RoundTrip.blocks-few n d domains allowed s few values words stack canonical)
+
+pub largest-met : Largest-met
+unfolding blocksFor
+largest-met domains allowed s words stack canonical =
+    let e = Contents.content-length 32 16 domains allowed s (omega arith) words canonical in
+    let l : length (contentOf 32 16 domains allowed s) ≡ 25385 = rw stack at e in
+    (l, rw l refl)
+
+pub save-first : Save-first
+save-first = Refusals.save-first
+
+pub save-13 : Save-13
+save-13 = Refusals.save-13
+
+pub save-none : Save-none
+save-none = Refusals.save-none
+
+pub load-14 : Load-14
+load-14 = Refusals.load-14
+
+pub load-15 : Load-15
+load-15 = Refusals.load-15
+
+pub load-3 : Load-3
+load-3 = Refusals.load-3
+
+pub load-12 : Load-12
+load-12 = Refusals.load-12
+
+pub load-none : Load-none
+load-none = Refusals.load-none
+
+pub save-one : Save-one
+save-one = OneOutcome.save-one
+
+pub load-one : Load-one
+load-one = OneOutcome.load-one
+
+pub diagonal-open : Diagonal-open
+diagonal-open n d domains tables tables′ before after r same = Diagonal.diagonal-open n d domains tables tables′ same before after r
+
+pub diagonal-run : Diagonal-run
+diagonal-run n d domains tables tables′ before after requests s r same = Diagonal.diagonal-run n d domains tables tables′ same before after requests s r
+
+pub diagonal-choose : Diagonal-choose
+diagonal-choose n d domains tables tables′ before after limit s r same = Diagonal.diagonal-choose n d domains tables tables′ same before after limit s r
+
+pub diagonal-save : Diagonal-save
+diagonal-save n d domains tables tables′ agenda s before after r same = Diagonal.diagonal-save n d domains tables tables′ same agenda s before after r
+
+pub reached-again : Reached-again
+reached-again = Cutting.reached-again
+
+pub widened : Widened
+widened n d domains tables slots s h = let k = Widening.known h in (k .proper, k .reached)
+
+pub begun-passes : Begun-passes
+begun-passes = Widening.begun-all Passes reached-passes
+
+pub begun-solvable : Begun-solvable
+begun-solvable = Widening.begun-all (λ p slots s. Has-solution p ↔ ((P : Subproblem) × List·Memᴰ P (s .stack) × Solvable p P)) reached-solvable
+
+pub begun-unsolvable : Begun-unsolvable
+begun-unsolvable = Widening.begun-all (λ p slots s. verdictOf (p .n) (s .stack) ≡ Unsolvable → Has-solution p → ⊥) reached-unsolvable
+
+pub begun-steps : Begun-steps
+begun-steps n d domains tables slots s h = let k = Widening.known h in reached-steps n d domains tables slots s (k .proper) (k .reached)
+
+pub same-solutions : Same-solutions
+same-solutions = Widening.same-solutions
+
+pub cut : Cut
+cut = Cutting.reached-cut
+
+pub cut-widened : Cut-widened
+cut-widened n d domains tables slots gone agenda s requests more h words held w v t =
+    let k = Widening.known h in
+    Cutting.reached-cut n d domains tables slots gone agenda s requests more (k .proper) (k .words) words (k .some) (k .few) (k .reached) held w v t
+
+pub cut-any : Cut-any
+cut-any n d domains tables agenda s requests more words short e w v t =
+    let h = Passing.search-passing n d domains tables agenda (s .counts .steps .0) (s .counts .checks .0) (s .subproblems) e in
+    Cutting.same-end n d domains tables agenda s requests more short h
+    (λ P m. let c = Saving.stack-canonical n d domains tables agenda s words h P m in record { entries = c .entries; past = c .past }) w v t
+
+pub check-of-one : Check-of-one
+check-of-one block = one _
+
+pub rfc-1071 : RFC-1071
+unfolding checkOf onesSum carried
+rfc-1071 = (refl, refl)

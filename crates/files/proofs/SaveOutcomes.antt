@@ -1,0 +1,137 @@
+-- What save returns and leaves, refused or not.
+-- Assumes nothing.
+use mathlib.Core.Path.{_≡_, refl, sym, ap, _∙_}
+use mathlib.Core.Bool.{Bool, true, cond, _&&_}
+use mathlib.Core.List.{List, _++_}
+use Prim.Native.Nat.{ℕ, _+_, _*_, _/_, _%_, _^_, _≤_, _<_}
+use native.Mathlib.Omega.{arith}
+use lib.ListN.{length, getD, drop}
+use lib.Dec.{eqb, leb, ltb}
+use borrow.Author.Tests.{lt-ltb, le-ltb, leb-true}
+use Rattle.splits.proofs.Tests.{and-left, and-right}
+use Rattle.search.specs.Agenda.{problemOf, slotsIn, stackOf}
+use Rattle.search.specs.FirstChecks.{wholeSlots, refusalOfLengths, allObey, zerosFrom, refusalOfSearch, openRefusal, searchRefusal}
+use Rattle.search.specs.declared.state.State.{State}
+use Rattle.search.proofs.FirstParts.{else-first, else-rest, else-pass, numbers-pass, lengths-pass, open-parts, slots-within}
+use Rattle.files.specs.Blocks.{blocksFor, firstBlocks, fileOf}
+use Rattle.files.specs.Calls.{handedContent, saveRefusal, Saves}
+use Rattle.files.specs.Work.Said.{agendaStart, wordsOf}
+use Rattle.files.specs.Work.Saved.{Handed, handed, filePart}
+use Rattle.files.specs.declared.saved.Saved.{Saved}
+use Rattle.files.proofs.Tests.{passed}
+use Rattle.files.proofs.Blocks.{blocks-length}
+use Rattle.files.proofs.Written.{handed-length}
+use Rattle.files.proofs.LoadOutcomes.{given, not-given}
+
+module _ (n d : ℕ) (domains tables agenda : List ℕ) (s : State) where
+  first : ℕ
+  first = searchRefusal n d domains tables agenda (s .counts .steps .0) (s .counts .checks .0) (s .subproblems)
+
+  -- What the first checks leave where they pass.
+  slots-few : wholeSlots n (length agenda) ≡ true → slotsIn n (length agenda) ≤ 512
+  unfolding wholeSlots
+  slots-few e =
+      leb-true (slotsIn n (length agenda)) 512
+      (and-right (eqb (length agenda % (n + 2)) 0 && leb 1 (slotsIn n (length agenda))) (leb (slotsIn n (length agenda)) 512) e)
+
+  whole : refusalOfLengths n d (length domains) (length tables) (length agenda) ≡ 0 → wholeSlots n (length agenda) ≡ true
+  unfolding refusalOfLengths
+  whole e =
+      and-right (eqb (length domains) n && eqb (length tables) (n * n * d)) (wholeSlots n (length agenda))
+      (passed (eqb (length domains) n && eqb (length tables) (n * n * d) && wholeSlots n (length agenda)) 3 (λ z. absurd (omega arith)) e)
+
+  room : refusalOfSearch (problemOf n d domains tables) agenda (s .counts .steps .0) (s .counts .checks .0) (s .subproblems) ≡ 0
+      → s .subproblems ≤ slotsIn n (length agenda)
+  unfolding refusalOfSearch
+  room e =
+      let a : Bool = leb (s .subproblems) (slotsIn n (length agenda)) in
+      let b : Bool = allObey (problemOf n d domains tables) (stackOf n agenda (s .subproblems)) in
+      let c : Bool = zerosFrom (s .subproblems * (n + 2)) agenda in
+      let f : Bool = leb (s .counts .checks .0) (496 * s .counts .steps .0) in
+      leb-true (s .subproblems) (slotsIn n (length agenda))
+      (and-left a b (and-left (a && b) c (and-left (a && b && c) f (passed (a && b && c && f) 6 (λ z. absurd (omega arith)) e))))
+
+  pub first-passed : searchRefusal n d domains tables agenda (s .counts .steps .0) (s .counts .checks .0) (s .subproblems) ≡ 0 → Handed n d domains tables agenda s
+  unfolding searchRefusal
+  first-passed e =
+      let search : ℕ = refusalOfSearch (problemOf n d domains tables) agenda (s .counts .steps .0) (s .counts .checks .0) (s .subproblems) in
+      let both = else-pass (openRefusal n d domains tables agenda) search e in
+      let opened = open-parts n d domains tables agenda (both .0) in
+      let numbers = numbers-pass n d (opened .0) in
+      let fits = lengths-pass n d domains tables (length agenda) (opened .0) (opened .1) in
+      let fit = room (both .1) in
+      let most = slots-few (whole (opened .1)) in
+      record {
+        numbers = record {
+          some-variable = numbers .some-variable;
+          variables = numbers .variables;
+          some-value = numbers .some-value;
+          values = numbers .values;
+        };
+        domains-words = fits .words;
+        tables-words = fits .sized .words;
+        few = omega arith;
+        agenda-words = slots-within n (length agenda) (s .subproblems) fit;
+      }
+
+  module _ (file : List ℕ) where
+    refusal : ℕ
+    refusal = saveRefusal n d domains tables agenda s file
+
+    -- Refused by the first checks.
+    pub save-refused : (r : ℕ) (x : Saved) → r ≡ searchRefusal n d domains tables agenda (s .counts .steps .0) (s .counts .checks .0) (s .subproblems)
+        → (r ≡ 0 → ⊥) → x .refusal ≡ r → x .blocks ≡ 0 → Saves n d domains tables agenda s file file x
+    unfolding refusal saveRefusal
+    save-refused r x e f a b =
+        let same : r ≡ refusal = else-first r (searchRefusal n d domains tables agenda (s .counts .steps .0) (s .counts .checks .0) (s .subproblems)) _ e f in
+        let some : refusal ≡ 0 → ⊥ = λ z. f (same ∙ z) in
+        record {
+          refusal = a ∙ same;
+          blocks = not-given refusal _ 0 (x .blocks) some b;
+          file = not-given refusal _ file file some refl;
+        }
+
+    module _ (small : (i : ℕ) → getD agenda i 0 < 2 ^ 16) (r words : ℕ) (is-r : r ≡ searchRefusal n d domains tables agenda (s .counts .steps .0) (s .counts .checks .0) (s .subproblems)) (zero-r : r ≡ 0) (is-words : words ≡ wordsOf n d (s .subproblems)) where
+      -- So many blocks.
+      counted-blocks : (words + 252) / 253 ≡ blocksFor (length (handedContent n d domains tables agenda s))
+      unfolding handed blocksFor wordsOf agendaStart
+      counted-blocks =
+          let all : words ≡ length (handed n d domains tables agenda s) = is-words ∙ sym (handed-length n d domains tables agenda s (first-passed (sym is-r ∙ zero-r)) small) in
+          ap (λ (x : ℕ). (x + 252) / 253) all
+
+      last : refusal ≡ cond (ltb (length file) (512 * ((words + 252) / 253))) 13 0
+      unfolding refusal saveRefusal
+      last = sym (else-rest _ (searchRefusal n d domains tables agenda (s .counts .steps .0) (s .counts .checks .0) (s .subproblems)) _ (sym is-r ∙ zero-r) (ap (λ (x : ℕ). cond (ltb (length file) (512 * x)) 13 0) counted-blocks))
+
+      -- The buffer is too short.
+      pub save-short : (x : Saved) → length file < 512 * ((words + 252) / 253) → x .refusal ≡ 13 → x .blocks ≡ 0 → Saves n d domains tables agenda s file file x
+      unfolding refusal
+      save-short x h a b =
+          let same : refusal ≡ 13 = last ∙ rw (lt-ltb (length file) (512 * ((words + 252) / 253)) h) refl in
+          let some : refusal ≡ 0 → ⊥ = λ z. absurd (omega arith) in
+          record {
+            refusal = a ∙ sym same;
+            blocks = not-given refusal _ 0 (x .blocks) some b;
+            file = not-given refusal _ file file some refl;
+          }
+
+      -- The blocks are written.
+      written : filePart ((words + 252) / 253) (handed n d domains tables agenda s) ((words + 252) / 253) file
+          ≡ fileOf (handedContent n d domains tables agenda s) ++ drop (length (fileOf (handedContent n d domains tables agenda s))) file
+      unfolding filePart fileOf handed
+      written =
+          let content : List ℕ = handedContent n d domains tables agenda s in
+          let blocks : ℕ = blocksFor (length content) in
+          ap (λ (x : ℕ). firstBlocks x x content ++ drop (512 * x) file) counted-blocks
+          ∙ ap (λ (x : ℕ). firstBlocks blocks blocks content ++ drop x file) (sym (blocks-length blocks blocks content))
+
+      pub save-written : (x : Saved) (after : List ℕ) → 512 * ((words + 252) / 253) ≤ length file → x .refusal ≡ 0 → x .blocks ≡ (words + 252) / 253
+          → after ≡ filePart ((words + 252) / 253) (handed n d domains tables agenda s) ((words + 252) / 253) file → Saves n d domains tables agenda s file after x
+      unfolding refusal
+      save-written x after h a b e =
+          let none : refusal ≡ 0 = last ∙ rw (le-ltb (length file) (512 * ((words + 252) / 253)) h) refl in
+          record {
+            refusal = a ∙ sym none;
+            blocks = given refusal (blocksFor (length (handedContent n d domains tables agenda s))) 0 (x .blocks) none (b ∙ counted-blocks);
+            file = given refusal (fileOf (handedContent n d domains tables agenda s) ++ drop (length (fileOf (handedContent n d domains tables agenda s))) file) file after none (e ∙ written);
+          }

@@ -1,0 +1,42 @@
+-- What save is handed, its first checks passed: its stack is as memory holds it, and the blocks written say the search.
+-- Assumes nothing.
+use mathlib.Core.Path.{_≡_, ap, _∙_}
+use mathlib.Core.List.{List, List·Memᴰ}
+use Prim.Native.Nat.{ℕ, _+_, _*_, _≤_}
+use native.Mathlib.Omega.{arith}
+use native.Mathlib.Nat.{mul-le-mul-right, div-mul-le-self, le-trans}
+use lib.ListN.{length}
+use Rattle.splits.specs.Problem.{tableOf}
+use Rattle.splits.specs.declared.subproblem.Subproblem.{Subproblem}
+use Rattle.search.specs.Agenda.{stackOf, slotsIn}
+use Rattle.search.specs.Calls.{searchOf}
+use Rattle.search.specs.declared.state.State.{State}
+use Rattle.files.specs.Blocks.{fileOf}
+use Rattle.files.specs.Calls.{handedContent}
+use Rattle.files.specs.Promises.{Words, Canonical, Says}
+use Rattle.files.proofs.Stacks.{of-length, of-canonical}
+use Rattle.files.proofs.Passing.{Passing, slots-in}
+use Rattle.files.proofs.RoundTrip.{file-says}
+
+module _ (n d : ℕ) (domains tables agenda : List ℕ) (s : State) (words : Words agenda)
+    (h : Passing n d domains tables agenda (s .counts .steps .0) (s .counts .checks .0) (s .subproblems)) where
+  -- The stack lies within the agenda.
+  within : s .subproblems * (n + 2) ≤ length agenda
+  within = le-trans (mul-le-mul-right (n + 2) (h .fits)) (div-mul-le-self (length agenda) (n + 2))
+
+  -- Each subproblem is as memory holds it.
+  pub stack-canonical : (P : Subproblem) → List·Memᴰ P (stackOf n agenda (s .subproblems)) → Canonical n P
+  stack-canonical = of-canonical n (h .proper .variables) agenda words (s .subproblems) within
+
+  -- It has at most 512 subproblems.
+  pub stack-few : length (stackOf n agenda (s .subproblems)) ≤ 512
+  stack-few =
+      let (slots, some, few, e) = h .slots in
+      let all : slotsIn n (length agenda) ≡ slots = ap (slotsIn n) e ∙ slots-in n slots in
+      omega (arith, of-length n (h .proper .variables) agenda (s .subproblems), h .fits)
+
+  -- The blocks written say the search.
+  pub saved-says : Says (fileOf (handedContent n d domains tables agenda s)) n d domains (tableOf n d tables) (searchOf n agenda s)
+  saved-says =
+      file-says n d domains (tableOf n d tables) (searchOf n agenda s) (h .proper .variables) (h .proper .values) (h .domain-words) stack-few stack-canonical
+      (h .proper) (h .rules) (h .counted)

@@ -1,0 +1,47 @@
+-- `block::word` meets its contract.
+-- Assumes nothing.
+use borrow.Author.Needs.{needs}
+use Rattle.files.proofs.Places.{word-made, word-past}
+use Rattle.files.proofs.block.word.Statement.{statement}
+use Rattle.files.proofs.block.word.Tie as tie
+
+mul-byte : tie.Need-mul-byte
+mul-byte c = search needs
+
+byte-requires : tie.Need-byte-requires
+byte-requires c κs = search needs
+
+mul-result : tie.Need-mul-result
+mul-result c = search needs
+
+mul-byte-2 : tie.Need-mul-byte-2
+mul-byte-2 c = search needs
+
+add-byte : tie.Need-add-byte
+add-byte c = search needs
+
+byte-requires-2 : tie.Need-byte-requires-2
+byte-requires-2 c κs = search needs
+
+add-result : tie.Need-add-result
+add-result c = search needs
+
+returns : tie.Need-returns
+returns c = word-made _ _ _ _ (c .before .byte .ensures .0) (c .byte2 .ensures .0)
+
+returns-2 : tie.Need-returns-2
+returns-2 c = word-past _ _ (c .if1 .left)
+
+pub word-spec : {M : Type 1} → statement M
+word-spec =
+    tie.close
+    (tie.spec
+    mul-byte
+    byte-requires
+    mul-result
+    mul-byte-2
+    add-byte
+    byte-requires-2
+    add-result
+    returns
+    returns-2)

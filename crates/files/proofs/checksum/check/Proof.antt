@@ -1,0 +1,30 @@
+-- `checksum::check` meets its contract.
+-- Assumes nothing.
+use borrow.Author.Needs.{needs}
+use native.Mathlib.Omega.{arith}
+use Rattle.files.proofs.Places.{check-made}
+use Rattle.files.proofs.checksum.check.Statement.{statement}
+use Rattle.files.proofs.checksum.check.Tie as tie
+
+sum-requires : tie.Need-sum-requires
+sum-requires c κs = search needs
+
+folded-requires : tie.Need-folded-requires
+folded-requires c κs = search needs
+
+folded-requires-2 : tie.Need-folded-requires-2
+folded-requires-2 c κs = search needs
+
+cast-result : tie.Need-cast-result
+cast-result c = search needs
+
+sub-result : tie.Need-sub-result
+sub-result c = search needs
+
+returns : tie.Need-returns
+returns c = check-made _ _ _ _ _ (λ i. omega (arith, c .before .before .before .shared-slice-known .given i)) (c .before .before .sum .ensures) (c .before .folded .ensures) (c .folded2 .ensures)
+
+pub check-spec : {M : Type 1} → statement M
+check-spec =
+    tie.close
+    (tie.spec sum-requires folded-requires folded-requires-2 cast-result sub-result returns)

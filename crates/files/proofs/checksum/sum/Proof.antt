@@ -1,0 +1,61 @@
+-- `checksum::sum` meets its contract. The invariant: the words passed are summed, each at most 65535.
+-- Assumes nothing.
+use borrow.Author.Needs.{needs}
+use mathlib.Core.Path.{_≡_, ap, _∙_}
+use Prim.Native.Nat.{ℕ, _-_, _*_, _≤_}
+use native.Mathlib.Omega.{arith}
+use Rattle.splits.specs.Problem.{total}
+use Rattle.files.specs.Reading.{blockWord}
+use Rattle.files.proofs.Places.{total-none, total-more}
+use Rattle.files.proofs.checksum.sum.Statement.{statement}
+use Rattle.files.proofs.checksum.sum.Tie as tie
+
+abbrev Inv-loop : tie.InvT-loop
+Inv-loop file b sum₀ k₀ sum k = (k ≤ 255) × ((sum ≡ total k (blockWord file b)) × (sum ≤ k * 65535))
+
+abbrev μ-loop : tie.MeasureT-loop
+μ-loop file b sum₀ k₀ sum k = 255 - k
+
+loop-holds : tie.Need-loop-holds Inv-loop μ-loop
+loop-holds c = (omega arith, (total-none _, omega arith))
+
+block-word-requires : tie.Need-block-word-requires Inv-loop μ-loop
+block-word-requires c κs = search needs
+
+cast-sum : tie.Need-cast-sum Inv-loop μ-loop
+cast-sum c = search needs
+
+add-sum : tie.Need-add-sum Inv-loop μ-loop
+add-sum c = search needs
+
+add-k : tie.Need-add-k Inv-loop μ-loop
+add-k c = search needs
+
+loop-less : tie.Need-loop-less Inv-loop μ-loop
+loop-less c = search needs
+
+loop-again : tie.Need-loop-again Inv-loop μ-loop
+loop-again c =
+    let inv = c .before .before .loop .inv in
+    (omega arith, (total-more _ _ _ _ (inv .1 .0) (c .block-word .ensures), omega (arith, c .block-word .ok)))
+
+returns : tie.Need-returns Inv-loop μ-loop
+returns c =
+    let inv = c .before .loop .inv in
+    let end : c .before .loop .k ≡ 255 = omega arith in
+    inv .1 .0 ∙ ap (λ (k : ℕ). total k (blockWord (c .before .before .before .args .file .now) (c .before .before .before .args .b))) end
+
+pub sum-spec : {M : Type 1} → statement M
+sum-spec =
+    tie.close
+    (tie.spec
+    Inv-loop
+    μ-loop
+    loop-holds
+    block-word-requires
+    cast-sum
+    add-sum
+    add-k
+    loop-less
+    loop-again
+    returns)

@@ -1,0 +1,113 @@
+-- `filling::put_tables` meets its contract. The invariant: the rows passed are written.
+-- Assumes nothing.
+use borrow.Author.Needs.{needs}
+use mathlib.Core.Path.{_≡_, _∙_}
+use Prim.Native.Nat.{_+_, _-_, _*_, _≤_}
+use native.Mathlib.Omega.{arith}
+use mathlib.Core.List.{_++_}
+use lib.ListN.{length, drop}
+use borrow.Rule.Slice.PartMut.{mid-len}
+use Rattle.files.specs.Work.Said.{tablePart}
+use Rattle.files.proofs.Filled.{table-none, table-more, table-kept, table-end, part-within, row-few, rows-few}
+use Rattle.files.proofs.filling.put_tables.Statement.{statement}
+use Rattle.files.proofs.filling.put_tables.Tie as tie
+
+abbrev Inv-loop : tie.InvT-loop
+Inv-loop file n d words₀ i₀ words i = (i ≤ n) × ((length words ≡ n * n * d) × (words ≡ tablePart file n d i ++ drop (i * (n * d)) words₀))
+
+abbrev μ-loop : tie.MeasureT-loop
+μ-loop file n d words₀ i₀ words i = n - i
+
+loop-holds : tie.Need-loop-holds Inv-loop μ-loop
+loop-holds c = (omega arith, (omega arith, table-none _ _ _ _))
+
+mul-at : tie.Need-mul-at Inv-loop μ-loop
+mul-at c =
+    let a = c .before .before .before .before .args in
+    omega (arith, part-within (c .before .loop .i) (a .n) (a .n * a .d) (c .loop-test .taken), row-few (a .n) (a .d) (c .before .before .before .before .pre .0), rows-few (a .n) (a .d) (c .before .loop .i) (c .before .before .before .before .pre .0) (omega arith))
+
+mul-at-2 : tie.Need-mul-at-2 Inv-loop μ-loop
+mul-at-2 c =
+    let a = c .before .before .before .before .args in
+    omega (arith, part-within (c .before .loop .i) (a .n) (a .n * a .d) (c .loop-test .taken), row-few (a .n) (a .d) (c .before .before .before .before .pre .0), rows-few (a .n) (a .d) (c .before .loop .i) (c .before .before .before .before .pre .0) (omega arith))
+
+mul-end : tie.Need-mul-end Inv-loop μ-loop
+mul-end c =
+    let a = c .before .before .before .before .args in
+    omega (arith, part-within (c .before .loop .i) (a .n) (a .n * a .d) (c .loop-test .taken), row-few (a .n) (a .d) (c .before .before .before .before .pre .0), rows-few (a .n) (a .d) (c .before .loop .i) (c .before .before .before .before .pre .0) (omega arith))
+
+add-end : tie.Need-add-end Inv-loop μ-loop
+add-end c =
+    let a = c .before .before .before .before .args in
+    omega (arith, part-within (c .before .loop .i) (a .n) (a .n * a .d) (c .loop-test .taken), row-few (a .n) (a .d) (c .before .before .before .before .pre .0), rows-few (a .n) (a .d) (c .before .loop .i) (c .before .before .before .before .pre .0) (omega arith))
+
+mul-put-row : tie.Need-mul-put-row Inv-loop μ-loop
+mul-put-row c =
+    let a = c .before .before .before .before .args in
+    omega (arith, part-within (c .before .loop .i) (a .n) (a .n * a .d) (c .loop-test .taken), row-few (a .n) (a .d) (c .before .before .before .before .pre .0), rows-few (a .n) (a .d) (c .before .loop .i) (c .before .before .before .before .pre .0) (omega arith))
+
+sub-put-row : tie.Need-sub-put-row Inv-loop μ-loop
+sub-put-row c =
+    let a = c .before .before .before .before .args in
+    omega (arith, part-within (c .before .loop .i) (a .n) (a .n * a .d) (c .loop-test .taken), row-few (a .n) (a .d) (c .before .before .before .before .pre .0), rows-few (a .n) (a .d) (c .before .loop .i) (c .before .before .before .before .pre .0) (omega arith))
+
+part-put-row-start : tie.Need-part-put-row-start Inv-loop μ-loop
+part-put-row-start c =
+    let a = c .before .before .before .before .args in
+    omega (arith, part-within (c .before .loop .i) (a .n) (a .n * a .d) (c .loop-test .taken), row-few (a .n) (a .d) (c .before .before .before .before .pre .0), rows-few (a .n) (a .d) (c .before .loop .i) (c .before .before .before .before .pre .0) (omega arith))
+
+part-put-row-end : tie.Need-part-put-row-end Inv-loop μ-loop
+part-put-row-end c =
+    let a = c .before .before .before .before .args in
+    omega (arith, part-within (c .before .loop .i) (a .n) (a .n * a .d) (c .loop-test .taken), row-few (a .n) (a .d) (c .before .before .before .before .pre .0), rows-few (a .n) (a .d) (c .before .loop .i) (c .before .before .before .before .pre .0) (omega arith))
+
+put-row-requires : tie.Need-put-row-requires Inv-loop μ-loop
+put-row-requires c κs =
+    let a = c .before .before .before .before .before .args in
+    let at = c .before .before .loop .i * (a .n * a .d) in
+    let within : at + a .n * a .d ≤ length (c .before .before .loop .words) = omega (arith, part-within (c .before .before .loop .i) (a .n) (a .n * a .d) (c .before .loop-test .taken)) in
+    (c .before .before .before .before .before .pre .0, (c .before .loop-test .taken, mid-len at (at + a .n * a .d) (c .before .before .loop .words) within ∙ omega arith))
+
+add-i : tie.Need-add-i Inv-loop μ-loop
+add-i c = search needs
+
+loop-less : tie.Need-loop-less Inv-loop μ-loop
+loop-less c = search needs
+
+loop-again : tie.Need-loop-again Inv-loop μ-loop
+loop-again c =
+    let a = c .before .before .before .before .before .before .before .before .args in
+    let inv = c .before .before .before .before .before .loop .inv in
+    let within : c .before .before .before .before .before .loop .i * (a .n * a .d) + a .n * a .d ≤ length (a .words .now) = omega (arith, part-within (c .before .before .before .before .before .loop .i) (a .n) (a .n * a .d) (c .before .before .before .before .loop-test .taken)) in
+    let next = table-more _ _ _ _ _ _ _ (inv .1 .1) (c .before .before .put-row .ensures) within in
+    (omega arith, (table-kept _ _ _ _ _ _ next (omega arith) (c .before .before .before .before .before .before .before .before .pre .1), next))
+
+same-length : tie.Need-same-length Inv-loop μ-loop
+same-length c = search needs
+
+returns : tie.Need-returns Inv-loop μ-loop
+returns c =
+    let inv = c .before .loop .inv in
+    table-end _ _ _ _ _ _ (inv .1 .1) (omega arith) (c .before .before .before .before .pre .1)
+
+pub put-tables-spec : {M : Type 1} → statement M
+put-tables-spec =
+    tie.close
+    (tie.spec
+    Inv-loop
+    μ-loop
+    loop-holds
+    mul-at
+    mul-at-2
+    mul-end
+    add-end
+    mul-put-row
+    sub-put-row
+    part-put-row-start
+    part-put-row-end
+    put-row-requires
+    add-i
+    loop-less
+    loop-again
+    same-length
+    returns)

@@ -1,0 +1,53 @@
+-- `reading::all_good` meets its contract. The invariant: the blocks passed are good.
+-- Assumes nothing.
+use borrow.Author.Needs.{needs}
+use mathlib.Core.Path.{_≡_}
+use Prim.Native.Nat.{_-_, _≤_}
+use native.Mathlib.Omega.{arith}
+use mathlib.Core.Bool.{true}
+use Rattle.splits.specs.Subproblems.{every}
+use Rattle.search.proofs.FirstLoops.{every-start, every-stop, every-turn, every-end}
+use Rattle.files.specs.Reading.{goodBlock}
+use Rattle.files.proofs.reading.all_good.Statement.{statement}
+use Rattle.files.proofs.reading.all_good.Tie as tie
+
+abbrev Inv-loop : tie.InvT-loop
+Inv-loop file blocks b₀ b = (b ≤ blocks) × (every b (goodBlock file) ≡ true)
+
+abbrev μ-loop : tie.MeasureT-loop
+μ-loop file blocks b₀ b = blocks - b
+
+loop-holds : tie.Need-loop-holds Inv-loop μ-loop
+loop-holds c = (omega arith, every-start _)
+
+is-good-requires : tie.Need-is-good-requires Inv-loop μ-loop
+is-good-requires c κs = search needs
+
+returns : tie.Need-returns Inv-loop μ-loop
+returns c = every-stop _ _ _ _ (c .before .before .loop-test .taken) (c .before .is-good .ensures) (c .if1 .taken)
+
+add-b : tie.Need-add-b Inv-loop μ-loop
+add-b c = search needs
+
+loop-less : tie.Need-loop-less Inv-loop μ-loop
+loop-less c = search needs
+
+loop-again : tie.Need-loop-again Inv-loop μ-loop
+loop-again c = (omega arith, every-turn _ _ _ (c .before .before .before .loop .inv .1) (c .before .is-good .ensures) (c .if1 .left))
+
+returns-2 : tie.Need-returns-2 Inv-loop μ-loop
+returns-2 c = every-end _ _ _ (c .before .loop .inv .0) (c .loop-test .left) (c .before .loop .inv .1)
+
+pub all-good-spec : {M : Type 1} → statement M
+all-good-spec =
+    tie.close
+    (tie.spec
+    Inv-loop
+    μ-loop
+    loop-holds
+    is-good-requires
+    returns
+    add-b
+    loop-less
+    loop-again
+    returns-2)

@@ -1,0 +1,31 @@
+-- `reading::refusal_of_file` meets its contract.
+-- Assumes nothing.
+use borrow.Author.Needs.{needs}
+use Rattle.files.proofs.Obeyed.{file-length, file-none, file-many, file-good, file-bad}
+use Rattle.files.proofs.reading.refusal_of_file.Statement.{statement}
+use Rattle.files.proofs.reading.refusal_of_file.Tie as tie
+
+mul-if1 : tie.Need-mul-if1
+mul-if1 c = search needs
+
+returns : tie.Need-returns
+returns c = file-length (c .before .before .args .file .now) (c .if1 .taken)
+
+returns-2 : tie.Need-returns-2
+returns-2 c = file-none (c .before .before .before .args .file .now) (c .if2 .taken)
+
+returns-3 : tie.Need-returns-3
+returns-3 c = file-many (c .before .before .before .before .args .file .now) (c .if3 .taken)
+
+all-good-requires : tie.Need-all-good-requires
+all-good-requires c κs = search needs
+
+returns-4 : tie.Need-returns-4
+returns-4 c = file-good (c .before .before .before .before .before .before .args .file .now) _ (c .before .before .before .before .if1 .left) (c .before .before .before .if2 .left) (c .before .before .if3 .left) (c .before .all-good .ensures) (c .if4 .taken)
+
+returns-5 : tie.Need-returns-5
+returns-5 c = file-bad _ _ (c .before .all-good .ensures) (c .if4 .left)
+
+pub refusal-of-file-spec : {M : Type 1} → statement M
+refusal-of-file-spec =
+    tie.close (tie.spec mul-if1 returns returns-2 returns-3 all-good-requires returns-4 returns-5)

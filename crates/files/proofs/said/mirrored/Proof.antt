@@ -1,0 +1,61 @@
+-- `said::mirrored` meets its contract. The invariant: the digits passed are gathered.
+-- Assumes nothing.
+use borrow.Author.Needs.{needs}
+use mathlib.Core.Path.{_≡_, ap, _∙_}
+use Prim.Native.Nat.{ℕ, _-_, _≤_}
+use native.Mathlib.Omega.{arith}
+use Rattle.files.specs.Reading.{gathered}
+use Rattle.files.specs.Work.Said.{mirroredIn}
+use Rattle.files.proofs.Mirrors.{gather-none, gather-more, gather-fits, digit-mirrored, mirrored-le}
+use Rattle.files.proofs.said.mirrored.Statement.{statement}
+use Rattle.files.proofs.said.mirrored.Tie as tie
+
+abbrev Inv-loop : tie.InvT-loop
+Inv-loop file n d i j a sum₀ b₀ sum b = (b ≤ d) × (sum ≡ gathered b (mirroredIn file n d i j a))
+
+abbrev μ-loop : tie.MeasureT-loop
+μ-loop file n d i j a sum₀ b₀ sum b = d - b
+
+loop-holds : tie.Need-loop-holds Inv-loop μ-loop
+loop-holds c = (omega arith, gather-none _)
+
+mask-requires : tie.Need-mask-requires Inv-loop μ-loop
+mask-requires c κs = search needs
+
+digit-at-requires : tie.Need-digit-at-requires Inv-loop μ-loop
+digit-at-requires c κs = search needs
+
+add-sum : tie.Need-add-sum Inv-loop μ-loop
+add-sum c =
+    record { fits = gather-fits _ _ _ _ (mirrored-le _ _ _ _ _ _) (omega arith) (c .before .before .before .loop .inv .1) (digit-mirrored _ _ _ _ _ _ _ _ _ (c .before .mask .ensures) (c .digit-at .ensures)) }
+
+add-b : tie.Need-add-b Inv-loop μ-loop
+add-b c = search needs
+
+loop-less : tie.Need-loop-less Inv-loop μ-loop
+loop-less c = search needs
+
+loop-again : tie.Need-loop-again Inv-loop μ-loop
+loop-again c =
+    (omega arith, gather-more _ _ _ _ (c .before .before .before .loop .inv .1) (digit-mirrored _ _ _ _ _ _ _ _ _ (c .before .mask .ensures) (c .digit-at .ensures)))
+
+returns : tie.Need-returns Inv-loop μ-loop
+returns c =
+    let a = c .before .before .before .args in
+    let end : c .before .loop .b ≡ a .d = omega arith in
+    c .before .loop .inv .1 ∙ ap (λ (k : ℕ). gathered k (mirroredIn (a .file .now) (a .n) (a .d) (a .i) (a .j) (a .a))) end
+
+pub mirrored-spec : {M : Type 1} → statement M
+mirrored-spec =
+    tie.close
+    (tie.spec
+    Inv-loop
+    μ-loop
+    loop-holds
+    mask-requires
+    digit-at-requires
+    add-sum
+    add-b
+    loop-less
+    loop-again
+    returns)

@@ -1,0 +1,53 @@
+-- `save` meets its contract: refused, nothing is changed; else the blocks are written.
+-- Assumes nothing.
+use borrow.Author.Needs.{needs}
+use mathlib.Core.Path.{refl, sym, _∙_}
+use native.Mathlib.Omega.{arith}
+use Rattle.files.proofs.SaveOutcomes.{first-passed, save-refused, save-short, save-written}
+use Rattle.files.proofs.save.Statement.{statement}
+use Rattle.files.proofs.save.Tie as tie
+
+search-refusal-requires : tie.Need-search-refusal-requires
+search-refusal-requires c κs = search needs
+
+returns : tie.Need-returns
+returns c = save-refused _ _ _ _ _ _ _ _ _ (c .before .search-refusal .ensures) (c .if1 .taken) refl refl
+
+words-requires : tie.Need-words-requires
+words-requires c κs =
+    let hands = first-passed _ _ _ _ _ _ (sym (c .before .search-refusal .ensures) ∙ c .if1 .left) in (hands .numbers, hands .few)
+
+add-blocks : tie.Need-add-blocks
+add-blocks c = search needs
+
+mul-if2 : tie.Need-mul-if2
+mul-if2 c = search needs
+
+returns-2 : tie.Need-returns-2
+returns-2 c =
+    save-short _ _ _ _ _ _ _ (λ i. omega (arith, c .before .before .before .before .before .shared-slice-known3 .given i)) _ _ (c .before .before .before .search-refusal .ensures) (c .before .before .if1 .left) (c .before .words .ensures .0) _ (c .if2 .taken) refl refl
+
+put-blocks-requires : tie.Need-put-blocks-requires
+put-blocks-requires c κs =
+    (first-passed _ _ _ _ _ _ (sym (c .before .before .before .before .search-refusal .ensures) ∙ c .before .before .before .if1 .left), (omega (arith, c .before .before .words .ensures .1), c .before .if2 .left))
+
+same-length : tie.Need-same-length
+same-length c = search needs
+
+returns-3 : tie.Need-returns-3
+returns-3 c =
+    save-written _ _ _ _ _ _ _ (λ i. omega (arith, c .before .before .before .before .before .before .before .before .before .shared-slice-known3 .given i)) _ _ (c .before .before .before .before .before .before .before .search-refusal .ensures) (c .before .before .before .before .before .before .if1 .left) (c .before .before .before .before .before .words .ensures .0) _ _ (c .before .before .before .before .if2 .left) refl refl (c .before .before .put-blocks .ensures)
+
+pub save-spec : {M : Type 1} → statement M
+save-spec =
+    tie.close
+    (tie.spec
+    search-refusal-requires
+    returns
+    words-requires
+    add-blocks
+    mul-if2
+    returns-2
+    put-blocks-requires
+    same-length
+    returns-3)

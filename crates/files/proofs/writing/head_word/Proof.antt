@@ -1,0 +1,51 @@
+-- `writing::head_word` meets its contract.
+-- Assumes nothing.
+use borrow.Author.Needs.{needs}
+use Rattle.files.proofs.Written.{head-number, head-count, head-content}
+use Rattle.files.proofs.writing.head_word.Statement.{statement}
+use Rattle.files.proofs.writing.head_word.Tie as tie
+
+add-result : tie.Need-add-result
+add-result c = search needs
+
+cast-result : tie.Need-cast-result
+cast-result c = search needs
+
+returns : tie.Need-returns
+returns c = head-number _ _ _ _ (c .if1 .taken)
+
+cast-result-2 : tie.Need-cast-result-2
+cast-result-2 c = search needs
+
+returns-2 : tie.Need-returns-2
+returns-2 c = head-count _ _ _ _ (c .if2 .taken)
+
+mul-word : tie.Need-mul-word
+mul-word c = search needs
+
+sub-word : tie.Need-sub-word
+sub-word c = search needs
+
+add-word : tie.Need-add-word
+add-word c = search needs
+
+word-requires : tie.Need-word-requires
+word-requires c κs = search needs
+
+returns-3 : tie.Need-returns-3
+returns-3 c = head-content _ _ _ _ _ (c .before .before .if1 .left) (c .before .if2 .left) (c .before .before .before .before .before .before .pre .1 .1 .1) (c .word .ensures)
+
+pub head-word-spec : {M : Type 1} → statement M
+head-word-spec =
+    tie.close
+    (tie.spec
+    add-result
+    cast-result
+    returns
+    cast-result-2
+    returns-2
+    mul-word
+    sub-word
+    add-word
+    word-requires
+    returns-3)

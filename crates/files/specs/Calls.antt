@@ -1,0 +1,68 @@
+-- What save and load return and leave, for every input, field by field.
+use mathlib.Core.Path.{_≡_}
+use mathlib.Core.Bool.{cond}
+use mathlib.Core.List.{List, _++_}
+use Prim.Native.Nat.{ℕ, _*_}
+use lib.ListN.{length, drop}
+use lib.Dec.{eqb, ltb}
+use Rattle.splits.specs.Problem.{tableOf}
+use Rattle.search.specs.Agenda.{slotsIn, agendaOf}
+use Rattle.search.specs.FirstChecks.{orElse, searchRefusal, refusalOfLengths}
+use Rattle.search.specs.Calls.{searchOf}
+use Rattle.search.specs.declared.state.State.{State}
+use Rattle.files.specs.Blocks.{checkOf, blocksFor, fileOf}
+use Rattle.files.specs.Content.{contentOf}
+use Rattle.files.specs.Reading.{headOf, saidN, saidD, saidSteps, saidChecks, saidSubproblems, saidDomains, saidAllowed, saidSearch, tableWords, refusalOfFile, refusalOfWords}
+use Rattle.files.specs.declared.saved.Saved.{Saved}
+use Rattle.files.specs.declared.saved.Loaded.{Loaded}
+
+-- The check of the 255 words of a block before it.
+abbrev pub Check-of : List ℕ → ℕ → Type 0
+Check-of block r = r ≡ checkOf (headOf block 0)
+
+-- The content of the search that is handed to save.
+abbrev pub handedContent : ℕ → ℕ → List ℕ → List ℕ → List ℕ → State → List ℕ
+handedContent n d domains tables agenda s = contentOf n d domains (tableOf n d tables) (searchOf n agenda s)
+
+-- Save: 1 to 6 first, then 13: the file buffer is shorter than the blocks to write.
+unfoldable pub saveRefusal : ℕ → ℕ → List ℕ → List ℕ → List ℕ → State → List ℕ → ℕ
+saveRefusal n d domains tables agenda s file =
+    orElse (searchRefusal n d domains tables agenda (s .counts .steps .0) (s .counts .checks .0) (s .subproblems))
+    (cond (ltb (length file) (512 * blocksFor (length (handedContent n d domains tables agenda s)))) 13 0)
+
+-- Save writes the blocks and leaves the rest of the buffer; refused, it changes nothing and returns no block.
+pub record Saves (n d : ℕ) (domains tables agenda : List ℕ) (s : State) (before after : List ℕ) (r : Saved) : Type 0 where
+  pub refusal : r .refusal ≡ saveRefusal n d domains tables agenda s before
+  pub blocks : r .blocks
+      ≡ cond (eqb (saveRefusal n d domains tables agenda s before) 0) (blocksFor (length (handedContent n d domains tables agenda s))) 0
+  pub file : after
+      ≡ cond (eqb (saveRefusal n d domains tables agenda s before) 0)
+      (fileOf (handedContent n d domains tables agenda s) ++ drop (length (fileOf (handedContent n d domains tables agenda s))) before) before
+
+-- Load: 14, 15, 3, 12, of the numbers of words lent as domains, tables and agenda.
+unfoldable pub loadRefusal : List ℕ → ℕ → ℕ → ℕ → ℕ
+loadRefusal file domains tables agenda =
+    orElse (refusalOfFile file)
+    (orElse (refusalOfWords file)
+    (orElse (refusalOfLengths (saidN file) (saidD file) domains tables agenda)
+    (cond (ltb (slotsIn (saidN file) agenda) (saidSubproblems file)) 12 0)))
+
+-- Load hands back what the file says, and writes domains, tables (zeros for a variable with itself) and agenda; refused, it changes nothing
+-- and returns zeros.
+pub record Loads (file domains domains′ tables tables′ agenda agenda′ : List ℕ) (r : Loaded) : Type 0 where
+  pub refusal : r .refusal ≡ loadRefusal file (length domains) (length tables) (length agenda)
+  pub its-n : r .n ≡ cond (eqb (loadRefusal file (length domains) (length tables) (length agenda)) 0) (saidN file) 0
+  pub its-d : r .d ≡ cond (eqb (loadRefusal file (length domains) (length tables) (length agenda)) 0) (saidD file) 0
+  pub steps : r .state .counts .steps .0
+      ≡ cond (eqb (loadRefusal file (length domains) (length tables) (length agenda)) 0) (saidSteps file) 0
+  pub checks : r .state .counts .checks .0
+      ≡ cond (eqb (loadRefusal file (length domains) (length tables) (length agenda)) 0) (saidChecks file) 0
+  pub subproblems : r .state .subproblems
+      ≡ cond (eqb (loadRefusal file (length domains) (length tables) (length agenda)) 0) (saidSubproblems file) 0
+  pub its-domains : domains′ ≡ cond (eqb (loadRefusal file (length domains) (length tables) (length agenda)) 0) (saidDomains file) domains
+  pub its-tables : tables′
+      ≡ cond (eqb (loadRefusal file (length domains) (length tables) (length agenda)) 0)
+      (tableWords (saidN file) (saidD file) (saidAllowed file)) tables
+  pub its-agenda : agenda′
+      ≡ cond (eqb (loadRefusal file (length domains) (length tables) (length agenda)) 0)
+      (agendaOf (saidN file) (length agenda) (saidSearch file .stack)) agenda

@@ -1,0 +1,33 @@
+-- The content of a saved search, in document 01's order.
+use mathlib.Core.List.{List, [], _∷_, _++_, map}
+use Prim.Native.Nat.{ℕ, _+_, _/_, _%_, _^_}
+use lib.ListN.{length}
+use lib.Dec.{ltb}
+use Rattle.splits.specs.Problem.{Table}
+use Rattle.splits.specs.Splits.{below, keep}
+use Rattle.search.specs.Agenda.{stackWords}
+use Rattle.search.specs.Runs.{Search}
+
+-- The words that f gives for each of a list, one after the other.
+unfoldable pub each : (ℕ → List ℕ) → List ℕ → List ℕ
+each f [] = []
+each f (x ∷ xs) = f x ++ each f xs
+
+-- The variables after i.
+unfoldable pub after : ℕ → ℕ → List ℕ
+after n i = keep (λ j. ltb i j) (below n)
+
+-- For i below j in rising order of i, then j, then each value of i, its allowed mask.
+unfoldable pub triangle : ℕ → ℕ → Table → List ℕ
+triangle n d allowed = each (λ i. each (λ j. map (allowed i j) (below d)) (after n i)) (below n)
+
+-- The first word of a content says n.
+abbrev pub firstWord : ℕ → ℕ
+firstWord n = n
+
+-- n; d; steps (2 words, high first); checks (4 words, high first); number of subproblems; the domains; the tables; the agenda, bottom first.
+unfoldable pub contentOf : ℕ → ℕ → List ℕ → Table → Search → List ℕ
+contentOf n d domains allowed s =
+    firstWord n ∷ d ∷ s .steps / 65536 ∷ s .steps % 65536
+    ∷ s .checks / 2 ^ 48 ∷ s .checks / 2 ^ 32 % 65536 ∷ s .checks / 65536 % 65536 ∷ s .checks % 65536 ∷ length (s .stack)
+    ∷ domains ++ triangle n d allowed ++ stackWords n (s .stack)

@@ -1,0 +1,397 @@
+-- What save and load promise. Stated here, proved in proofs/Promises.antt.
+use mathlib.Core.Path.{_≡_}
+use mathlib.Core.Logic.{_↔_}
+use mathlib.Core.List.{List, List·Memᴰ, [], _∷_, _++_}
+use Prim.Native.Nat.{ℕ, _+_, _-_, _*_, _/_, _%_, _^_, _≤_, _<_}
+use lib.ListN.{length, getD, take, drop}
+use Rattle.splits.specs.Problem.{Problem, Proper, Table, Solution, possibilities, tableOf}
+use Rattle.splits.specs.Subproblems.{domain}
+use Rattle.splits.specs.Measure.{sum}
+use Rattle.splits.specs.Promises.{Solvable, One}
+use Rattle.splits.specs.declared.subproblem.Subproblem.{Subproblem}
+use Rattle.search.specs.Agenda.{problemOf, slotsIn, agendaOf}
+use Rattle.search.specs.FirstChecks.{WholeSlots, WholeRequests, Deserves-3, searchRefusal}
+use Rattle.search.specs.Runs.{Search, run}
+use Rattle.search.specs.Chooser.{choose}
+use Rattle.search.specs.Calls.{opening, searchOf, Opens, Runs, Chooses}
+use Rattle.search.specs.Promises.{Passes, Reached, Has-solution}
+use Rattle.search.specs.Verdicts.{verdictOf}
+use Rattle.search.specs.declared.state.Verdict.the-variants.{Unsolvable}
+use Rattle.search.specs.declared.state.State.{State}
+use Rattle.search.specs.declared.state.Opened.{Opened}
+use Rattle.search.specs.declared.state.Ran.{Ran}
+use Rattle.files.specs.Blocks.{onesSum, checkOf, blocksFor, fileOf}
+use Rattle.files.specs.Content.{contentOf}
+use Rattle.files.specs.Reading.{contentWord, saidN, saidD, saidSteps, saidChecks, saidSubproblems, saidDomains, saidAllowed, saidSearch, tableWords, Deserves-14, Deserves-15, refusalOfFile, refusalOfWords}
+use Rattle.files.specs.Calls.{Check-of, handedContent, saveRefusal, Saves, loadRefusal, Loads}
+use Rattle.files.specs.declared.saved.Saved.{Saved}
+use Rattle.files.specs.declared.saved.Loaded.{Loaded}
+
+-- Words of 16 bits, and bytes.
+abbrev pub Words : List ℕ → Type 0
+Words l = (k : ℕ) → getD l k 0 < 65536
+
+abbrev pub Bytes : List ℕ → Type 0
+Bytes l = (k : ℕ) → getD l k 0 < 256
+
+-- A subproblem of n variables as memory holds it: 32 entries, those from n on empty, masks of 16 bits, 32 marks.
+pub record Canonical (n : ℕ) (P : Subproblem) : Type 0 where
+  pub entries : length (P .domains) ≡ 32
+  pub past : (i : ℕ) → n ≤ i → domain P i ≡ 0
+  pub marks : P .marked < 2 ^ 32
+  pub masks : (i : ℕ) → domain P i < 2 ^ 16
+
+-- Two tables allow the same at every place of two different variables.
+abbrev pub Agree : ℕ → ℕ → Table → Table → Type 0
+Agree n d f g = (i j a : ℕ) → i < n → j < n → (i ≡ j → ⊥) → a < d → f i j a ≡ g i j a
+
+-- ---- blocks
+
+-- The blocks of a content of 1 to 101 blocks deserve no 14.
+abbrev pub Blocks-whole : Type 0
+Blocks-whole =
+    (content : List ℕ) → 1 ≤ blocksFor (length content) → blocksFor (length content) ≤ 101 → refusalOfFile (fileOf content) ≡ 0
+
+-- A block holds 253 words of content; after the content zeros.
+abbrev pub Blocks-read : Type 0
+Blocks-read = (content : List ℕ) (k : ℕ) → k < blocksFor (length content) * 253 → contentWord (fileOf content) k ≡ getD content k 0
+
+-- A block is 512 bytes.
+abbrev pub Blocks-length : Type 0
+Blocks-length = (content : List ℕ) → length (fileOf content) ≡ 512 * blocksFor (length content)
+
+-- Its bytes are bytes.
+abbrev pub Blocks-bytes : Type 0
+Blocks-bytes = (content : List ℕ) → Words content → blocksFor (length content) ≤ 101 → Bytes (fileOf content)
+
+-- The check is a word, and RFC 1071's sum is what the sum of up to 255 words comes to when its carries are folded in twice.
+abbrev pub Check-word : Type 0
+Check-word = (ws : List ℕ) → checkOf ws < 65536
+
+abbrev pub Sum-folded : Type 0
+Sum-folded =
+    (ws : List ℕ) (t y z : ℕ) → Words ws → length ws ≤ 255 → t ≡ sum (λ w. w) ws → y ≡ t % 65536 + t / 65536 → z ≡ y % 65536 + y / 65536
+    → z ≡ onesSum ws
+
+-- ---- load after save, and save after load
+
+-- A file is accepted and says this search of this problem.
+pub record Says (file : List ℕ) (n d : ℕ) (domains : List ℕ) (allowed : Table) (s : Search) : Type 0 where
+  pub whole : refusalOfFile file ≡ 0
+  pub accepted : refusalOfWords file ≡ 0
+  pub its-n : saidN file ≡ n
+  pub its-d : saidD file ≡ d
+  pub its-domains : saidDomains file ≡ domains
+  pub its-allowed : Agree n d (saidAllowed file) allowed
+  pub its-subproblems : saidSubproblems file ≡ length (s .stack)
+  pub its-search : saidSearch file ≡ s
+
+-- The blocks that save writes say the search that it was handed.
+abbrev pub Load-after-save : Type 0
+Load-after-save =
+    (n d : ℕ) (domains tables agenda : List ℕ) (s : State) → Words agenda
+    → searchRefusal n d domains tables agenda (s .counts .steps .0) (s .counts .checks .0) (s .subproblems) ≡ 0
+    → Says (fileOf (handedContent n d domains tables agenda s)) n d domains (tableOf n d tables) (searchOf n agenda s)
+
+-- The blocks of what an accepted file says are the file.
+abbrev pub Save-after-load : Type 0
+Save-after-load =
+    (file : List ℕ) → Bytes file → refusalOfFile file ≡ 0 → refusalOfWords file ≡ 0
+    → fileOf (contentOf (saidN file) (saidD file) (saidDomains file) (saidAllowed file) (saidSearch file)) ≡ file
+
+-- What load accepts passes the first checks of run, chooser and save.
+abbrev pub Loaded-passes : Type 0
+Loaded-passes =
+    (file domains tables agenda : List ℕ) → Bytes file → loadRefusal file (length domains) (length tables) (length agenda) ≡ 0
+    → searchRefusal (saidN file) (saidD file) (saidDomains file) (tableWords (saidN file) (saidD file) (saidAllowed file))
+    (agendaOf (saidN file) (length agenda) (saidSearch file .stack)) (saidSteps file) (saidChecks file) (saidSubproblems file) ≡ 0
+
+-- The same of the calls. What load gives back of a search saved: nothing is refused, n, d, the domains, what two different variables allow, and the
+-- search in memory are as they were handed to save.
+pub record Given-back (n d : ℕ) (domains tables : List ℕ) (s : Search) (r : Loaded) (domains′ tables′ agenda′ : List ℕ) : Type 0 where
+  pub refusal : r .refusal ≡ 0
+  pub its-n : r .n ≡ n
+  pub its-d : r .d ≡ d
+  pub its-domains : domains′ ≡ domains
+  pub its-allowed : Agree n d (tableOf n d tables′) (tableOf n d tables)
+  pub its-search : searchOf n agenda′ (r .state) ≡ s
+
+-- Load of exactly the blocks that save wrote, into buffers of the right lengths and an agenda that takes the subproblems.
+abbrev pub Loads-back : Type 0
+Loads-back =
+    (n d : ℕ) (domains tables agenda : List ℕ) (s : State) (before after : List ℕ) (saved : Saved)
+    (domains₀ domains′ tables₀ tables′ agenda₀ agenda′ : List ℕ) (r : Loaded) → Words agenda → Saves n d domains tables agenda s before after saved
+    → saved .refusal ≡ 0 → Loads (take (512 * saved .blocks) after) domains₀ domains′ tables₀ tables′ agenda₀ agenda′ r → length domains₀ ≡ n
+    → length tables₀ ≡ n * n * d → WholeSlots n (length agenda₀) → s .subproblems ≤ slotsIn n (length agenda₀)
+    → Given-back n d domains tables (searchOf n agenda s) r domains′ tables′ agenda′
+
+-- Save of what load accepted, into a buffer that takes it, is not refused and writes the file again.
+abbrev pub Saves-back : Type 0
+Saves-back =
+    (file domains₀ domains tables₀ tables agenda₀ agenda : List ℕ) (r : Loaded) (before after : List ℕ) (saved : Saved) → Bytes file
+    → Loads file domains₀ domains tables₀ tables agenda₀ agenda r → r .refusal ≡ 0
+    → Saves (r .n) (r .d) domains tables agenda (r .state) before after saved → length file ≤ length before
+    → (saved .refusal ≡ 0) × (512 * saved .blocks ≡ length file) × (after ≡ file ++ drop (length file) before)
+
+-- The largest file is 101 blocks: 25,385 words.
+abbrev pub Largest : Type 0
+Largest =
+    (n d : ℕ) (domains : List ℕ) (allowed : Table) (s : Search) → n ≤ 32 → d ≤ 16 → length domains ≡ n → length (s .stack) ≤ 512
+    → ((P : Subproblem) → List·Memᴰ P (s .stack) → Canonical n P)
+    → (length (contentOf n d domains allowed s) ≤ 25385) × (blocksFor (length (contentOf n d domains allowed s)) ≤ 101)
+
+-- It is met: n 32, d 16, 512 subproblems.
+abbrev pub Largest-met : Type 0
+Largest-met =
+    (domains : List ℕ) (allowed : Table) (s : Search) → length domains ≡ 32 → length (s .stack) ≡ 512
+    → ((P : Subproblem) → List·Memᴰ P (s .stack) → Canonical 32 P)
+    → (length (contentOf 32 16 domains allowed s) ≡ 25385) × (blocksFor (length (contentOf 32 16 domains allowed s)) ≡ 101)
+
+-- ---- refusals
+
+-- 13: the file buffer is shorter than the blocks to write.
+abbrev pub Deserves-13 : ℕ → ℕ → List ℕ → List ℕ → List ℕ → State → List ℕ → Type 0
+Deserves-13 n d domains tables agenda s file = length file < 512 * blocksFor (length (handedContent n d domains tables agenda s))
+
+-- Of any call of save, something said of the refusal of the first checks and of its own.
+abbrev pub Saving : ((first k : ℕ) → Type 0 → Type 0) → Type 0
+Saving Said =
+    (n d : ℕ) (domains tables agenda : List ℕ) (s : State) (file : List ℕ)
+    → Said (searchRefusal n d domains tables agenda (s .counts .steps .0) (s .counts .checks .0) (s .subproblems))
+    (saveRefusal n d domains tables agenda s file) (Deserves-13 n d domains tables agenda s file)
+
+-- 1 to 6 first, then 13, then none.
+abbrev pub Save-first : Type 0
+Save-first = Saving (λ first k deserved. (j : ℕ) → 1 ≤ j → j ≤ 6 → (k ≡ j) ↔ (first ≡ j))
+
+abbrev pub Save-13 : Type 0
+Save-13 = Saving (λ first k deserved. (k ≡ 13) ↔ ((first ≡ 0) × deserved))
+
+abbrev pub Save-none : Type 0
+Save-none = Saving (λ first k deserved. (k ≡ 0) ↔ ((first ≡ 0) × (deserved → ⊥)))
+
+-- 12 at load: more subproblems than slots.
+abbrev pub Deserves-12-load : List ℕ → List ℕ → Type 0
+Deserves-12-load file agenda = slotsIn (saidN file) (length agenda) < saidSubproblems file
+
+-- Of any call of load, something said of the file, the buffers lent and the refusal.
+abbrev pub Loading : ((file domains tables agenda : List ℕ) → ℕ → Type 0) → Type 0
+Loading Said =
+    (file domains tables agenda : List ℕ) → Said file domains tables agenda (loadRefusal file (length domains) (length tables) (length agenda))
+
+-- 14, 15, 3, 12, none: each exactly when it is deserved and none before it is. 15 is of the file alone.
+abbrev pub Load-14 : Type 0
+Load-14 = Loading (λ file domains tables agenda k. (k ≡ 14) ↔ Deserves-14 file)
+
+abbrev pub Load-15 : Type 0
+Load-15 = Loading (λ file domains tables agenda k. (k ≡ 15) ↔ ((Deserves-14 file → ⊥) × Deserves-15 file))
+
+abbrev pub Load-3 : Type 0
+Load-3 =
+    Loading (λ file domains tables agenda k.
+    (k ≡ 3) ↔ ((Deserves-14 file → ⊥) × (Deserves-15 file → ⊥) × Deserves-3 (saidN file) (saidD file) domains tables agenda))
+
+abbrev pub Load-12 : Type 0
+Load-12 =
+    Loading (λ file domains tables agenda k.
+    (k ≡ 12)
+    ↔ ((Deserves-14 file → ⊥) × (Deserves-15 file → ⊥) × (Deserves-3 (saidN file) (saidD file) domains tables agenda → ⊥) × Deserves-12-load file agenda))
+
+abbrev pub Load-none : Type 0
+Load-none =
+    Loading (λ file domains tables agenda k.
+    (k ≡ 0)
+    ↔ ((Deserves-14 file → ⊥) × (Deserves-15 file → ⊥) × (Deserves-3 (saidN file) (saidD file) domains tables agenda → ⊥)
+    × (Deserves-12-load file agenda → ⊥)))
+
+-- ---- one outcome
+
+-- Two outcomes of save, of one input, are equal.
+abbrev pub Save-one : Type 0
+Save-one =
+    (n d : ℕ) (domains tables agenda : List ℕ) (s : State) (before after after′ : List ℕ) (r r′ : Saved)
+    → Saves n d domains tables agenda s before after r → Saves n d domains tables agenda s before after′ r′ → (r ≡ r′) × (after ≡ after′)
+
+-- Two outcomes of load.
+abbrev pub Load-one : Type 0
+Load-one =
+    (file domains a a′ tables b b′ agenda c c′ : List ℕ) (r r′ : Loaded) → Loads file domains a tables b agenda c r
+    → Loads file domains a′ tables b′ agenda c′ r′ → (r ≡ r′) × (a ≡ a′) × (b ≡ b′) × (c ≡ c′)
+
+-- ---- a variable with itself
+
+-- Two lists of tables, as long as each other, that agree at every place of two different variables.
+pub record Same-away (n d : ℕ) (tables tables′ : List ℕ) : Type 0 where
+  pub words : length tables ≡ length tables′
+  pub agree : Agree n d (tableOf n d tables) (tableOf n d tables′)
+
+-- No result of opening, run, chooser or save depends on what stands at i with itself: whatever satisfies the statement with one list of tables
+-- satisfies it with the other. The steps are a word of 32 bits.
+abbrev pub Diagonal-open : Type 0
+Diagonal-open =
+    (n d : ℕ) (domains tables tables′ before after : List ℕ) (r : Opened) → Same-away n d tables tables′ → Opens n d domains tables before after r
+    → Opens n d domains tables′ before after r
+
+abbrev pub Diagonal-run : Type 0
+Diagonal-run =
+    (n d : ℕ) (domains tables tables′ before after requests : List ℕ) (s : State) (r : Ran) → Same-away n d tables tables′
+    → s .counts .steps .0 < 2 ^ 32 → Runs n d domains tables before after requests s r → Runs n d domains tables′ before after requests s r
+
+abbrev pub Diagonal-choose : Type 0
+Diagonal-choose =
+    (n d : ℕ) (domains tables tables′ before after : List ℕ) (limit : ℕ) (s : State) (r : Ran) → Same-away n d tables tables′
+    → s .counts .steps .0 < 2 ^ 32 → Chooses n d domains tables before after limit s r → Chooses n d domains tables′ before after limit s r
+
+abbrev pub Diagonal-save : Type 0
+Diagonal-save =
+    (n d : ℕ) (domains tables tables′ agenda : List ℕ) (s : State) (before after : List ℕ) (r : Saved) → Same-away n d tables tables′
+    → Saves n d domains tables agenda s before after r → Saves n d domains tables′ agenda s before after r
+
+-- ---- searches begun by opening, saved and loaded
+
+-- Reached is the search crate's: opening, runs, choosers, and moves to other slots that take the stack. A file that says a reached search says it
+-- of a problem that differs at most at a variable with itself, and there it is reached too, in any slots that take it.
+abbrev pub Reached-again : Type 0
+Reached-again =
+    (n d : ℕ) (domains tables : List ℕ) (room slots : ℕ) (s : Search) (file : List ℕ) → Proper (problemOf n d domains tables) → length domains ≡ n
+    → Reached n d domains tables room s → Says file n d domains (tableOf n d tables) s → length (s .stack) ≤ slots
+    → Reached (saidN file) (saidD file) (saidDomains file) (tableWords (saidN file) (saidD file) (saidAllowed file)) slots (saidSearch file)
+
+-- The searches of a problem begun by opening, gone on with by any number of runs and choosers, saved, and loaded into any 1 to 512 slots that take them.
+-- A load makes the problem the one that the file says.
+pub data Begun : (n d : ℕ) (domains tables : List ℕ) (slots : ℕ) → Search → Type 0 where
+  begun : {n d : ℕ} {domains tables : List ℕ} {slots : ℕ} → Proper (problemOf n d domains tables) → length domains ≡ n → 1 ≤ slots → slots ≤ 512
+      → Begun n d domains tables slots (record { stack = opening n domains; steps = 0; checks = 0 })
+  run-on : {n d : ℕ} {domains tables : List ℕ} {slots : ℕ} {s : Search} → Begun n d domains tables slots s → (rs : List (List ℕ))
+      → Begun n d domains tables slots (run (problemOf n d domains tables) slots rs s .search)
+  chosen-on : {n d : ℕ} {domains tables : List ℕ} {slots : ℕ} {s : Search} → Begun n d domains tables slots s → (limit : ℕ)
+      → Begun n d domains tables slots (choose (problemOf n d domains tables) slots limit s .search)
+  saved-loaded : {n d : ℕ} {domains tables : List ℕ} {slots : ℕ} {s : Search} → Begun n d domains tables slots s → (file : List ℕ) (other : ℕ)
+      → file ≡ fileOf (contentOf n d domains (tableOf n d tables) s) → length (s .stack) ≤ other → 1 ≤ other → other ≤ 512
+      → Begun (saidN file) (saidD file) (saidDomains file) (tableWords (saidN file) (saidD file) (saidAllowed file)) other (saidSearch file)
+
+-- Each is reached, in the search crate's sense, of a proper problem: what that crate promises of every reached search holds of it.
+abbrev pub Widened : Type 0
+Widened =
+    (n d : ℕ) (domains tables : List ℕ) (slots : ℕ) (s : Search) → Begun n d domains tables slots s
+    → Proper (problemOf n d domains tables) × Reached n d domains tables slots s
+
+-- Of each, something said of the problem, the slots and the search.
+abbrev pub Begins : (Problem → ℕ → Search → Type 0) → Type 0
+Begins Said =
+    (n d : ℕ) (domains tables : List ℕ) (slots : ℕ) (s : Search) → Begun n d domains tables slots s → Said (problemOf n d domains tables) slots s
+
+-- It passes; so its checks are at most 496 × steps.
+abbrev pub Begun-passes : Type 0
+Begun-passes = Begins Passes
+
+-- The problem is solvable exactly if some subproblem on the agenda is.
+abbrev pub Begun-solvable : Type 0
+Begun-solvable = Begins (λ p slots s. Has-solution p ↔ ((P : Subproblem) × List·Memᴰ P (s .stack) × Solvable p P))
+
+-- Unsolvable means that the problem has no solution.
+abbrev pub Begun-unsolvable : Type 0
+Begun-unsolvable = Begins (λ p slots s. verdictOf (p .n) (s .stack) ≡ Unsolvable → Has-solution p → ⊥)
+
+-- With S possibilities at most S × (n + 1) − 1 steps were taken, none where S is 0; hence at most S × (n + 2).
+abbrev pub Begun-steps : Type 0
+Begun-steps =
+    Begins (λ p slots s.
+    let S : ℕ = possibilities (p .n) (p .domain) in
+    (s .steps ≤ S * (p .n + 1) - 1) × (S ≡ 0 → s .steps ≡ 0) × (s .steps ≤ S * (p .n + 2)))
+
+-- And the problem that a file says has the solutions of the one saved.
+abbrev pub Same-solutions : Type 0
+Same-solutions =
+    (n d : ℕ) (domains tables : List ℕ) (s : Search) (file : List ℕ) (f : ℕ → ℕ) → Proper (problemOf n d domains tables)
+    → Says file n d domains (tableOf n d tables) s
+    → Solution n (tableOf n d tables) (λ i. getD domains i 0) f
+    ↔ Solution (saidN file) (tableOf (saidN file) (saidD file) (tableWords (saidN file) (saidD file) (saidAllowed file))) (λ i. getD (saidDomains file) i 0) f
+
+-- ---- the cut
+
+-- Memory and a state that hold a search of n variables in so many slots.
+pub record Held-in (n slots : ℕ) (agenda : List ℕ) (s : State) (held : Search) : Type 0 where
+  pub memory : agenda ≡ agendaOf n (slots * (n + 2)) (held .stack)
+  pub steps : s .counts .steps .0 ≡ held .steps
+  pub checks : s .counts .checks .0 ≡ held .checks
+  pub subproblems : s .subproblems ≡ length (held .stack)
+
+-- A list of requests, run uncut; and cut, run to the cut, saved into a buffer of at least its blocks, loaded from exactly these blocks into
+-- domains and tables of the right lengths and an agenda of equal length, and gone on with by the requests not yet taken. Whatever the lent
+-- buffers held before.
+pub record Trip (n d : ℕ) (domains tables agenda : List ℕ) (s : State) (requests more : List ℕ) : Type 0 where
+  pub whole : Ran
+  pub whole-agenda : List ℕ
+  pub uncut : Runs n d domains tables agenda whole-agenda (requests ++ more) s whole
+  pub first : Ran
+  pub first-agenda : List ℕ
+  pub to-the-cut : Runs n d domains tables agenda first-agenda requests s first
+  pub saved : Saved
+  pub buffer : List ℕ
+  pub written : List ℕ
+  pub saves : Saves n d domains tables first-agenda (first .state) buffer written saved
+  pub enough : 512 * blocksFor (length (handedContent n d domains tables first-agenda (first .state))) ≤ length buffer
+  pub loaded : Loaded
+  pub domains₀ : List ℕ
+  pub domains₁ : List ℕ
+  pub tables₀ : List ℕ
+  pub tables₁ : List ℕ
+  pub agenda₀ : List ℕ
+  pub agenda₁ : List ℕ
+  pub loads : Loads (take (512 * saved .blocks) written) domains₀ domains₁ tables₀ tables₁ agenda₀ agenda₁ loaded
+  pub domain-words : length domains₀ ≡ n
+  pub table-words : length tables₀ ≡ n * n * d
+  pub agenda-words : length agenda₀ ≡ length agenda
+  pub second : Ran
+  pub second-agenda : List ℕ
+  pub goes-on : Runs (loaded .n) (loaded .d) domains₁ tables₁ agenda₁ second-agenda (drop (first .taken * (n + 3)) (requests ++ more)) (loaded .state)
+      second
+
+-- Neither save nor load is refused, and the end is the uncut run's: the same verdict, refusal, agenda, counts and number of subproblems; the numbers taken
+-- add up.
+pub record Same-end {n d : ℕ} {domains tables agenda : List ℕ} {s : State} {requests more : List ℕ} (t : Trip n d domains tables agenda s requests more)
+    : Type 0 where
+  pub saved : t .saved .refusal ≡ 0
+  pub loaded : t .loaded .refusal ≡ 0
+  pub verdict : t .second .verdict ≡ t .whole .verdict
+  pub refusal : t .second .refusal ≡ t .whole .refusal
+  pub agenda-left : t .second-agenda ≡ t .whole-agenda
+  pub steps : t .second .state .counts .steps .0 ≡ t .whole .state .counts .steps .0
+  pub checks : t .second .state .counts .checks .0 ≡ t .whole .state .counts .checks .0
+  pub subproblems : t .second .state .subproblems ≡ t .whole .state .subproblems
+  pub taken : t .first .taken + t .second .taken ≡ t .whole .taken
+
+-- Any list of requests, cut anywhere, saved, loaded into an agenda of equal length, gone on with: the same verdict, agenda and counts as uncut. Of
+-- every reached search.
+abbrev pub Cut : Type 0
+Cut =
+    (n d : ℕ) (domains tables : List ℕ) (slots : ℕ) (gone : Search) (agenda : List ℕ) (s : State) (requests more : List ℕ)
+    → Proper (problemOf n d domains tables) → length domains ≡ n → length tables ≡ n * n * d → 1 ≤ slots → slots ≤ 512
+    → Reached n d domains tables slots gone → Held-in n slots agenda s gone
+    → WholeRequests n (length requests) → WholeRequests n (length more)
+    → (t : Trip n d domains tables agenda s requests more) → Same-end t
+
+-- So of every search begun by opening and saved and loaded any number of times since.
+abbrev pub Cut-widened : Type 0
+Cut-widened =
+    (n d : ℕ) (domains tables : List ℕ) (slots : ℕ) (gone : Search) (agenda : List ℕ) (s : State) (requests more : List ℕ)
+    → Begun n d domains tables slots gone → length tables ≡ n * n * d → Held-in n slots agenda s gone
+    → WholeRequests n (length requests) → WholeRequests n (length more)
+    → (t : Trip n d domains tables agenda s requests more) → Same-end t
+
+-- So of any search that passes the first checks, reached or not, in memory of words.
+abbrev pub Cut-any : Type 0
+Cut-any =
+    (n d : ℕ) (domains tables agenda : List ℕ) (s : State) (requests more : List ℕ) → Words agenda → s .counts .steps .0 < 2 ^ 32
+    → searchRefusal n d domains tables agenda (s .counts .steps .0) (s .counts .checks .0) (s .subproblems) ≡ 0
+    → WholeRequests n (length requests) → WholeRequests n (length more)
+    → (t : Trip n d domains tables agenda s requests more) → Same-end t
+
+-- The check of a block is one number.
+abbrev pub Check-of-one : Type 0
+Check-of-one = (block : List ℕ) → One (Check-of block)
+
+-- RFC 1071's own example: the words 0001, f203, f4f5 and f6f7 sum to ddf2, whose complement is 220d.
+abbrev pub RFC-1071 : Type 0
+RFC-1071 = (onesSum (1 ∷ 61955 ∷ 62709 ∷ 63223 ∷ []) ≡ 56818) × (checkOf (1 ∷ 61955 ∷ 62709 ∷ 63223 ∷ []) ≡ 8717)

@@ -1,0 +1,150 @@
+-- What a file's words say, and which files deserve refusals 14 and 15.
+use mathlib.Core.Path.{_≡_}
+use mathlib.Core.Logic.{_⊎_}
+use mathlib.Core.Bool.{Bool, not, cond, _&&_, _||_}
+use mathlib.Core.List.{List, List·Memᴰ, map}
+use Prim.Native.Nat.{ℕ, suc, _+_, _-_, _*_, _/_, _%_, _^_, _≤_, _<_}
+use lib.ListN.{length, getD}
+use lib.Dec.{eqb, leb, ltb}
+use Rattle.splits.specs.Masks.{bit}
+use Rattle.splits.specs.Problem.{Problem, Table, total}
+use Rattle.splits.specs.Subproblems.{Rules, every}
+use Rattle.splits.specs.Splits.{below}
+use Rattle.splits.specs.declared.subproblem.Subproblem.{Subproblem}
+use Rattle.search.specs.Agenda.{stackOf}
+use Rattle.search.specs.Runs.{Search}
+use Rattle.search.specs.FirstChecks.{Over, allObey}
+use Rattle.files.specs.Blocks.{wordAt, checkOf, blocksFor}
+use Rattle.files.specs.Content.{each}
+
+-- The number of whole blocks of a file.
+abbrev pub blocksIn : List ℕ → ℕ
+blocksIn file = length file / 512
+
+-- Word k of block b, from 0.
+unfoldable pub blockWord : List ℕ → ℕ → ℕ → ℕ
+blockWord file b k = wordAt file (256 * b + k)
+
+-- The 255 words of block b before its check.
+unfoldable pub headOf : List ℕ → ℕ → List ℕ
+headOf file b = map (blockWord file b) (below 255)
+
+-- 14: file not 1 to 101 whole blocks, or a block's check, number or count is wrong.
+abbrev pub Deserves-14 : List ℕ → Type 0
+Deserves-14 file =
+    ((length file ≡ blocksIn file * 512 → ⊥) ⊎ (blocksIn file < 1) ⊎ (101 < blocksIn file))
+    ⊎ ((b : ℕ) × (b < blocksIn file)
+    × ((blockWord file b 0 ≡ b + 1 → ⊥) ⊎ (blockWord file b 1 ≡ blocksIn file → ⊥) ⊎ (blockWord file b 255 ≡ checkOf (headOf file b) → ⊥)))
+
+-- Word k of a file's content: 253 words of each block after its first two.
+unfoldable pub contentWord : List ℕ → ℕ → ℕ
+contentWord file k = blockWord file (k / 253) (2 + k % 253)
+
+-- So many words of the content from one on.
+unfoldable pub contentFrom : List ℕ → ℕ → ℕ → List ℕ
+contentFrom file from words = map (λ k. contentWord file (from + k)) (below words)
+
+-- What the words say, in the order in which they stand.
+abbrev pub saidN : List ℕ → ℕ
+saidN file = contentWord file 0
+
+abbrev pub saidD : List ℕ → ℕ
+saidD file = contentWord file 1
+
+abbrev pub saidSteps : List ℕ → ℕ
+saidSteps file = contentWord file 2 * 65536 + contentWord file 3
+
+abbrev pub saidChecks : List ℕ → ℕ
+saidChecks file =
+    ((contentWord file 4 * 65536 + contentWord file 5) * 65536 + contentWord file 6) * 65536 + contentWord file 7
+
+abbrev pub saidSubproblems : List ℕ → ℕ
+saidSubproblems file = contentWord file 8
+
+abbrev pub saidDomains : List ℕ → List ℕ
+saidDomains file = contentFrom file 9 (saidN file)
+
+-- How many words of tables a file of n variables and d values has.
+abbrev pub triangleWords : ℕ → ℕ → ℕ
+triangleWords n d = n * (n - 1) / 2 * d
+
+-- The place of the mask for i below j and a in them: the pairs before (i, j), d words each, then a.
+unfoldable pub trianglePlace : ℕ → ℕ → ℕ → ℕ → ℕ → ℕ
+trianglePlace n d i j a = (total i (λ h. n - suc h) + (j - suc i)) * d + a
+
+-- A mask put together of its digits.
+unfoldable pub gathered : ℕ → (ℕ → ℕ) → ℕ
+gathered d digit = total d (λ b. digit b * 2 ^ b)
+
+-- What is allowed: for i below j as the words say; the other way round it is symmetric; nothing is said of i with itself.
+unfoldable pub saidAllowed : List ℕ → Table
+saidAllowed file i j a =
+    cond (ltb i j) (mask i j a) (cond (ltb j i) (gathered (saidD file) (λ b. bit (mask j i b) a)) 0)
+  where
+    mask : ℕ → ℕ → ℕ → ℕ
+    mask i j a = contentWord file (9 + saidN file + trianglePlace (saidN file) (saidD file) i j a)
+
+-- The problem that a file says.
+abbrev pub saidProblem : List ℕ → Problem
+saidProblem file =
+    record { n = saidN file; d = saidD file; domain = λ i. getD (saidDomains file) i 0; allowed = saidAllowed file }
+
+-- Its agenda's words, bottom first, and its stack.
+abbrev pub agendaFrom : List ℕ → ℕ
+agendaFrom file = 9 + saidN file + triangleWords (saidN file) (saidD file)
+
+unfoldable pub saidAgenda : List ℕ → List ℕ
+saidAgenda file = contentFrom file (agendaFrom file) (saidSubproblems file * (saidN file + 2))
+
+abbrev pub saidSearch : List ℕ → Search
+saidSearch file =
+    record {
+      stack = stackOf (saidN file) (saidAgenda file) (saidSubproblems file);
+      steps = saidSteps file;
+      checks = saidChecks file;
+    }
+
+-- How many words the content of a file is to have.
+abbrev pub saidWords : List ℕ → ℕ
+saidWords file = agendaFrom file + saidSubproblems file * (saidN file + 2)
+
+-- 15: the file's words break a rule above (its own count of subproblems being 0 to 512), or do not fill exactly that many blocks with zeros
+-- after.
+abbrev pub Deserves-15 : List ℕ → Type 0
+Deserves-15 file =
+    ((saidN file < 1) ⊎ (32 < saidN file))
+    ⊎ ((saidD file < 1) ⊎ (16 < saidD file))
+    ⊎ (512 < saidSubproblems file)
+    ⊎ (blocksIn file ≡ blocksFor (saidWords file) → ⊥)
+    ⊎ ((k : ℕ) × (saidWords file ≤ k) × (k < blocksIn file * 253) × (contentWord file k ≡ 0 → ⊥))
+    ⊎ ((i : ℕ) × (i < saidN file) × Over (saidD file) (saidProblem file .domain i))
+    ⊎ ((i : ℕ) × (j : ℕ) × (a : ℕ) × (i < j) × (j < saidN file) × (a < saidD file) × Over (saidD file) (saidAllowed file i j a))
+    ⊎ ((P : Subproblem) × List·Memᴰ P (saidSearch file .stack) × (Rules (saidProblem file) P → ⊥))
+    ⊎ (496 * saidSteps file < saidChecks file)
+
+-- The words of the tables that a problem's masks fill, zeros for a variable with itself.
+unfoldable pub tableWords : ℕ → ℕ → Table → List ℕ
+tableWords n d allowed = each (λ i. each (λ j. map (λ a. cond (eqb i j) 0 (allowed i j a)) (below d)) (below n)) (below n)
+
+-- The tests, worked out. 14.
+unfoldable pub goodBlock : List ℕ → ℕ → Bool
+goodBlock file b =
+    eqb (blockWord file b 0) (b + 1) && eqb (blockWord file b 1) (blocksIn file) && eqb (blockWord file b 255) (checkOf (headOf file b))
+
+unfoldable pub refusalOfFile : List ℕ → ℕ
+refusalOfFile file =
+    cond (eqb (length file) (blocksIn file * 512) && leb 1 (blocksIn file) && leb (blocksIn file) 101 && every (blocksIn file) (goodBlock file)) 0 14
+
+-- 15.
+unfoldable pub masksBelowTriangle : List ℕ → Bool
+masksBelowTriangle file =
+    every (saidN file) (λ i. every (saidN file) (λ j. not (ltb i j)
+    || every (saidD file) (λ a. ltb (saidAllowed file i j a) (2 ^ saidD file))))
+
+unfoldable pub refusalOfWords : List ℕ → ℕ
+refusalOfWords file =
+    cond (leb 1 (saidN file) && leb (saidN file) 32 && leb 1 (saidD file) && leb (saidD file) 16 && leb (saidSubproblems file) 512
+    && eqb (blocksIn file) (blocksFor (saidWords file))
+    && every (blocksIn file * 253 - saidWords file) (λ k. eqb (contentWord file (saidWords file + k)) 0)
+    && every (saidN file) (λ i. ltb (saidProblem file .domain i) (2 ^ saidD file))
+    && masksBelowTriangle file && allObey (saidProblem file) (saidSearch file .stack) && leb (saidChecks file) (496 * saidSteps file)) 0 15

@@ -1,0 +1,14 @@
+// What save and load return.
+use search::state::State;
+
+pub struct Saved {
+    pub refusal: u32,
+    pub blocks: usize,
+}
+
+pub struct Loaded {
+    pub refusal: u32,
+    pub n: usize,
+    pub d: usize,
+    pub state: State,
+}
