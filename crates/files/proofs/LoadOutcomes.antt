@@ -29,12 +29,14 @@ use Rattle.files.proofs.Refused.{allowed-said, numbers-passed}
 pub given : {A : Type 0} (r : ℕ) (x y z : A) → r ≡ 0 → z ≡ x → z ≡ cond (eqb r 0) x y
 given r x y z e h = rw e h
 
+-- One that is given where there is a refusal.
 pub not-given : {A : Type 0} (r : ℕ) (x y z : A) → (r ≡ 0 → ⊥) → z ≡ y → z ≡ cond (eqb r 0) x y
 not-given r x y z f h = rw (ne-eqb r 0 f) h
 
 -- ---- what is lent fits
 
-pub record Fits-file (file : List ℕ) (domains tables agenda n d m : ℕ) : Type 0 where
+-- What passing 14, 15, 3 and 12 leaves, of n, d and m subproblems.
+pub record Fitted (domains tables agenda n d m : ℕ) : Type 0 where
   pub numbers : Numbers n d
   pub few : m ≤ 512
   pub domains-words : domains ≡ n
@@ -43,7 +45,7 @@ pub record Fits-file (file : List ℕ) (domains tables agenda n d m : ℕ) : Typ
 
 module _ (file : List ℕ) (domains tables agenda n d m : ℕ) where
   pub load-passed : n ≡ saidN file → d ≡ saidD file → m ≡ saidSubproblems file → loadRefusal file domains tables agenda ≡ 0
-      → Fits-file file domains tables agenda n d m
+      → Fitted domains tables agenda n d m
   unfolding loadRefusal refusalOfLengths
   load-passed is-n is-d is-m e =
       let lengths : Bool = eqb domains (saidN file) && eqb tables (saidN file * saidN file * saidD file) && wholeSlots (saidN file) agenda in
@@ -73,12 +75,14 @@ module _ (file : List ℕ) (domains tables agenda n d m : ℕ) where
 
 -- ---- the tables
 
+-- What is written of two variables is what the file says, and 0 of one with itself.
 mask-said : (file : List ℕ) (i j a : ℕ) → allowedIn file (saidN file) (saidD file) i j a ≡ cond (eqb i j) 0 (saidAllowed file i j a)
 mask-said file i j a = elim (ℕ-discrete i j) [
   | yes e ↦ rw (eq-eqb i j e) (sym (allowed-self file (saidN file) (saidD file) i j a (omega arith) (omega arith)))
   | no f ↦ rw (ne-eqb i j f) (allowed-said file i j a)
 ]
 
+-- The tables are those that the file says.
 pub tables-said : (file : List ℕ) → tablePart file (saidN file) (saidD file) (saidN file) ≡ tableWords (saidN file) (saidD file) (saidAllowed file)
 unfolding tablePart rowPart pairPart tableWords
 tables-said file =
@@ -103,6 +107,7 @@ words-said file n from m small =
     let long : length l ≡ m * (n + 2) = length-from file from (m * (n + 2)) in
     stack-of-words n l m (omega arith) (from-small file from (m * (n + 2)) small) ∙ take-all (m * (n + 2)) l (omega arith)
 
+-- The agenda is that of the stack that the file says.
 pub agenda-said : (file : List ℕ) (words : ℕ) → ((i : ℕ) → getD file i 0 < 256)
     → filledAgenda file (saidN file) (saidD file) (saidSubproblems file) words ≡ agendaOf (saidN file) words (saidSearch file .stack)
 unfolding filledAgenda agendaIn agendaStart agendaOf saidAgenda
@@ -140,9 +145,10 @@ module _ (file domains tables agenda : List ℕ) (r : ℕ) (is-r : r ≡ loadRef
 
   -- Accepted: what the file says.
   module _ (small : (i : ℕ) → getD file i 0 < 256) (zero-r : r ≡ 0) (n d m : ℕ) (is-n : n ≡ saidN file) (is-d : d ≡ saidD file) (is-m : m ≡ saidSubproblems file) where
-    pub load-fits : Fits-file file (length domains) (length tables) (length agenda) n d m
+    pub load-fits : Fitted (length domains) (length tables) (length agenda) n d m
     load-fits = load-passed file (length domains) (length tables) (length agenda) n d m is-n is-d is-m (sym is-r ∙ zero-r)
 
+    -- Everything that load returns and leaves.
     pub load-accepted : (s : Loaded) (domains′ tables′ agenda′ : List ℕ) → s .refusal ≡ 0 → s .n ≡ n → s .d ≡ d → StateSaid file (s .state)
         → domains′ ≡ contentFrom file 9 (length domains) → tables′ ≡ tablePart file n d n → agenda′ ≡ filledAgenda file n d m (length agenda)
         → Loads file domains domains′ tables tables′ agenda agenda′ s

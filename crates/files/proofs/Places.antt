@@ -1,14 +1,12 @@
 -- The words of a file as the code reads them, and the check that it works out.
 -- Assumes nothing.
-use mathlib.Core.Path.{_≡_, refl, sym, ap, _∙_}
-use mathlib.Core.Logic.{⊎-elim}
-use mathlib.Core.List.{List, List·Memᴰ, List·Memᴰ·cases-cons, List·Memᴰ·not-nil, [], _∷_, map}
+use mathlib.Core.Path.{_≡_, refl, ap, _∙_}
+use mathlib.Core.List.{List}
 use Prim.Native.Nat.{ℕ, _+_, _-_, _*_, _/_, _%_, _≤_, _<_}
 use native.Mathlib.Omega.{arith}
 use native.Mathlib.Numerals.{add-one}
 use lib.ListN.{length, getD, List·getD-eq-default}
 use Rattle.splits.specs.Problem.{total}
-use Rattle.splits.specs.Splits.{below}
 use Rattle.files.specs.Blocks.{wordAt, checkOf}
 use Rattle.files.specs.Reading.{blockWord, headOf, contentWord, contentFrom}
 use Rattle.files.proofs.Lists.{map-length, map-at}
@@ -20,6 +18,7 @@ pub word-made : (file : List ℕ) (k high low : ℕ) → high ≡ getD file (2 *
 unfolding wordAt
 word-made file k high low e h = rw (e, h) refl
 
+-- Past the end a word is 0.
 pub word-past : (file : List ℕ) (k : ℕ) → length file ≤ k → 0 ≡ wordAt file k
 unfolding wordAt
 word-past file k h =
@@ -27,10 +26,12 @@ word-past file k h =
     let low : length file ≤ 2 * k + 1 = omega arith in
     rw (List·getD-eq-default file 0 high, List·getD-eq-default file 0 low) refl
 
+-- A word of a block has 16 bits.
 pub block-word-small : (file : List ℕ) → ((i : ℕ) → getD file i 0 < 256) → (b k : ℕ) → blockWord file b k < 65536
 unfolding blockWord
 block-word-small file s b k = word-small file s (256 * b + k)
 
+-- A word of the content has 16 bits.
 pub content-word-small : (file : List ℕ) → ((i : ℕ) → getD file i 0 < 256) → (k : ℕ) → contentWord file k < 65536
 unfolding contentWord
 content-word-small file s k = block-word-small file s (k / 253) (2 + k % 253)
@@ -40,15 +41,21 @@ pub total-more : (f : ℕ → ℕ) (k s x : ℕ) → s ≡ total k f → x ≡ f
 unfolding total
 total-more f k s x e h = rw (add-one, e, h) refl
 
+-- The sum of no words.
 pub total-none : (f : ℕ → ℕ) → 0 ≡ total 0 f
 unfolding total
 total-none f = refl
+
+-- The sum of all.
+pub total-end : (f : ℕ → ℕ) (k n s : ℕ) → s ≡ total k f → k ≡ n → s ≡ total n f
+total-end f k n s e h = e ∙ ap (λ (x : ℕ). total x f) h
 
 -- A word of the content from one on.
 pub content-from : (file : List ℕ) (from words i : ℕ) → i < words → getD (contentFrom file from words) i 0 ≡ contentWord file (from + i)
 unfolding contentFrom
 content-from file from words i h = map-at (λ k. contentWord file (from + k)) words i 0 h
 
+-- So many words from one on are so many.
 pub length-from : (file : List ℕ) (from words : ℕ) → length (contentFrom file from words) ≡ words
 unfolding contentFrom
 length-from file from words = map-length (λ k. contentWord file (from + k)) words

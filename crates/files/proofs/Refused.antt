@@ -49,11 +49,13 @@ module _ (file : List ℕ) where
   unfolding saidAllowed allowedIn maskIn mirroredIn
   allowed-said i j a = refl
 
+  -- The tests of 15, in the groups that the code works out.
   tests : Bool
   tests =
       numbersSaid file && filled file (wordsOf (saidN file) (saidD file) (saidSubproblems file))
       && regularIn file (saidN file) (saidD file) (saidSubproblems file) && leb (saidChecks file) (496 * saidSteps file)
 
+  -- 15 is given exactly if one fails.
   words-tests : refusalOfWords file ≡ cond tests 0 15
   unfolding tests refusalOfWords numbersSaid filled zeroIn regularIn domainBelow domainIn rowBelow pairBelow maskBelow masksBelowTriangle saidAgenda agendaIn agendaStart wordsOf saidAllowed allowedIn maskIn mirroredIn
   words-tests =
@@ -72,21 +74,26 @@ module _ (file : List ℕ) where
     said-filled : (words : ℕ) → words ≡ wordsOf n d m → filled file words ≡ filled file (wordsOf (saidN file) (saidD file) (saidSubproblems file))
     said-filled words e = rw (e, is-n, is-d, is-m) refl
 
+    -- The rules, at the numbers that the file says.
     said-regular : regularIn file n d m ≡ regularIn file (saidN file) (saidD file) (saidSubproblems file)
     said-regular = rw (is-n, is-d, is-m) refl
 
+    -- The words do not fill the blocks.
     pub refused-blocks : (words : ℕ) (b : Bool) → words ≡ wordsOf n d m → b ≡ filled file words → not b ≡ true → 15 ≡ refusalOfWords file
     unfolding tests
     refused-blocks words b w e y = sym (words-tests ∙ simp (sym (e ∙ said-filled words w) ∙ not-true b y, and-false))
 
+    -- A rule is broken.
     pub refused-rules : (b : Bool) → b ≡ regularIn file n d m → not b ≡ true → 15 ≡ refusalOfWords file
     unfolding tests
     refused-rules b e y = sym (words-tests ∙ simp (sym (e ∙ said-regular) ∙ not-true b y, and-false))
 
+    -- There are too many checks.
     pub refused-checks : (steps checks : ℕ) → steps ≡ saidSteps file → checks ≡ saidChecks file → 496 * steps < checks → 15 ≡ refusalOfWords file
     unfolding tests
     refused-checks steps checks s k h = sym (words-tests ∙ simp (lt-leb (saidChecks file) (496 * saidSteps file) (rw (s, k) at h), and-false))
 
+    -- All pass.
     pub accepted : (steps checks words : ℕ) (a b c : Bool) → a ≡ numbersSaid file → not a ≡ false → words ≡ wordsOf n d m → b ≡ filled file words
         → not b ≡ false → c ≡ regularIn file n d m → not c ≡ false → steps ≡ saidSteps file → checks ≡ saidChecks file → checks ≤ 496 * steps
         → 0 ≡ refusalOfWords file
@@ -112,6 +119,7 @@ module _ (file : List ℕ) where
         let f = leb-true (saidSubproblems file) 512 (and-right t4 (leb (saidSubproblems file) 512) e) in
         (record { some-variable = rw is-n a; variables = rw is-n b; some-value = rw is-d c; values = rw is-d d }, rw is-m f)
 
+    -- What the code found of them.
     pub numbers-found : (b : Bool) → b ≡ numbersSaid file → not b ≡ false → Numbers n d × (m ≤ 512)
     numbers-found b e y = numbers-said (sym e ∙ not-false b y)
 
@@ -132,6 +140,7 @@ module _ (file : List ℕ) (domains tables agenda : ℕ) where
   unfolding loadRefusal
   refused-14 r e f = else-first r (refusalOfFile file) _ e f
 
+  -- Past 14, 15.
   pub refused-15 : (r : ℕ) → refusalOfFile file ≡ 0 → r ≡ refusalOfWords file → (r ≡ 0 → ⊥) → r ≡ loadRefusal file domains tables agenda
   unfolding loadRefusal
   refused-15 r a e f = else-rest r (refusalOfFile file) _ a (else-first r (refusalOfWords file) _ e f)
@@ -144,6 +153,7 @@ module _ (file : List ℕ) (domains tables agenda : ℕ) where
         let same : r ≡ refusalOfLengths (saidN file) (saidD file) domains tables agenda = e ∙ rw (is-n, is-d) refl in
         else-rest r (refusalOfFile file) _ a (else-rest r (refusalOfWords file) _ b (else-first r (refusalOfLengths (saidN file) (saidD file) domains tables agenda) _ same f))
 
+    -- Past 3 the slots decide.
     pub slots-last : (r s : ℕ) → refusalOfFile file ≡ 0 → refusalOfWords file ≡ 0 → s ≡ refusalOfLengths n d domains tables agenda → s ≡ 0
         → r ≡ cond (ltb (slotsIn n agenda) m) 12 0 → r ≡ loadRefusal file domains tables agenda
     unfolding loadRefusal
@@ -152,8 +162,10 @@ module _ (file : List ℕ) (domains tables agenda : ℕ) where
         let last : r ≡ cond (ltb (slotsIn (saidN file) agenda) (saidSubproblems file)) 12 0 = h ∙ rw (is-n, is-m) refl in
         else-rest r (refusalOfFile file) _ a (else-rest r (refusalOfWords file) _ b (else-rest r (refusalOfLengths (saidN file) (saidD file) domains tables agenda) _ none last))
 
+-- There are more subproblems than slots.
 pub twelve : (n agenda m : ℕ) → agenda / (n + 2) < m → _≡_ {A = ℕ} 12 (cond (ltb (slotsIn n agenda) m) 12 0)
 twelve n agenda m h = simp (lt-ltb (agenda / (n + 2)) m h)
 
+-- There are not.
 pub none-left : (n agenda m : ℕ) → m ≤ agenda / (n + 2) → _≡_ {A = ℕ} 0 (cond (ltb (slotsIn n agenda) m) 12 0)
 none-left n agenda m h = simp (le-ltb (agenda / (n + 2)) m h)

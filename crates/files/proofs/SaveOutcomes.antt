@@ -24,22 +24,21 @@ use Rattle.files.proofs.Written.{handed-length}
 use Rattle.files.proofs.LoadOutcomes.{given, not-given}
 
 module _ (n d : ℕ) (domains tables agenda : List ℕ) (s : State) where
-  first : ℕ
-  first = searchRefusal n d domains tables agenda (s .counts .steps .0) (s .counts .checks .0) (s .subproblems)
-
-  -- What the first checks leave where they pass.
-  slots-few : wholeSlots n (length agenda) ≡ true → slotsIn n (length agenda) ≤ 512
+  -- There are at most 512 slots.
+  most-slots : wholeSlots n (length agenda) ≡ true → slotsIn n (length agenda) ≤ 512
   unfolding wholeSlots
-  slots-few e =
+  most-slots e =
       leb-true (slotsIn n (length agenda)) 512
       (and-right (eqb (length agenda % (n + 2)) 0 && leb 1 (slotsIn n (length agenda))) (leb (slotsIn n (length agenda)) 512) e)
 
+  -- The agenda is whole slots.
   whole : refusalOfLengths n d (length domains) (length tables) (length agenda) ≡ 0 → wholeSlots n (length agenda) ≡ true
   unfolding refusalOfLengths
   whole e =
       and-right (eqb (length domains) n && eqb (length tables) (n * n * d)) (wholeSlots n (length agenda))
       (passed (eqb (length domains) n && eqb (length tables) (n * n * d) && wholeSlots n (length agenda)) 3 (λ z. absurd (omega arith)) e)
 
+  -- There is a slot for each subproblem.
   room : refusalOfSearch (problemOf n d domains tables) agenda (s .counts .steps .0) (s .counts .checks .0) (s .subproblems) ≡ 0
       → s .subproblems ≤ slotsIn n (length agenda)
   unfolding refusalOfSearch
@@ -51,6 +50,7 @@ module _ (n d : ℕ) (domains tables agenda : List ℕ) (s : State) where
       leb-true (s .subproblems) (slotsIn n (length agenda))
       (and-left a b (and-left (a && b) c (and-left (a && b && c) f (passed (a && b && c && f) 6 (λ z. absurd (omega arith)) e))))
 
+  -- What the first checks leave where they pass.
   pub first-passed : searchRefusal n d domains tables agenda (s .counts .steps .0) (s .counts .checks .0) (s .subproblems) ≡ 0 → Handed n d domains tables agenda s
   unfolding searchRefusal
   first-passed e =
@@ -60,7 +60,7 @@ module _ (n d : ℕ) (domains tables agenda : List ℕ) (s : State) where
       let numbers = numbers-pass n d (opened .0) in
       let fits = lengths-pass n d domains tables (length agenda) (opened .0) (opened .1) in
       let fit = room (both .1) in
-      let most = slots-few (whole (opened .1)) in
+      let most = most-slots (whole (opened .1)) in
       record {
         numbers = record {
           some-variable = numbers .some-variable;
@@ -75,6 +75,7 @@ module _ (n d : ℕ) (domains tables agenda : List ℕ) (s : State) where
       }
 
   module _ (file : List ℕ) where
+    -- The refusal of save.
     refusal : ℕ
     refusal = saveRefusal n d domains tables agenda s file
 
@@ -99,6 +100,7 @@ module _ (n d : ℕ) (domains tables agenda : List ℕ) (s : State) where
           let all : words ≡ length (handed n d domains tables agenda s) = is-words ∙ sym (handed-length n d domains tables agenda s (first-passed (sym is-r ∙ zero-r)) small) in
           ap (λ (x : ℕ). (x + 252) / 253) all
 
+      -- 13 or none is left.
       last : refusal ≡ cond (ltb (length file) (512 * ((words + 252) / 253))) 13 0
       unfolding refusal saveRefusal
       last = sym (else-rest _ (searchRefusal n d domains tables agenda (s .counts .steps .0) (s .counts .checks .0) (s .subproblems)) _ (sym is-r ∙ zero-r) (ap (λ (x : ℕ). cond (ltb (length file) (512 * x)) 13 0) counted-blocks))

@@ -28,6 +28,7 @@ use Rattle.files.proofs.Filled.{part-more}
 
 -- ---- the words of the tables
 
+-- A place in the tables, by rows.
 placed : (n d i left : ℕ) → trianglePlace n d i (i + 1 + left / d) (left % d) ≡ total i (λ x. rest n x * d) + left
 unfolding trianglePlace
 placed n d i left =
@@ -41,6 +42,7 @@ module _ (n d : ℕ) (s : Numbers n d) where
       let part : left / d < n - suc i = div-lt-iff-lt-mul {k = d} {x = left} {y = n - suc i} (s .some-value) .1 l in
       record { first = h; second = omega arith; third = mod-lt left (s .some-value) }
 
+  -- The mask there.
   pub row-made : (t : List ℕ) (i left : ℕ) → i < n → left < (n - suc i) * d
       → getD t ((i * n + (i + 1 + left / d)) * d + left % d) 0 ≡ getD (triangle n d (tableOf n d t)) (masksBefore n d i + left) 0
   unfolding masksBefore tableOf
@@ -50,22 +52,27 @@ module _ (n d : ℕ) (s : Numbers n d) where
       sym (ap (λ (x : ℕ). getD (triangle n d (tableOf n d t)) x 0) (sym place)
       ∙ triangle-at n d (tableOf n d t) i (i + 1 + left / d) (left % d) (omega arith) (p .second) (p .third))
 
+  -- It lies within the tables.
   pub row-within : (t : List ℕ) (i left : ℕ) → length t ≡ n * n * d → i < n → left < (n - suc i) * d → Within n d i (i + 1 + left / d) (left % d) t
   row-within t i left e h l =
       in-table n d i (i + 1 + left / d) (left % d) t (record { few = s .variables; small = s .values; words = e }) (row-place i left h l)
 
-  pub row-few : (i : ℕ) → (n - (i + 1)) * d ≤ 512
-  row-few i =
+  -- The masks of i with later variables are few.
+  pub row-words-few : (i : ℕ) → (n - (i + 1)) * d ≤ 512
+  row-words-few i =
       let few : n - (i + 1) ≤ 32 = omega (arith, s .variables) in mul-le-mul few (s .values)
 
+  -- Before n stand all the masks.
   masks-all : masksBefore n d n ≡ triangleWords n d
   unfolding masksBefore
   masks-all = total-mul n (rest n) d ∙ ap (λ (x : ℕ). x * d) (rest-total n)
 
+  -- Before 0 stands none.
   pub masks-none : (k : ℕ) → masksBefore n d 0 + k ≡ k
   unfolding masksBefore total
   masks-none k = omega arith
 
+  -- Those of i come next.
   masks-step : (i : ℕ) → masksBefore n d (suc i) ≡ masksBefore n d i + (n - suc i) * d
   unfolding masksBefore total
   masks-step i = refl
@@ -90,6 +97,11 @@ module _ (n d : ℕ) (s : Numbers n d) where
 
           beyond : triangleWords n d ≤ k → k < k
           beyond g = omega arith
+
+  -- The word that was looked for.
+  pub masks-found : (t : List ℕ) (i left k r : ℕ) → r ≡ getD (triangle n d (tableOf n d t)) (masksBefore n d i + left) 0 → masksBefore n d i + left ≡ k
+      → r ≡ getD (triangle n d (tableOf n d t)) k 0
+  masks-found t i left k r e h = e ∙ ap (λ (x : ℕ). getD (triangle n d (tableOf n d t)) x 0) h
 
 -- ---- the words of the content
 
@@ -117,29 +129,36 @@ module _ (n d : ℕ) (domains tables agenda : List ℕ) (s : State) (hands : Han
   used : ℕ
   used = s .subproblems * (n + 2)
 
+  -- The masks for i below j.
   masks : List ℕ
   masks = triangle n d (tableOf n d tables)
 
+  -- The content is its four parts, one after the other.
   pub parts : handed n d domains tables agenda s ≡ header n d s ++ domains ++ triangle n d (tableOf n d tables) ++ take (s .subproblems * (n + 2)) agenda
   unfolding handed header counted contentOf
   parts =
       rw (length-stackOf n agenda (s .subproblems), stack-of-words n agenda (s .subproblems) (hands .agenda-words) small) refl
 
+  -- Nine words come first.
   header-length : length (header n d s) ≡ 9
   unfolding header counted
   header-length = refl
 
+  -- The masks are so many words.
   masks-length : length masks ≡ triangleWords n d
   unfolding masks
   masks-length = triangle-length n d (tableOf n d tables)
 
+  -- The used slots are so many words.
   used-length : length (take used agenda) ≡ used
   unfolding used
   used-length = length-take-le (s .subproblems * (n + 2)) agenda (hands .agenda-words)
 
+  -- The first two parts.
   two : length (header n d s ++ domains) ≡ 9 + n
   two = length-append (header n d s) domains ∙ omega (arith, header-length, hands .domains-words)
 
+  -- The first three.
   three : length (header n d s ++ domains ++ masks) ≡ 9 + n + triangleWords n d
   three = length-append (header n d s ++ domains) masks ∙ omega (arith, two, masks-length)
 
@@ -148,6 +167,7 @@ module _ (n d : ℕ) (domains tables agenda : List ℕ) (s : State) (hands : Han
   unfolding used masks
   handed-length = ap length parts ∙ length-append (header n d s ++ domains ++ masks) (take used agenda) ∙ omega (arith, three, used-length)
 
+  -- A word of the header.
   pub header-at : (k r : ℕ) → k < 9 → r ≡ getD (header n d s) k 0 → r ≡ getD (handed n d domains tables agenda s) k 0
   unfolding used masks
   header-at k r h e =
@@ -156,6 +176,7 @@ module _ (n d : ℕ) (domains tables agenda : List ℕ) (s : State) (hands : Han
       ∙ List·getD-append (header n d s ++ domains) masks 0 k (omega (arith, two))
       ∙ List·getD-append (header n d s) domains 0 k (omega (arith, header-length)))
 
+  -- A word of the domains.
   pub domains-at : (k : ℕ) → 9 ≤ k → k - 9 < n → getD domains (k - 9) 0 ≡ getD (handed n d domains tables agenda s) k 0
   unfolding used masks
   domains-at k h l =
@@ -175,6 +196,7 @@ module _ (n d : ℕ) (domains tables agenda : List ℕ) (s : State) (hands : Han
         ∙ List·getD-append (header n d s ++ domains ++ masks) (take used agenda) 0 k (omega (arith, three))
         ∙ past (header n d s ++ domains) masks k (omega (arith, two)) ∙ ap (λ (x : ℕ). getD masks x 0) place)
 
+    -- A word of the agenda.
     pub agenda-at : (k : ℕ) → 9 ≤ k → n ≤ k - 9 → w ≤ k - 9 - n → k - 9 - n - w < s .subproblems * (n + 2)
         → getD agenda (k - 9 - n - w) 0 ≡ getD (handed n d domains tables agenda s) k 0
     unfolding used masks
@@ -184,6 +206,7 @@ module _ (n d : ℕ) (domains tables agenda : List ℕ) (s : State) (hands : Han
         ∙ past (header n d s ++ domains ++ masks) (take used agenda) k (omega (arith, three)) ∙ ap (λ (x : ℕ). getD (take used agenda) x 0) place
         ∙ getD-take used agenda (k - 9 - n - w) 0 p)
 
+    -- Past the end.
     pub none-at : (k : ℕ) → 9 ≤ k → n ≤ k - 9 → w ≤ k - 9 - n → s .subproblems * (n + 2) ≤ k - 9 - n - w
         → 0 ≡ getD (handed n d domains tables agenda s) k 0
     none-at k h l q p =
@@ -192,6 +215,7 @@ module _ (n d : ℕ) (domains tables agenda : List ℕ) (s : State) (hands : Han
 
 -- ---- the words of a block
 
+-- A word of bytes, with others after them.
 word-kept : (p r : List ℕ) (k : ℕ) → 2 * k + 1 < length p → wordAt (p ++ r) k ≡ wordAt p k
 unfolding wordAt
 word-kept p r k h = rw (List·getD-append p r 0 (2 * k) (omega arith), List·getD-append p r 0 (2 * k + 1) h) refl
@@ -203,19 +227,23 @@ word-append ws r k h = same ∙ word-read ws k
     same : wordAt (bytesOf ws ++ r) k ≡ wordAt (bytesOf ws) k
     same = word-kept (bytesOf ws) r k (omega (arith, bytes-length ws))
 
+-- The two bytes of a word.
 one-word : (front : List ℕ) (w : ℕ) → front ++ bytesOf (w ∷ []) ≡ front ++ (w / 256 ∷ w % 256 ∷ [])
 unfolding bytesOf
 one-word front w = refl
 
 module _ (blocks : ℕ) (content : List ℕ) (b : ℕ) where
+  -- Its number comes first.
   pub head-number : (k : ℕ) → k ≡ 0 → b + 1 ≡ getD (headedBlock blocks content b) k 0
   unfolding headedBlock
   head-number k e = rw (e, add-one) refl
 
+  -- Then the number of blocks.
   pub head-count : (k : ℕ) → k ≡ 1 → blocks ≡ getD (headedBlock blocks content b) k 0
   unfolding headedBlock
   head-count k e = rw e refl
 
+  -- Then its content.
   pub head-content : (k r : ℕ) → (k ≡ 0 → ⊥) → (k ≡ 1 → ⊥) → k < 255 → r ≡ getD content (b * 253 + (k - 2)) 0 → r ≡ getD (headedBlock blocks content b) k 0
   unfolding headedBlock
   head-content zero r f g h e = absurd (f refl)
@@ -224,15 +252,16 @@ module _ (blocks : ℕ) (content : List ℕ) (b : ℕ) where
       let back : suc (suc k) - 2 ≡ k = omega arith in
       e ∙ ap (λ (x : ℕ). getD content (b * 253 + x) 0) back ∙ sym (content-at content b k (omega arith))
 
+  -- No word of a block is written yet.
   pub block-none : (l : List ℕ) → l ≡ blockPart blocks content b 0 l
   unfolding blockPart bytesOf
   block-none l = refl
 
-  -- One word more of a block.
-  pub block-more : (l m : List ℕ) (k w : ℕ) → m ≡ blockPart blocks content b k l → w ≡ getD (blockWords blocks content b) k 0 → k < 256 → length l ≡ 512
+  -- What the two stores of a word make of a block.
+  word-more : (l m : List ℕ) (k w : ℕ) → m ≡ blockPart blocks content b k l → w ≡ getD (blockWords blocks content b) k 0 → k < 256 → length l ≡ 512
       → set (set m (2 * k) (w / 256)) (2 * k + 1) (w % 256) ≡ blockPart blocks content b (k + 1) l
   unfolding blockPart
-  block-more l m k w e s h long =
+  word-more l m k w e s h long =
       let words : List ℕ = blockWords blocks content b in
       let front : List ℕ = bytesOf (take k words) in
       let size : length words ≡ 256 = block-length blocks content b in
@@ -252,6 +281,12 @@ module _ (blocks : ℕ) (content : List ℕ) (b : ℕ) where
       ∙ sym (append-assoc front (w / 256 ∷ w % 256 ∷ []) rest) ∙ ap (λ (x : ℕ). (front ++ (w / 256 ∷ w % 256 ∷ [])) ++ drop x l) place
       ∙ ap (λ (x : List ℕ). x ++ drop (2 * (k + 1)) l) (sym bytes)
 
+  -- One word more of a block.
+  pub block-more : (l m after : List ℕ) (k w : ℕ) → m ≡ blockPart blocks content b k l → w ≡ getD (blockWords blocks content b) k 0 → k < 256
+      → length l ≡ 512 → after ≡ set (set m (2 * k) (w / 256)) (2 * k + 1) (w % 256) → after ≡ blockPart blocks content b (k + 1) l
+  block-more l m after k w e s h long put = put ∙ word-more l m k w e s h long
+
+  -- The block stays as long.
   pub part-length : (l m : List ℕ) (k : ℕ) → m ≡ blockPart blocks content b k l → k ≤ 256 → length l ≡ 512 → length m ≡ 512
   unfolding blockPart
   part-length l m k e h long =
@@ -268,6 +303,7 @@ module _ (blocks : ℕ) (content : List ℕ) (b : ℕ) where
   unfolding blockWords
   head-taken = take-at (headedBlock blocks content b) (checkOf (headedBlock blocks content b) ∷ []) 255 (headed-length blocks content b)
 
+  -- What is written of it before the check is its headed words.
   head-written : (l : List ℕ) → headOf (blockPart blocks content b 255 l) 0 ≡ headedBlock blocks content b
   unfolding headOf blockPart blockWord
   head-written l =
@@ -276,9 +312,15 @@ module _ (blocks : ℕ) (content : List ℕ) (b : ℕ) where
       rw head-taken (map-is (λ k. wordAt (bytesOf head ++ drop 510 l) (256 * 0 + k)) 255 head size
       (λ k h. let place : 256 * 0 + k ≡ k = omega arith in rw place (word-append head (drop 510 l) k (omega arith))))
 
+  -- All 255 words before the check.
+  pub head-end : (l m : List ℕ) (k : ℕ) → m ≡ blockPart blocks content b k l → k ≡ 255 → m ≡ blockPart blocks content b 255 l
+  head-end l m k e h = e ∙ ap (λ (x : ℕ). blockPart blocks content b x l) h
+
+  -- So the check that is worked out of it is right.
   pub check-written : (l m : List ℕ) (w : ℕ) → m ≡ blockPart blocks content b 255 l → w ≡ checkOf (headOf m 0) → w ≡ getD (blockWords blocks content b) 255 0
   check-written l m w e h = h ∙ ap (λ (x : List ℕ). checkOf (headOf x 0)) e ∙ ap checkOf (head-written l) ∙ sym (block-check blocks content b)
 
+  -- All 256 words are written.
   pub block-end : (l m : List ℕ) → m ≡ blockPart blocks content b 256 l → length l ≡ 512 → m ≡ bytesOf (blockWords blocks content b)
   unfolding blockPart
   block-end l m e long =
@@ -290,10 +332,12 @@ module _ (blocks : ℕ) (content : List ℕ) (b : ℕ) where
 -- ---- the blocks
 
 module _ (blocks : ℕ) (content : List ℕ) where
+  -- No block is written yet.
   pub file-none : (l : List ℕ) → l ≡ filePart blocks content 0 l
   unfolding filePart firstBlocks
   file-none l = refl
 
+  -- One block more.
   pub file-more : (l m ys : List ℕ) (b : ℕ) → m ≡ filePart blocks content b l → ys ≡ bytesOf (blockWords blocks content b) → 512 * b + 512 ≤ length l
       → putMid (512 * b) ((512 * b + 512) - 512 * b) m ys ≡ filePart blocks content (b + 1) l
   unfolding filePart firstBlocks
@@ -304,7 +348,12 @@ module _ (blocks : ℕ) (content : List ℕ) where
       (bytes-length words ∙ omega (arith, block-length blocks content b)) h
       ∙ rw (← up, add-one) refl
 
+  -- The buffer stays as long.
   pub file-kept : (l m : List ℕ) (b : ℕ) → m ≡ filePart blocks content b l → 512 * b ≤ length l → length m ≡ length l
   unfolding filePart
   file-kept l m b e h =
       ap length e ∙ length-append (firstBlocks b blocks content) (drop (512 * b) l) ∙ omega (arith, blocks-length b blocks content, length-drop (512 * b) l)
+
+  -- All blocks are written.
+  pub file-end : (l m : List ℕ) (b : ℕ) → m ≡ filePart blocks content b l → b ≡ blocks → m ≡ filePart blocks content blocks l
+  file-end l m b e h = e ∙ ap (λ (x : ℕ). filePart blocks content x l) h

@@ -20,6 +20,7 @@ pub(crate) fn put_words(file: &[u8], from: usize, words: &mut [u16])
     }
 }
 
+// Zeros.
 fn put_zeros(words: &mut [u16])
     ensures { λ r. ⌜ now (words .exit) ≡ replicate (length (now (words .entry))) 0 ⌝ }
 {

@@ -36,6 +36,7 @@ fn domain_obeys(file: &[u8], n: usize, d: usize, part: Subproblem, i: usize) -> 
     part_obeys(part, i, said::domain(file, i))
 }
 
+// Whether every domain does.
 fn domains_obey(file: &[u8], n: usize, d: usize, part: Subproblem) -> bool
     requires { ⌜ Numbers n d ⌝ }
     ensures { λ r. ⌜ r ≡ every n (domainObeys (problemIn (now (file .entry)) n d) part) ⌝ }
@@ -68,6 +69,7 @@ fn values_agree(file: &[u8], n: usize, d: usize, part: Subproblem, i: usize, j: 
     said::digit(allowed, mask::first(part.domain(j))) == 1
 }
 
+// Whether the value of `i`, if instantiated, is allowed beside every other.
 fn row_agrees(file: &[u8], n: usize, d: usize, part: Subproblem, i: usize) -> bool
     requires { ⌜ Numbers n d × (i < n) ⌝ }
     ensures { λ r. ⌜ r ≡ rowAgrees n (allowedIn (now (file .entry)) n d) part i ⌝ }
@@ -82,6 +84,7 @@ fn row_agrees(file: &[u8], n: usize, d: usize, part: Subproblem, i: usize) -> bo
     true
 }
 
+// Whether all instantiated values are mutually allowed.
 fn all_agree(file: &[u8], n: usize, d: usize, part: Subproblem) -> bool
     requires { ⌜ Numbers n d ⌝ }
     ensures { λ r. ⌜ r ≡ every n (rowAgrees n (allowedIn (now (file .entry)) n d) part) ⌝ }

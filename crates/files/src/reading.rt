@@ -27,6 +27,7 @@ fn is_good(file: &[u8], b: usize) -> bool
     block::block_word(file, b, 255) == checksum::check(file, b)
 }
 
+// Whether every block is.
 fn all_good(file: &[u8], blocks: usize) -> bool
     requires { ⌜ blocks < 65536 ⌝ }
     ensures { λ r. ⌜ r ≡ every blocks (goodBlock (now (file .entry))) ⌝ }
@@ -117,6 +118,7 @@ fn is_below(mask: u16, d: usize) -> bool
     (mask as u64) < (1 << d)
 }
 
+// Whether no domain has a bit at `d` or above.
 fn domains_below(file: &[u8], n: usize, d: usize) -> bool
     requires { ⌜ Numbers n d ⌝ }
     ensures { λ r. ⌜ r ≡ every n (domainBelow (now (file .entry)) n d) ⌝ }
@@ -131,6 +133,7 @@ fn domains_below(file: &[u8], n: usize, d: usize) -> bool
     true
 }
 
+// Whether no mask for `i` below `j` has.
 fn pair_below(file: &[u8], n: usize, d: usize, i: usize, j: usize) -> bool
     requires { ⌜ Numbers n d × ((i < n) × (j < n)) ⌝ }
     ensures { λ r. ⌜ r ≡ pairBelow (now (file .entry)) n d i j ⌝ }
@@ -148,6 +151,7 @@ fn pair_below(file: &[u8], n: usize, d: usize, i: usize, j: usize) -> bool
     true
 }
 
+// Whether no mask of `i` with a later variable has.
 fn row_below(file: &[u8], n: usize, d: usize, i: usize) -> bool
     requires { ⌜ Numbers n d × (i < n) ⌝ }
     ensures { λ r. ⌜ r ≡ rowBelow (now (file .entry)) n d i ⌝ }
@@ -162,6 +166,7 @@ fn row_below(file: &[u8], n: usize, d: usize, i: usize) -> bool
     true
 }
 
+// Whether no mask of the tables has.
 fn masks_below(file: &[u8], n: usize, d: usize) -> bool
     requires { ⌜ Numbers n d ⌝ }
     ensures { λ r. ⌜ r ≡ every n (rowBelow (now (file .entry)) n d) ⌝ }

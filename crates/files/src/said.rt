@@ -13,25 +13,28 @@ ghost use Rattle.search.specs.Agenda.{subproblemOf};
 ghost use Rattle.files.specs.Reading.{contentWord, saidN, saidD, saidSteps, saidChecks, saidSubproblems, triangleWords, contentFrom, gathered};
 ghost use Rattle.files.specs.Work.Said.{Numbers, Pair, maskIn, mirroredIn, allowedIn, domainsSaid, StateSaid};
 
+// The number of variables.
 pub(crate) fn n(file: &[u8]) -> usize
     ensures { λ r. ⌜ r ≡ saidN (now (file .entry)) ⌝ }
 {
     block::content_word(file, 0) as usize
 }
 
+// The number of values.
 pub(crate) fn d(file: &[u8]) -> usize
     ensures { λ r. ⌜ r ≡ saidD (now (file .entry)) ⌝ }
 {
     block::content_word(file, 1) as usize
 }
 
+// The number of subproblems.
 pub(crate) fn subproblems(file: &[u8]) -> usize
     ensures { λ r. ⌜ r ≡ saidSubproblems (now (file .entry)) ⌝ }
 {
     block::content_word(file, 8) as usize
 }
 
-// Two words as one number, high first.
+// Two words of the content as one number, high first.
 fn pair_at(file: &[u8], k: usize) -> u32
     requires { ⌜ k < 65535 ⌝ }
     ensures { λ r. ⌜ r ≡ contentWord (now (file .entry)) k * 65536 + contentWord (now (file .entry)) (k + 1) ⌝ }
@@ -39,12 +42,14 @@ fn pair_at(file: &[u8], k: usize) -> u32
     (block::content_word(file, k) as u32) * 65536 + (block::content_word(file, k + 1) as u32)
 }
 
+// The steps taken.
 pub(crate) fn steps(file: &[u8]) -> u32
     ensures { λ r. ⌜ r ≡ saidSteps (now (file .entry)) ⌝ }
 {
     pair_at(file, 2)
 }
 
+// The checks made.
 pub(crate) fn checks(file: &[u8]) -> u64
     ensures { λ r. ⌜ r ≡ saidChecks (now (file .entry)) ⌝ }
 {

@@ -1,12 +1,12 @@
 -- `checksum::sum` meets its contract. The invariant: the words passed are summed, each at most 65535.
 -- Assumes nothing.
 use borrow.Author.Needs.{needs}
-use mathlib.Core.Path.{_≡_, ap, _∙_}
-use Prim.Native.Nat.{ℕ, _-_, _*_, _≤_}
+use mathlib.Core.Path.{_≡_}
+use Prim.Native.Nat.{_-_, _*_, _≤_}
 use native.Mathlib.Omega.{arith}
 use Rattle.splits.specs.Problem.{total}
 use Rattle.files.specs.Reading.{blockWord}
-use Rattle.files.proofs.Places.{total-none, total-more}
+use Rattle.files.proofs.Places.{total-none, total-more, total-end}
 use Rattle.files.proofs.checksum.sum.Statement.{statement}
 use Rattle.files.proofs.checksum.sum.Tie as tie
 
@@ -43,7 +43,7 @@ returns : tie.Need-returns Inv-loop μ-loop
 returns c =
     let inv = c .before .loop .inv in
     let end : c .before .loop .k ≡ 255 = omega arith in
-    inv .1 .0 ∙ ap (λ (k : ℕ). total k (blockWord (c .before .before .before .args .file .now) (c .before .before .before .args .b))) end
+    total-end _ _ _ _ (inv .1 .0) end
 
 pub sum-spec : {M : Type 1} → statement M
 sum-spec =

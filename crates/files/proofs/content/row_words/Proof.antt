@@ -4,7 +4,7 @@ use borrow.Author.Needs.{needs}
 use mathlib.Core.Path.{refl}
 use native.Mathlib.Omega.{arith}
 use native.Mathlib.Numerals.{add-one}
-use Rattle.files.proofs.Written.{row-few}
+use Rattle.files.proofs.Written.{row-words-few}
 use Rattle.files.proofs.content.row_words.Statement.{statement}
 use Rattle.files.proofs.content.row_words.Tie as tie
 
@@ -15,7 +15,7 @@ sub-result : tie.Need-sub-result
 sub-result c = search needs
 
 mul-result : tie.Need-mul-result
-mul-result c = omega (arith, row-few (c .args .n) (c .args .d) (c .pre .0) (c .args .i))
+mul-result c = omega (arith, row-words-few (c .args .n) (c .args .d) (c .pre .0) (c .args .i))
 
 returns : tie.Need-returns
 returns c = rw add-one refl

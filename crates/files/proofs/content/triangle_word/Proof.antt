@@ -1,14 +1,11 @@
 -- `content::triangle_word` meets its contract. The invariant: the word lies so far past the rows that are passed.
 -- Assumes nothing.
 use borrow.Author.Needs.{needs}
-use mathlib.Core.Path.{_≡_, ap, _∙_}
-use Prim.Native.Nat.{ℕ, _+_, _-_, _<_}
+use mathlib.Core.Path.{_≡_}
+use Prim.Native.Nat.{_+_, _-_, _<_}
 use native.Mathlib.Omega.{arith}
-use lib.ListN.{getD}
-use Rattle.splits.specs.Problem.{tableOf}
-use Rattle.files.specs.Content.{triangle}
 use Rattle.files.specs.Work.Saved.{masksBefore}
-use Rattle.files.proofs.Written.{masks-none, masks-next}
+use Rattle.files.proofs.Written.{masks-none, masks-next, masks-found}
 use Rattle.files.proofs.content.triangle_word.Statement.{statement}
 use Rattle.files.proofs.content.triangle_word.Tie as tie
 
@@ -47,9 +44,7 @@ row-word-requires c κs =
     (pre .0, (pre .1 .0, (c .before .before .loop .inv .0, rw (c .before .row-words .ensures) at less)))
 
 returns : tie.Need-returns Inv-loop μ-loop
-returns c =
-    let a = c .before .before .before .before .before .args in
-    c .row-word .ensures ∙ ap (λ (k : ℕ). getD (triangle (a .n) (a .d) (tableOf (a .n) (a .d) (a .tables .now))) k 0) (c .before .before .before .loop .inv .1)
+returns c = masks-found _ _ (c .before .before .before .before .before .pre .0) _ _ _ _ _ (c .row-word .ensures) (c .before .before .before .loop .inv .1)
 
 pub triangle-word-spec : {M : Type 1} → statement M
 triangle-word-spec =

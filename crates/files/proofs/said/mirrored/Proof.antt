@@ -1,12 +1,12 @@
 -- `said::mirrored` meets its contract. The invariant: the digits passed are gathered.
 -- Assumes nothing.
 use borrow.Author.Needs.{needs}
-use mathlib.Core.Path.{_≡_, ap, _∙_}
-use Prim.Native.Nat.{ℕ, _-_, _≤_}
+use mathlib.Core.Path.{_≡_}
+use Prim.Native.Nat.{_-_, _≤_}
 use native.Mathlib.Omega.{arith}
 use Rattle.files.specs.Reading.{gathered}
 use Rattle.files.specs.Work.Said.{mirroredIn}
-use Rattle.files.proofs.Mirrors.{gather-none, gather-more, gather-fits, digit-mirrored, mirrored-le}
+use Rattle.files.proofs.Mirrors.{gather-none, gather-more, gather-fits, gather-end, digit-mirrored, mirrored-le}
 use Rattle.files.proofs.said.mirrored.Statement.{statement}
 use Rattle.files.proofs.said.mirrored.Tie as tie
 
@@ -41,9 +41,7 @@ loop-again c =
 
 returns : tie.Need-returns Inv-loop μ-loop
 returns c =
-    let a = c .before .before .before .args in
-    let end : c .before .loop .b ≡ a .d = omega arith in
-    c .before .loop .inv .1 ∙ ap (λ (k : ℕ). gathered k (mirroredIn (a .file .now) (a .n) (a .d) (a .i) (a .j) (a .a))) end
+    let end : c .before .loop .b ≡ c .before .before .before .args .d = omega arith in gather-end _ _ _ _ (c .before .loop .inv .1) end
 
 pub mirrored-spec : {M : Type 1} → statement M
 mirrored-spec =

@@ -1,7 +1,6 @@
 -- `writing::put_block` meets its contract.
 -- Assumes nothing.
 use borrow.Author.Needs.{needs}
-use mathlib.Core.Path.{_∙_}
 use native.Mathlib.Omega.{arith}
 use Rattle.files.proofs.Written.{check-written, block-more, block-end}
 use Rattle.files.proofs.writing.put_block.Statement.{statement}
@@ -23,7 +22,8 @@ returns : tie.Need-returns
 returns c =
     let long = c .before .before .before .before .before .before .before .before .before .before .before .before .before .before .pre .1 .1 .1 in
     let head = c .before .before .before .before .before .before .before .before .put-head .ensures in
-    block-end _ _ _ _ _ (c .before .before .put-word .ensures ∙ block-more _ _ _ _ _ _ _ head (check-written _ _ _ _ _ _ head (c .before .before .before .before .check .ensures)) (omega arith) long) long
+    let check = check-written _ _ _ _ _ _ head (c .before .before .before .before .check .ensures) in
+    block-end _ _ _ _ _ (block-more _ _ _ _ _ _ _ _ head check (omega arith) long (c .before .before .put-word .ensures)) long
 
 pub put-block-spec : {M : Type 1} → statement M
 put-block-spec =

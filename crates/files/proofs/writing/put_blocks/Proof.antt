@@ -1,13 +1,13 @@
 -- `writing::put_blocks` meets its contract. The invariant: the blocks passed are written.
 -- Assumes nothing.
 use borrow.Author.Needs.{needs}
-use mathlib.Core.Path.{_≡_, refl, ap, _∙_}
-use Prim.Native.Nat.{ℕ, _+_, _-_, _*_, _≤_}
+use mathlib.Core.Path.{_≡_, refl, _∙_}
+use Prim.Native.Nat.{_+_, _-_, _*_, _≤_}
 use native.Mathlib.Omega.{arith}
 use lib.ListN.{length}
 use borrow.Rule.Slice.PartMut.{mid-len}
 use Rattle.files.specs.Work.Saved.{handed, filePart}
-use Rattle.files.proofs.Written.{file-none, file-more, file-kept}
+use Rattle.files.proofs.Written.{file-none, file-more, file-kept, file-end}
 use Rattle.files.proofs.writing.put_blocks.Statement.{statement}
 use Rattle.files.proofs.writing.put_blocks.Tie as tie
 
@@ -58,10 +58,7 @@ same-length : tie.Need-same-length Inv-loop μ-loop
 same-length c = search needs
 
 returns : tie.Need-returns Inv-loop μ-loop
-returns c =
-    let a = c .before .before .before .before .before .before .args in
-    let end : c .before .loop .b ≡ a .blocks = omega arith in
-    c .before .loop .inv .1 .1 ∙ ap (λ (b : ℕ). filePart (a .blocks) (handed (a .n) (a .d) (a .domains .now) (a .tables .now) (a .agenda .now) (a .state)) b (a .file .now)) end
+returns c = let end : c .before .loop .b ≡ c .before .before .before .before .before .before .args .blocks = omega arith in file-end _ _ _ _ _ (c .before .loop .inv .1 .1) end
 
 pub put-blocks-spec : {M : Type 1} → statement M
 put-blocks-spec =

@@ -1,12 +1,12 @@
 -- `writing::put_head` meets its contract. The invariant: the words passed are written.
 -- Assumes nothing.
 use borrow.Author.Needs.{needs}
-use mathlib.Core.Path.{_≡_, ap, _∙_}
-use Prim.Native.Nat.{ℕ, _-_, _≤_}
+use mathlib.Core.Path.{_≡_}
+use Prim.Native.Nat.{_-_, _≤_}
 use native.Mathlib.Omega.{arith}
 use lib.ListN.{length}
 use Rattle.files.specs.Work.Saved.{handed, blockPart}
-use Rattle.files.proofs.Written.{block-none, block-more, part-length, head-word}
+use Rattle.files.proofs.Written.{block-none, block-more, part-length, head-word, head-end}
 use Rattle.files.proofs.writing.put_head.Statement.{statement}
 use Rattle.files.proofs.writing.put_head.Tie as tie
 
@@ -34,17 +34,15 @@ loop-less c = search needs
 loop-again : tie.Need-loop-again Inv-loop μ-loop
 loop-again c =
     let long = c .before .before .before .before .before .before .before .before .before .before .before .pre .1 .1 .1 in
-    let next = c .before .before .put-word .ensures ∙ block-more _ _ _ _ _ _ _ (c .before .before .before .before .before .before .loop .inv .1 .1) (head-word _ _ _ _ _ (c .before .before .before .before .before .loop-test .taken) (c .before .before .before .before .head-word .ensures)) (omega arith) long in
+    let word = head-word _ _ _ _ _ (c .before .before .before .before .before .loop-test .taken) (c .before .before .before .before .head-word .ensures) in
+    let next = block-more _ _ _ _ _ _ _ _ (c .before .before .before .before .before .before .loop .inv .1 .1) word (omega arith) long (c .before .before .put-word .ensures) in
     (omega arith, (part-length _ _ _ _ _ _ next (omega arith) long, next))
 
 same-length : tie.Need-same-length Inv-loop μ-loop
 same-length c = search needs
 
 returns : tie.Need-returns Inv-loop μ-loop
-returns c =
-    let a = c .before .before .before .before .before .before .args in
-    let end : c .before .loop .k ≡ 255 = omega arith in
-    c .before .loop .inv .1 .1 ∙ ap (λ (k : ℕ). blockPart (a .blocks) (handed (a .n) (a .d) (a .domains .now) (a .tables .now) (a .agenda .now) (a .state)) (a .b) k (a .block .now)) end
+returns c = let end : c .before .loop .k ≡ 255 = omega arith in head-end _ _ _ _ _ _ (c .before .loop .inv .1 .1) end
 
 pub put-head-spec : {M : Type 1} → statement M
 put-head-spec =
