@@ -25,17 +25,18 @@ use Rattle.search.specs.FirstChecks.{openRefusal, WholeSlots, WholeReque
 use Rattle.search.specs.Calls.{searchOf, opening, Opens, Ends, Runs, Chooses}
 use Rattle.search.specs.declared.state.Ran.{Ran}
 use Rattle.search.specs.declared.state.Opened.{Opened}
-use Rattle.search.specs.Promises.{Passed, PassedSearch, Passes, Handed, Leaves, Called, Reached, picks}
+use Rattle.search.specs.Promises.{Passed, PassedSearch, Passes, Handed, Leaves, Verdict-says, Called, Reached, picks}
 use Rattle.search.specs.declared.state.State.{State}
 use Rattle.search.proofs.FirstPassing.{requests-none, open-is-passed, search-is-passed, run-is-passed}
 use Rattle.search.proofs.Admitting.{search-ready}
 use Rattle.search.proofs.Picking.{picked}
 use Rattle.search.proofs.Reaching.{reached-holds}
 use Rattle.search.specs.Work.Kept.{Shape, Fitting}
-use Rattle.search.proofs.Verdicts.{running-top}
+use Rattle.search.specs.Verdicts.{numberOf, verdictOf}
+use Rattle.search.proofs.Verdicts.{running-top, is-unsolvable, is-solved, unsolvable-if, solved-top, shown, all-instantiated}
 use Rattle.search.proofs.Runs.{run-ind}
 use Rattle.search.proofs.Refusals.{is-none}
-use Rattle.search.proofs.Passing.{step-is, step-passes, run-passes}
+use Rattle.search.proofs.Passing.{step-is, step-passes, run-passes, top-held}
 use Rattle.search.proofs.Shapes.{pieces-regular}
 use Rattle.search.proofs.Encoding.{length-stack, length-stackOf, length-agenda, agenda-back}
 
@@ -241,6 +242,51 @@ chooser-leaves-so n d domains tables before after limit s r handed chooses =
     ends-leaves n d domains tables before after s r _ (choose p room limit (searchOf n before s)) handed chooses (handed .passes)
     (rw as-run (run-passes p room rs (searchOf n before s) (k .passes)))
     (rw as-run (run-shaped n d domains tables room (k .fit) rs (searchOf n before s) (k .passes) (k .shaped)))
+
+-- ---- what the verdict of a call says
+
+none-long : (S : List Subproblem) → length S ≡ 0 → S ≡ []
+none-long [] e = refl
+none-long (P ∷ S) e = absurd (omega (arith, e))
+
+-- A call that leaves the search x with x's verdict says what is so of the agenda it leaves.
+says : (n d : ℕ) (domains tables before after : List ℕ) (x : Search) (r : Ran) → Leaves n d domains tables before after (r .state) x
+    → r .verdict ≡ verdictOf n (x .stack) → Verdict-says n d domains tables after r
+says n d domains tables before after x r left gives =
+    let stack : List Subproblem = stackOf n after (r .state .subproblems) in
+    let same : r .verdict ≡ verdictOf n stack = gives ∙ sym (ap (λ (y : Search). verdictOf n (y .stack)) (left .search)) in
+    let passes = known n d domains tables after (r .state) (left .handed) .passes in
+    let long : length stack ≡ r .state .subproblems = length-stackOf n after (r .state .subproblems) in
+    record {
+      verdict = same;
+      solved = λ k.
+          let (P, S, top, all) = solved-top n stack (sym same ∙ is-solved (r .verdict) k) in
+          let (values, solution) = shown (top-held (problemOf n d domains tables) _ P S (searchOf n after (r .state)) passes top) (all-instantiated n P all) in
+          (P, S, top, solution);
+      unsolvable = (
+        λ k. sym long ∙ ap length (unsolvable-if n stack .0 (sym same ∙ is-unsolvable (r .verdict) k)),
+        λ k. ap numberOf (same ∙ unsolvable-if n stack .1 (none-long stack (long ∙ k))),
+      );
+    }
+
+-- the verdict of a call whose first checks pass
+verdict-of : (first n : ℕ) (before after : List ℕ) (s : State) (stopped : Stopped) (r : Ran) → Ends first n before after s stopped r → first ≡ 0
+    → r .verdict ≡ verdictOf n (stopped .search .stack)
+verdict-of first n before after s stopped r ends none = let test : eqb first 0 ≡ true = eq-eqb first 0 none in rw test at (ends .verdict)
+
+pub run-says-so : (n d : ℕ) (domains tables before after requests : List ℕ) (s : State) (r : Ran) → Handed n d domains tables before s
+    → WholeRequests n (length requests) → Runs n d domains tables before after requests s r → Verdict-says n d domains tables after r
+run-says-so n d domains tables before after requests s r handed whole runs =
+    says n d domains tables before after _ r (run-leaves-so n d domains tables before after requests s r handed runs .0 whole)
+    (verdict-of _ n before after s _ r runs
+    (run-is-passed n d domains tables before (s .counts .steps .0) (s .counts .checks .0) (s .subproblems) requests
+    .1 (known n d domains tables before s handed .passed, whole)))
+
+pub chooser-says-so : (n d : ℕ) (domains tables before after : List ℕ) (limit : ℕ) (s : State) (r : Ran) → Handed n d domains tables before s
+    → Chooses n d domains tables before after limit s r → Verdict-says n d domains tables after r
+chooser-says-so n d domains tables before after limit s r handed chooses =
+    says n d domains tables before after _ r (chooser-leaves-so n d domains tables before after limit s r handed chooses)
+    (verdict-of _ n before after s _ r chooses (handed .passes))
 
 -- ---- opening
 

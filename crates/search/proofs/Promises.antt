@@ -7,13 +7,13 @@ use Prim.Native.Nat.{ℕ}
 use native.Mathlib.Omega.{arith}
 use lib.ListN.{getD}
 use Rattle.search.specs.Agenda.{problemOf}
-use Rattle.search.specs.Verdicts.{finished}
+use Rattle.search.specs.Verdicts.{finished, numberOf, verdictOf}
 use Rattle.search.specs.Runs.{Stopped}
 use Rattle.search.specs.Calls.{Ends}
 use Rattle.search.specs.declared.state.State.{State}
 use Rattle.search.specs.declared.state.Ran.{Ran}
 use Rattle.search.specs.Cases.{cases}
-use Rattle.search.specs.Promises.{Open-one, Run-one, Choose-one, Unsolvable-if, Solved-if, Running-if, Solved-shows, Refusal-11, Refusal-7, Refusal-8, Refusal-9, Refusal-10, Refusal-12, Refusal-none, Stops, Taken, Takes-none, Two-lists, Picks, Chosen-so, Chosen-accepted, Chooser-refusals, Step-passes, Run-passes, Chooser-passes, Reached-passes, Reached-checks, Reached-solvable, Reached-unsolvable, Reached-steps, Open-leaves, Run-leaves, Chooser-leaves, Called-reached, Ends-so, Marked-cases, Not-only-refuses, Not-always-unsolvable, Not-idle, Not-solved-at-once, Not-invented, Open-refusal-1, Open-refusal-2, Open-refusal-3, Open-refusal-4, Open-refusal-5, Open-refusal-none, Search-refusal-1, Search-refusal-2, Search-refusal-3, Search-refusal-4, Search-refusal-5, Search-refusal-6, Search-refusal-none, Run-refusal-1, Run-refusal-2, Run-refusal-3, Run-refusal-4, Run-refusal-5, Run-refusal-6, Run-refusal-none, Numbers-pass, Lengths-pass, Requests-pass, Problem-pass, Search-pass, Proper-passed, Open-passed, Search-passed, Run-passed, Open-apart, Search-apart, Run-apart, Open-refusal-one, Search-refusal-one, Run-refusal-one}
+use Rattle.search.specs.Promises.{Open-one, Run-one, Choose-one, Unsolvable-if, Solved-if, Running-if, Solved-shows, Refusal-11, Refusal-7, Refusal-8, Refusal-9, Refusal-10, Refusal-12, Refusal-none, Stops, Taken, Takes-none, Two-lists, Picks, Chosen-so, Chosen-accepted, Chooser-refusals, Step-passes, Run-passes, Chooser-passes, Reached-passes, Reached-checks, Reached-solvable, Reached-unsolvable, Reached-steps, Open-leaves, Run-leaves, Chooser-leaves, Handed-passes, Run-says, Chooser-says, Called-reached, Ends-so, Marked-cases, Not-only-refuses, Not-always-unsolvable, Not-idle, Not-solved-at-once, Not-invented, Open-refusal-1, Open-refusal-2, Open-refusal-3, Open-refusal-4, Open-refusal-5, Open-refusal-none, Search-refusal-1, Search-refusal-2, Search-refusal-3, Search-refusal-4, Search-refusal-5, Search-refusal-6, Search-refusal-none, Run-refusal-1, Run-refusal-2, Run-refusal-3, Run-refusal-4, Run-refusal-5, Run-refusal-6, Run-refusal-none, Numbers-pass, Lengths-pass, Requests-pass, Problem-pass, Search-pass, Proper-passed, Open-passed, Search-passed, Run-passed, Open-apart, Search-apart, Run-apart, Open-refusal-one, Search-refusal-one, Run-refusal-one}
 use Rattle.splits.proofs.Refusals.{one}
 use Rattle.search.proofs.Verdicts
 use Rattle.search.proofs.Refusals
@@ -30,13 +30,22 @@ use Rattle.search.proofs.FirstPassing.{numbers-none, lengths-none, requ
 use Rattle.search.proofs.Apart.{apart-open, apart-search, apart-run}
 
 pub unsolvable-if : Unsolvable-if
-unsolvable-if = Verdicts.unsolvable-if
+unsolvable-if n S =
+    let (so, only) = Verdicts.unsolvable-if n S in
+    (λ e. so (Verdicts.is-unsolvable (verdictOf n S) e), λ e. ap numberOf (only e))
 
 pub solved-if : Solved-if
-solved-if = Verdicts.solved-if
+solved-if n P S =
+    let (so, only) = Verdicts.solved-if n P S in
+    (λ e. so (Verdicts.is-solved (verdictOf n (P ∷ S)) e), λ h. ap numberOf (only h))
 
 pub running-if : Running-if
-running-if = Verdicts.running-if
+running-if n S =
+    let (so, only) = Verdicts.running-if n S in (
+      (λ e. let no = so (Verdicts.is-run-on (verdictOf n S) e) in
+          (λ f. no .0 (Verdicts.is-unsolvable (verdictOf n S) f), λ f. no .1 (Verdicts.is-solved (verdictOf n S) f))),
+      (λ h. ap numberOf (only (λ f. h .0 (ap numberOf f), λ f. h .1 (ap numberOf f)))),
+    )
 
 pub solved-shows : Solved-shows
 solved-shows p room s h e =
@@ -127,6 +136,15 @@ run-leaves = HandedOn.run-leaves-so
 
 pub chooser-leaves : Chooser-leaves
 chooser-leaves = HandedOn.chooser-leaves-so
+
+pub handed-passes : Handed-passes
+handed-passes n d domains tables agenda s h = HandedOn.known n d domains tables agenda s h .passes
+
+pub run-says : Run-says
+run-says = HandedOn.run-says-so
+
+pub chooser-says : Chooser-says
+chooser-says = HandedOn.chooser-says-so
 
 pub called-reached : Called-reached
 called-reached = HandedOn.called-so

@@ -16,8 +16,9 @@ use Rattle.splits.proofs.Masks.{single-of}
 use Rattle.splits.proofs.Pieces.{Held}
 use Rattle.splits.proofs.Splitting.{lowest-in}
 use Rattle.splits.proofs.Tests.{true-false, every-at, every-all}
-use Rattle.search.specs.Verdicts.{verdictOf, finished}
-use Rattle.search.specs.declared.state.Verdict.the-variants.{Running, Solved, Unsolvable}
+use Rattle.search.specs.Verdicts.{numberOf, verdictOf, finished}
+use Rattle.search.specs.declared.state.Verdict.{Verdict}
+use Rattle.search.specs.declared.state.Verdict.the-variants.{None, Running, Solved, Unsolvable}
 
 -- Verdicts are told apart.
 pub solved-running : Solved ≡ Running → ⊥
@@ -109,6 +110,26 @@ running-if n (P ∷ S) = go (instantiated n P)
     go : (b : Bool) → (cond b Solved Running ≡ Running) ↔ ((cond b Solved Running ≡ Unsolvable → ⊥) × (cond b Solved Running ≡ Solved → ⊥))
     go true = (λ e. absurd (solved-running e), λ h. absurd (h .1 refl))
     go false = (λ e. (λ f. unsolvable-running (sym f), λ f. solved-running (sym f)), λ h. refl)
+
+-- ---- verdicts by their numbers
+
+pub is-unsolvable : (v : Verdict) → numberOf v ≡ 3 → v ≡ Unsolvable
+is-unsolvable None e = absurd (omega (arith, e))
+is-unsolvable Running e = absurd (omega (arith, e))
+is-unsolvable Solved e = absurd (omega (arith, e))
+is-unsolvable Unsolvable e = refl
+
+pub is-solved : (v : Verdict) → numberOf v ≡ 2 → v ≡ Solved
+is-solved None e = absurd (omega (arith, e))
+is-solved Running e = absurd (omega (arith, e))
+is-solved Solved e = refl
+is-solved Unsolvable e = absurd (omega (arith, e))
+
+pub is-run-on : (v : Verdict) → numberOf v ≡ 1 → v ≡ Running
+is-run-on None e = absurd (omega (arith, e))
+is-run-on Running e = refl
+is-run-on Solved e = absurd (omega (arith, e))
+is-run-on Unsolvable e = absurd (omega (arith, e))
 
 -- ---- what "solved" shows
 

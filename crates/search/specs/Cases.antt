@@ -1,4 +1,4 @@
--- Document 01's marked cases, as one list of data. Specs/Promises.antt states what is proved of each.
+-- Document 01's marked cases, as one list of data. specs/Promises.antt states what is proved of each.
 use mathlib.Core.Bool.{Bool, false, cond, _&&_, _||_}
 use mathlib.Core.List.{List, [], _∷_, map}
 use Prim.Native.Nat.{ℕ, _-_, _^_}
@@ -10,18 +10,16 @@ use Rattle.splits.specs.declared.subproblem.Subproblem.{Subproblem}
 use Rattle.search.specs.Agenda.{holding}
 use Rattle.search.specs.Runs.{Search}
 use Rattle.search.specs.Calls.{opening}
-use Rattle.search.specs.declared.state.Verdict.{Verdict}
-use Rattle.search.specs.declared.state.Verdict.the-variants.{Running, Solved, Unsolvable}
 
 -- The problem: n variables, d values, domains as masks, and the pairs of variables that are to be unequal. The requests. Then what they lead to: the
--- verdict, the stack, top first, by masks in variable order and the instantiated set (bit i for variable i), the sizes, and both counts.
+-- verdict's number, the stack, top first, by masks in variable order and the instantiated set (bit i for variable i), the sizes, and both counts.
 pub record Case : Type 0 where
   pub n : ℕ
   pub d : ℕ
   pub domains : List ℕ
   pub unequal : List (ℕ × ℕ)
   pub requests : List (List ℕ)
-  pub verdict : Verdict
+  pub verdict : ℕ
   pub stack : List (List ℕ × ℕ)
   pub sizes : List ℕ
   pub steps : ℕ
@@ -56,7 +54,7 @@ ring request stack sizes checks = record {
   domains = 7 ∷ 7 ∷ 7 ∷ 7 ∷ [];
   unequal = (0, 1) ∷ (1, 2) ∷ (2, 3) ∷ (3, 0) ∷ [];
   requests = request ∷ [];
-  verdict = Running;
+  verdict = 1;
   stack = stack;
   sizes = sizes;
   steps = 1;
@@ -79,7 +77,7 @@ cases =
       domains = 7 ∷ 7 ∷ 7 ∷ [];
       unequal = (0, 1) ∷ (1, 2) ∷ (2, 0) ∷ [];
       requests = (5 ∷ 0 ∷ 0 ∷ 3 ∷ 3 ∷ 3 ∷ []) ∷ [];
-      verdict = Running;
+      verdict = 1;
       stack = (3 ∷ 3 ∷ 3 ∷ [], 0) ∷ (4 ∷ 7 ∷ 7 ∷ [], 0) ∷ (3 ∷ 4 ∷ 7 ∷ [], 0) ∷ (3 ∷ 3 ∷ 4 ∷ [], 0) ∷ [];
       sizes = 8 ∷ 9 ∷ 6 ∷ 4 ∷ [];
       steps = 1;
@@ -92,7 +90,7 @@ cases =
       domains = 7 ∷ [];
       unequal = [];
       requests = (4 ∷ 0 ∷ 0 ∷ []) ∷ [];
-      verdict = Running;
+      verdict = 1;
       stack = (3 ∷ [], 0) ∷ (4 ∷ [], 0) ∷ [];
       sizes = 2 ∷ 1 ∷ [];
       steps = 1;
@@ -105,7 +103,7 @@ cases =
       domains = 1 ∷ [];
       unequal = [];
       requests = (1 ∷ 0 ∷ 0 ∷ []) ∷ [];
-      verdict = Solved;
+      verdict = 2;
       stack = (1 ∷ [], 1) ∷ [];
       sizes = 1 ∷ [];
       steps = 1;
@@ -118,7 +116,7 @@ cases =
       domains = 0 ∷ [];
       unequal = [];
       requests = [];
-      verdict = Unsolvable;
+      verdict = 3;
       stack = [];
       sizes = [];
       steps = 0;
@@ -131,7 +129,7 @@ cases =
       domains = 1 ∷ 1 ∷ [];
       unequal = (0, 1) ∷ [];
       requests = (2 ∷ 0 ∷ 0 ∷ []) ∷ [];
-      verdict = Unsolvable;
+      verdict = 3;
       stack = [];
       sizes = [];
       steps = 1;
@@ -144,7 +142,7 @@ cases =
       domains = 1 ∷ 3 ∷ [];
       unequal = (0, 1) ∷ [];
       requests = (1 ∷ 0 ∷ 0 ∷ []) ∷ (3 ∷ 1 ∷ 0 ∷ []) ∷ [];
-      verdict = Running;
+      verdict = 1;
       stack = (1 ∷ 2 ∷ [], 1) ∷ [];
       sizes = 1 ∷ [];
       steps = 2;
@@ -157,7 +155,7 @@ cases =
       domains = 1 ∷ 3 ∷ [];
       unequal = (0, 1) ∷ [];
       requests = (1 ∷ 0 ∷ 0 ∷ []) ∷ (3 ∷ 1 ∷ 0 ∷ []) ∷ (1 ∷ 1 ∷ 1 ∷ []) ∷ [];
-      verdict = Solved;
+      verdict = 2;
       stack = (1 ∷ 2 ∷ [], 3) ∷ [];
       sizes = 1 ∷ [];
       steps = 3;
@@ -170,7 +168,7 @@ cases =
       domains = 3 ∷ 3 ∷ 3 ∷ [];
       unequal = (0, 1) ∷ (1, 2) ∷ (2, 0) ∷ [];
       requests = (1 ∷ 0 ∷ 0 ∷ []) ∷ (3 ∷ 1 ∷ 0 ∷ []) ∷ [];
-      verdict = Running;
+      verdict = 1;
       stack = (1 ∷ 2 ∷ 3 ∷ [], 1) ∷ (2 ∷ 3 ∷ 3 ∷ [], 0) ∷ [];
       sizes = 2 ∷ 4 ∷ [];
       steps = 2;

@@ -1,4 +1,5 @@
--- What a search promises, on its stack of subproblems and its two counts. Stated here, proved in proofs/Promises.antt.
+-- What a search promises: first of its stack of subproblems and its two counts, then of lent words and calls.
+-- Stated here, proved in proofs/Promises.antt.
 use mathlib.Core.Path.{_≡_}
 use mathlib.Core.Logic.{_⊎_, _↔_}
 use mathlib.Core.List.{List, List·Memᴰ, [], _∷_, _++_, map}
@@ -14,7 +15,7 @@ use Rattle.splits.specs.Refusals.{Deserves-7, Deserves-8, Deserves-9, Deserves-
 use Rattle.splits.specs.Promises.{Splits, Solvable, One}
 use Rattle.splits.specs.declared.subproblem.Subproblem.{Subproblem}
 use Rattle.search.specs.Agenda.{problemOf, slotsIn, stackOf}
-use Rattle.search.specs.Verdicts.{verdictOf}
+use Rattle.search.specs.Verdicts.{numberOf, verdictOf}
 use Rattle.search.specs.Runs.{Search, Stopped, step, refusalOfRequest, run, requestsIn}
 use Rattle.search.specs.Chooser.{request, chosen, choose}
 use Rattle.search.specs.FirstChecks.{WholeRequests, searchRefusal, Deserves-1, Deserves-2, WholeSlots, Deserves-3, Deserves-3-run, Deserves-4, Deserves-5, Deserves-6, refusalOfNumbers, refusalOfLengths, refusalOfRequests, refusalOfProblem, refusalOfSearch, openRefusal, runRefusal}
@@ -38,17 +39,17 @@ pub record Passes (p : Problem) (room : ℕ) (s : Search) : Type 0 where
 
 -- Unsolvable when the agenda is empty.
 abbrev pub Unsolvable-if : Type 0
-Unsolvable-if = (n : ℕ) (S : List Subproblem) → (verdictOf n S ≡ Unsolvable) ↔ (S ≡ [])
+Unsolvable-if = (n : ℕ) (S : List Subproblem) → (numberOf (verdictOf n S) ≡ 3) ↔ (S ≡ [])
 
 -- Solved when the top subproblem has every variable instantiated.
 abbrev pub Solved-if : Type 0
 Solved-if =
-    (n : ℕ) (P : Subproblem) (S : List Subproblem) → (verdictOf n (P ∷ S) ≡ Solved) ↔ ((i : ℕ) → i < n → Instantiated P i)
+    (n : ℕ) (P : Subproblem) (S : List Subproblem) → (numberOf (verdictOf n (P ∷ S)) ≡ 2) ↔ ((i : ℕ) → i < n → Instantiated P i)
 
 -- Otherwise running.
 abbrev pub Running-if : Type 0
 Running-if =
-    (n : ℕ) (S : List Subproblem) → (verdictOf n S ≡ Running) ↔ ((verdictOf n S ≡ Unsolvable → ⊥) × (verdictOf n S ≡ Solved → ⊥))
+    (n : ℕ) (S : List Subproblem) → (numberOf (verdictOf n S) ≡ 1) ↔ ((numberOf (verdictOf n S) ≡ 3 → ⊥) × (numberOf (verdictOf n S) ≡ 2 → ⊥))
 
 -- A solved search shows a solution of the problem: its top has one value for each variable, and these are one.
 abbrev pub Solved-shows : Type 0
@@ -302,6 +303,32 @@ Chooser-leaves =
     → Leaves n d domains tables before after (r .state)
     (choose (problemOf n d domains tables) (slotsIn n (length before)) limit (searchOf n before s) .search)
 
+-- What is handed on passes, so that what is promised of passing searches holds of it, begun by opening or not.
+abbrev pub Handed-passes : Type 0
+Handed-passes =
+    (n d : ℕ) (domains tables agenda : List ℕ) (s : State) → Handed n d domains tables agenda s
+    → Passes (problemOf n d domains tables) (slotsIn n (length agenda)) (searchOf n agenda s)
+
+-- What the verdict of a call says of the agenda it leaves: solved, that the top slot shows a solution of the problem; unsolvable, exactly that
+-- no subproblem is left.
+pub record Verdict-says (n d : ℕ) (domains tables after : List ℕ) (r : Ran) : Type 0 where
+  pub verdict : r .verdict ≡ verdictOf n (stackOf n after (r .state .subproblems))
+  pub solved : numberOf (r .verdict) ≡ 2
+      → (P : Subproblem) × (S : List Subproblem) × (stackOf n after (r .state .subproblems) ≡ P ∷ S)
+      × Solution n (tableOf n d tables) (λ i. getD domains i 0) (λ i. lowest (domain P i))
+  pub unsolvable : (numberOf (r .verdict) ≡ 3) ↔ (r .state .subproblems ≡ 0)
+
+-- Of a run of whole requests, and of the chooser, on any search that passes the first checks.
+abbrev pub Run-says : Type 0
+Run-says =
+    (n d : ℕ) (domains tables before after requests : List ℕ) (s : State) (r : Ran) → Handed n d domains tables before s
+    → WholeRequests n (length requests) → Runs n d domains tables before after requests s r → Verdict-says n d domains tables after r
+
+abbrev pub Chooser-says : Type 0
+Chooser-says =
+    (n d : ℕ) (domains tables before after : List ℕ) (limit : ℕ) (s : State) (r : Ran) → Handed n d domains tables before s
+    → Chooses n d domains tables before after limit s r → Verdict-says n d domains tables after r
+
 -- The words and states that opening and any number of calls lead to, each call handed what the one before it left.
 pub data Called (n d : ℕ) (domains tables : List ℕ) : List ℕ → State → Type 0 where
   opened : {before after : List ℕ} {r : Opened} → Opens n d domains tables before after r → r .refusal ≡ 0
@@ -311,7 +338,7 @@ pub data Called (n d : ℕ) (domains tables : List ℕ) : List ℕ → State →
   chose : {before after : List ℕ} {s : State} {r : Ran} → Called n d domains tables before s → (limit : ℕ)
       → Chooses n d domains tables before after limit s r → Called n d domains tables after (r .state)
 
--- They pass the first checks of every call, and hold a reached search of a proper problem.
+-- They pass the first checks of every call (of a run, with whole requests), and hold a reached search of a proper problem.
 abbrev pub Called-reached : Type 0
 Called-reached =
     (n d : ℕ) (domains tables agenda : List ℕ) (s : State) → Called n d domains tables agenda s
@@ -324,7 +351,7 @@ Called-reached =
 pub record Ends-so (c : Case) : Type 0 where
   pub stops : run (problemIn c) 512 (c .requests) (openingOf c)
       ≡ record { search = record { stack = expected c; steps = c .steps; checks = c .checks }; refusal = 0; taken = length (c .requests) }
-  pub verdict : verdictOf (c .n) (expected c) ≡ c .verdict
+  pub verdict : numberOf (verdictOf (c .n) (expected c)) ≡ c .verdict
   pub sizes : map (sizeOf (c .n)) (expected c) ≡ c .sizes
 
 -- Every one of 01's marked cases does.

@@ -7,13 +7,14 @@ use Rattle.splits.specs.declared.subproblem.Subproblem.{Subproblem}
 use Rattle.search.specs.declared.state.Verdict.{Verdict}
 use Rattle.search.specs.declared.state.Verdict.the-variants.{None, Running, Solved, Unsolvable}
 
+-- Their numbers, as the C header has them; the promises use them.
 abbrev pub numberOf : Verdict → ℕ
 numberOf None = 0
 numberOf Running = 1
 numberOf Solved = 2
 numberOf Unsolvable = 3
 
--- In ASCII: none, running, solved, unsolvable.
+-- Their words in ASCII, for the program: none, running, solved, unsolvable.
 abbrev pub wordOf : Verdict → List ℕ
 wordOf None = 110 ∷ 111 ∷ 110 ∷ 101 ∷ []
 wordOf Running = 114 ∷ 117 ∷ 110 ∷ 110 ∷ 105 ∷ 110 ∷ 103 ∷ []

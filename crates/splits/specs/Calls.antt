@@ -69,11 +69,12 @@ abbrev pub Precluded-empty : Subproblem → ℕ → ℕ → List ℕ → ℕ →
 Precluded-empty P n d tables variable value r =
     r ≡ empty n (cond (inside n d tables variable value) (precluded n (tableOf n d tables) P variable value) P)
 
--- How many pieces the kind of a request can name; 0 for more than 32 variables.
+-- How many places the kind of a request has; 0 for more than 32 variables.
 abbrev pub Candidates : ℕ → List ℕ → ℕ → Type 0
 Candidates n request r = r ≡ cond (leb n 32) (candidates n request) 0
 
--- The k-th piece. Where there is none, or the words do not fit, the subproblem comes back as it is.
+-- What stands in the k-th place: a piece, or a subproblem with V's domain empty. Past the last place, or where the words do not fit, the
+-- subproblem comes back as it is.
 abbrev pub Piece : Subproblem → ℕ → ℕ → List ℕ → List ℕ → ℕ → Subproblem → Type 0
 Piece P n d tables request k r =
     r ≡ cond (readable n d tables request && ltb k (candidates n request)) (candidate n (tableOf n d tables) P request k) P

@@ -113,12 +113,14 @@ unfoldable pub pieces : ℕ → Table → Subproblem → List ℕ → List Subpr
 unfolding filled
 pieces n allowed P r = filled n (named n allowed P r)
 
--- How many pieces the kind of a request can name.
+-- For the call that makes pieces one by one: document 01's splits end above.
+
+-- How many places the kind of a request has, from 0 on; some of them may stay empty.
 unfoldable pub candidates : ℕ → List ℕ → ℕ
 candidates n r = byKind (kindOf r) 2 2 (n + 1) 2 (n + 1) 0
 
--- The k-th of them, from 0, kind by kind. What is not named (kind 1 (a) where v is forbidden, kind 3's for V itself) is a
--- subproblem with V's domain empty, so that the pieces placed are all these in order, empty ones dropped.
+-- What stands in the k-th place, kind by kind. A place that names no piece (kind 1 (a) where v is forbidden, kind 3's for V itself) has
+-- V's domain empty, so that the pieces placed are all these in order, empty ones dropped (One-by-one).
 unfoldable pub backtracked : ℕ → Table → Subproblem → ℕ → ℕ → ℕ → Subproblem
 backtracked n allowed P V′ v k =
     cond (eqb k 0) (cond (forbidden n allowed P V′ v) (cut P V′ 0) (instantiate P V′ v)) (without P V′ (single v))
