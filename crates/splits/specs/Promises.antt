@@ -94,7 +94,7 @@ Smaller-half-of =
     → Part (smallerHalf m) m × (size (smallerHalf m) ≡ (size m + 1) / 2)
     × ((u v : ℕ) → u ∈ smallerHalf m → v ∈ m → (v ∈ smallerHalf m → ⊥) → u < v)
 
--- The candidates that the code makes one by one are the split's pieces in order, those that are not placed being empty.
+-- What stands in the places, made one by one, is the split's pieces in order, with empty subproblems in the places that name none.
 abbrev pub One-by-one : Type 0
 One-by-one =
     (n d : ℕ) (allowed : Table) (P : Subproblem) (r : List ℕ) → Accepted n d P r
@@ -230,11 +230,11 @@ Precluded-one = (P : Subproblem) (n d : ℕ) (tables : List ℕ) (variable value
 abbrev pub Precluded-empty-one : Type 0
 Precluded-empty-one = (P : Subproblem) (n d : ℕ) (tables : List ℕ) (variable value : ℕ) → One (Precluded-empty P n d tables variable value)
 
--- How many pieces the kind of a request can name.
+-- How many places the kind of a request has.
 abbrev pub Candidates-one : Type 0
 Candidates-one = (n : ℕ) (request : List ℕ) → One (Candidates n request)
 
--- A piece of a request.
+-- What stands in the k-th place of a request.
 abbrev pub Piece-one : Type 0
 Piece-one = (P : Subproblem) (n d : ℕ) (tables request : List ℕ) (k : ℕ) → One (Piece P n d tables request k)
 
