@@ -22,6 +22,7 @@ pub mod AgreeingRuns
 pub mod Requests
 pub mod Reaching
 pub mod Diagonal
+pub mod LoadLeaves
 pub mod Back
 pub mod Cut
 pub mod Widening

@@ -6,6 +6,8 @@ use lib.ListN.{length}
 use Rattle.files.specs.Blocks.{blocksFor, carried, onesSum, checkOf}
 use Rattle.files.specs.Content.{contentOf}
 use Rattle.files.specs.Promises.{
+  N-one,
+  D-one,
   Check-of-one,
   RFC-1071,
   Blocks-whole,
@@ -17,6 +19,7 @@ use Rattle.files.specs.Promises.{
   Load-after-save,
   Save-after-load,
   Loaded-passes,
+  Load-leaves,
   Loads-back,
   Saves-back,
   Largest,
@@ -67,6 +70,7 @@ use Rattle.files.proofs.Passing
 use Rattle.files.proofs.Refusals
 use Rattle.files.proofs.Diagonal
 use Rattle.files.proofs.Cut as Cutting
+use Rattle.files.proofs.LoadLeaves
 use Rattle.files.proofs.Back
 use Rattle.files.proofs.Widening
 use Rattle.files.proofs.OneOutcome
@@ -100,6 +104,9 @@ pub loaded-passes : Loaded-passes
 loaded-passes file domains tables agenda bytes e =
     let t = Loading.load-taken file (length domains) (length tables) (length agenda) e in
     Passing.passing-search _ _ _ _ _ _ _ _ (Loading.said-passing file (t .accepts) bytes (length agenda) (t .lengths .slots) (t .room))
+
+pub load-leaves : Load-leaves
+load-leaves = LoadLeaves.load-leaves
 
 pub loads-back : Loads-back
 loads-back = Back.loads-back
@@ -194,6 +201,12 @@ cut-any n d domains tables agenda s requests more words short e w v t =
     let h = Passing.search-passing n d domains tables agenda (s .counts .steps .0) (s .counts .checks .0) (s .subproblems) e in
     Cutting.same-end n d domains tables agenda s requests more short h
     (λ P m. let c = Saving.stack-canonical n d domains tables agenda s words h P m in record { entries = c .entries; past = c .past }) w v t
+
+pub n-one : N-one
+n-one file = one _
+
+pub d-one : D-one
+d-one file = one _
 
 pub check-of-one : Check-of-one
 check-of-one block = one _

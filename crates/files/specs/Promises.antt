@@ -14,7 +14,7 @@ use Rattle.search.specs.FirstChecks.{WholeSlots, WholeRequests, Deserves-3, sea
 use Rattle.search.specs.Runs.{Search, run}
 use Rattle.search.specs.Chooser.{choose}
 use Rattle.search.specs.Calls.{opening, searchOf, Opens, Runs, Chooses}
-use Rattle.search.specs.Promises.{Passes, Reached, Has-solution}
+use Rattle.search.specs.Promises.{Passes, Handed, Reached, Has-solution}
 use Rattle.search.specs.Verdicts.{verdictOf}
 use Rattle.search.specs.declared.state.Verdict.the-variants.{Unsolvable}
 use Rattle.search.specs.declared.state.State.{State}
@@ -105,6 +105,21 @@ Loaded-passes =
     (file domains tables agenda : List ℕ) → Bytes file → loadRefusal file (length domains) (length tables) (length agenda) ≡ 0
     → searchRefusal (saidN file) (saidD file) (saidDomains file) (tableWords (saidN file) (saidD file) (saidAllowed file))
     (agendaOf (saidN file) (length agenda) (saidSearch file .stack)) (saidSteps file) (saidChecks file) (saidSubproblems file) ≡ 0
+
+-- What an accepted load leaves: the problem and the search that the file says, in an agenda as long as before; handed on they pass.
+pub record Left-by-load (file agenda domains′ tables′ agenda′ : List ℕ) (r : Loaded) : Type 0 where
+  pub its-n : r .n ≡ saidN file
+  pub its-d : r .d ≡ saidD file
+  pub its-domains : domains′ ≡ saidDomains file
+  pub its-tables : tables′ ≡ tableWords (saidN file) (saidD file) (saidAllowed file)
+  pub handed : Handed (r .n) (r .d) domains′ tables′ agenda′ (r .state)
+  pub search : searchOf (r .n) agenda′ (r .state) ≡ saidSearch file
+  pub length-kept : length agenda′ ≡ length agenda
+
+abbrev pub Load-leaves : Type 0
+Load-leaves =
+    (file domains domains′ tables tables′ agenda agenda′ : List ℕ) (r : Loaded) → Bytes file → Loads file domains domains′ tables tables′ agenda agenda′ r
+    → r .refusal ≡ 0 → Left-by-load file agenda domains′ tables′ agenda′ r
 
 -- The same of the calls. What load gives back of a search saved: nothing is refused, n, d, the domains, what two different variables allow, and the
 -- search in memory are as they were handed to save.
@@ -387,6 +402,13 @@ Cut-any =
     → searchRefusal n d domains tables agenda (s .counts .steps .0) (s .counts .checks .0) (s .subproblems) ≡ 0
     → WholeRequests n (length requests) → WholeRequests n (length more)
     → (t : Trip n d domains tables agenda s requests more) → Same-end t
+
+-- The number of variables that a file says is one number, and that of values.
+abbrev pub N-one : Type 0
+N-one = (file : List ℕ) → One (λ r. r ≡ saidN file)
+
+abbrev pub D-one : Type 0
+D-one = (file : List ℕ) → One (λ r. r ≡ saidD file)
 
 -- The check of a block is one number.
 abbrev pub Check-of-one : Type 0

@@ -14,14 +14,14 @@ ghost use Rattle.files.specs.Reading.{contentWord, saidN, saidD, saidSte
 ghost use Rattle.files.specs.Work.Said.{Numbers, Pair, maskIn, mirroredIn, allowedIn, domainsSaid, StateSaid};
 
 // The number of variables.
-pub(crate) fn n(file: &[u8]) -> usize
+pub fn n(file: &[u8]) -> usize
     ensures { λ r. ⌜ r ≡ saidN (now (file .entry)) ⌝ }
 {
     block::content_word(file, 0) as usize
 }
 
 // The number of values.
-pub(crate) fn d(file: &[u8]) -> usize
+pub fn d(file: &[u8]) -> usize
     ensures { λ r. ⌜ r ≡ saidD (now (file .entry)) ⌝ }
 {
     block::content_word(file, 1) as usize

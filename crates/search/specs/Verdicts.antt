@@ -2,6 +2,8 @@
 use mathlib.Core.Bool.{Bool, cond}
 use mathlib.Core.List.{List, [], _∷_}
 use Prim.Native.Nat.{ℕ}
+use Prim.Native.Char.{code}
+use Prim.Native.String.{String, [] as []ᵗ, _∷_ as _∷ᵗ_}
 use Rattle.splits.specs.Subproblems.{instantiated}
 use Rattle.splits.specs.declared.subproblem.Subproblem.{Subproblem}
 use Rattle.search.specs.declared.state.Verdict.{Verdict}
@@ -14,12 +16,17 @@ numberOf Running = 1
 numberOf Solved = 2
 numberOf Unsolvable = 3
 
--- Their words in ASCII, for the program: none, running, solved, unsolvable.
-abbrev pub wordOf : Verdict → List ℕ
-wordOf None = 110 ∷ 111 ∷ 110 ∷ 101 ∷ []
-wordOf Running = 114 ∷ 117 ∷ 110 ∷ 110 ∷ 105 ∷ 110 ∷ 103 ∷ []
-wordOf Solved = 115 ∷ 111 ∷ 108 ∷ 118 ∷ 101 ∷ 100 ∷ []
-wordOf Unsolvable = 117 ∷ 110 ∷ 115 ∷ 111 ∷ 108 ∷ 118 ∷ 97 ∷ 98 ∷ 108 ∷ 101 ∷ []
+-- The bytes of a text in ASCII.
+unfoldable pub ascii : String → List ℕ
+ascii []ᵗ = []
+ascii (c ∷ᵗ text) = code c ∷ ascii text
+
+-- Their words, which the program prints.
+unfoldable pub wordOf : Verdict → List ℕ
+wordOf None = ascii "none"
+wordOf Running = ascii "running"
+wordOf Solved = ascii "solved"
+wordOf Unsolvable = ascii "unsolvable"
 
 -- Solved when the top subproblem has every variable instantiated, unsolvable when the agenda is empty, and otherwise running.
 unfoldable pub verdictOf : ℕ → List Subproblem → Verdict

@@ -1,0 +1,65 @@
+-- How long the lines of a text are.
+-- Assumes nothing.
+use native.Mathlib.Omega.{arith}
+use mathlib.Core.Path.{_≡_}
+use mathlib.Core.List.{List, [], _∷_, _++_}
+use Prim.Native.Nat.{ℕ, zero, suc, _+_, _*_, _^_, _≤_, _<_}
+use lib.ListN.{length, length-append}
+use lib.Count.{trailing-le}
+use Rattle.splits.specs.Masks.{lowest}
+use Rattle.splits.specs.Subproblems.{domain}
+use Rattle.splits.specs.Splits.{below}
+use Rattle.splits.specs.declared.subproblem.Subproblem.{Subproblem}
+use Rattle.search.specs.Verdicts.{ascii, wordOf}
+use Rattle.search.specs.declared.state.Verdict.{Verdict}
+use Rattle.search.specs.declared.state.Verdict.the-variants.{None, Running, Solved, Unsolvable}
+use Rattle.files.specs.Content.{each}
+use Rattle.files.proofs.Lists.{each-more, each-none}
+use Rattle.answer.specs.Text.{decimal, verdictLine, countsLine, planLine, refusedLine}
+use Rattle.answer.proofs.Decimals.{two-digits, twenty-digits}
+
+pub both-short : (a b : List ℕ) (x y : ℕ) → length a ≤ x → length b ≤ y → length (a ++ b) ≤ x + y
+both-short a b x y h k = let e = length-append a b in omega (arith, e, h, k)
+
+pub verdict-short : (v : Verdict) → length (verdictLine v) ≤ 11
+unfolding verdictLine wordOf ascii
+verdict-short None = omega arith
+verdict-short Running = omega arith
+verdict-short Solved = omega arith
+verdict-short Unsolvable = omega arith
+
+line-end : length (ascii "\n") ≤ 1
+unfolding ascii
+line-end = omega arith
+
+pub counts-short : (steps checks : ℕ) → steps < 2 ^ 64 → checks < 2 ^ 64 → length (countsLine steps checks) ≤ 55
+unfolding countsLine ascii
+counts-short steps checks h k =
+    let first = both-short (ascii "steps ") (decimal steps) 6 20 (omega arith) (twenty-digits steps h) in
+    let second = both-short (ascii "steps " ++ decimal steps) (ascii " checks ") 26 8 first (omega arith) in
+    let third = both-short (ascii "steps " ++ decimal steps ++ ascii " checks ") (decimal checks) 34 20 second (twenty-digits checks k) in
+    both-short (ascii "steps " ++ decimal steps ++ ascii " checks " ++ decimal checks) (ascii "\n") 54 1 third line-end
+
+pub refused-short : (refusal : ℕ) → refusal < 2 ^ 64 → length (refusedLine refusal) ≤ 29
+unfolding refusedLine ascii
+refused-short refusal h =
+    both-short (ascii "refused " ++ decimal refusal) (ascii "\n") 28 1
+    (both-short (ascii "refused ") (decimal refusal) 8 20 (omega arith) (twenty-digits refusal h)) line-end
+
+line-short : (P : Subproblem) (i : ℕ) → i < 100 → length (planLine P i) ≤ 6
+unfolding planLine ascii
+line-short P i h =
+    let value : lowest (domain P i) ≤ 16 = trailing-le 16 (domain P i) in
+    let first = both-short (decimal i) (ascii " ") 2 1 (two-digits i h) (omega arith) in
+    let second = both-short (decimal i ++ ascii " ") (decimal (lowest (domain P i))) 3 2 first (two-digits (lowest (domain P i)) (omega (arith, value))) in
+    both-short (decimal i ++ ascii " " ++ decimal (lowest (domain P i))) (ascii "\n") 5 1 second line-end
+
+plan-short : (P : Subproblem) (n : ℕ) → n ≤ 32 → length (each (planLine P) (below n)) ≤ n * 6
+plan-short P zero h = rw (each-none (planLine P)) (omega arith)
+plan-short P (suc n) h =
+    rw (each-more (planLine P) n)
+    (let both = both-short (each (planLine P) (below n)) (planLine P n) (n * 6) 6 (plan-short P n (omega (arith, h))) (line-short P n (omega (arith, h))) in
+    omega (arith, both))
+
+pub plan-room : (P : Subproblem) (n : ℕ) → n ≤ 32 → length (each (planLine P) (below n)) ≤ 400
+plan-room P n h = let short = plan-short P n h in omega (arith, short, h)

@@ -1,0 +1,123 @@
+-- `answer::answer_to` meets its contract.
+-- Assumes nothing.
+use native.Mathlib.Omega.{arith}
+use mathlib.Core.Path.{_∙_}
+use Rattle.answer.proofs.Lending.{pairs-few, masks-few, part-length, lent}
+use borrow.Author.Needs.{needs}
+use Rattle.answer.proofs.answer_to.Statement.{statement}
+use Rattle.answer.proofs.answer_to.Tie as tie
+use Rattle.answer.proofs.answer_to.Reads as reads
+use Rattle.answer.proofs.answer_to.Lts as lts
+use Rattle.answer.proofs.answer_in.Reads as answer-in-reads
+use Rattle.answer.proofs.at_most.Reads as at-most-reads
+use Rattle.answer.proofs.room_for_agenda.Reads as room-for-agenda-reads
+use Rattle.answer.proofs.room_for_domains.Reads as room-for-domains-reads
+use Rattle.answer.proofs.room_for_tables.Reads as room-for-tables-reads
+use Rattle.files.proofs.said.d.Reads as d-reads
+use Rattle.files.proofs.said.n.Reads as n-reads
+
+-- src/lib.rt:53:21
+n-requires : tie.Need-n-requires
+n-requires c κs = search needs
+
+-- src/lib.rt:53:9
+at-most-requires : tie.Need-at-most-requires
+at-most-requires c κs = search needs
+
+-- src/lib.rt:54:21
+d-requires : tie.Need-d-requires
+d-requires c κs = search needs
+
+-- src/lib.rt:54:9
+at-most-requires-2 : tie.Need-at-most-requires-2
+at-most-requires-2 c κs = search needs
+
+-- src/lib.rt:55:17
+mul-masks : tie.Need-mul-masks
+mul-masks c = let few = pairs-few _ (c .before .before .at-most .ensures .1) in search (needs, few)
+
+-- src/lib.rt:55:17
+mul-masks-2 : tie.Need-mul-masks-2
+mul-masks-2 c = let few = masks-few _ _ (c .before .before .at-most .ensures .1) (c .at-most2 .ensures .1) in search (needs, few)
+
+-- src/lib.rt:56:24
+add-slots : tie.Need-add-slots
+add-slots c = search needs
+
+-- src/lib.rt:56:17
+mul-slots : tie.Need-mul-slots
+mul-slots c = search needs
+
+-- src/lib.rt:57:23
+room-for-domains-requires : tie.Need-room-for-domains-requires
+room-for-domains-requires c κs = search needs
+
+-- src/lib.rt:58:22
+room-for-tables-requires : tie.Need-room-for-tables-requires
+room-for-tables-requires c κs = search needs
+
+-- src/lib.rt:59:22
+room-for-agenda-requires : tie.Need-room-for-agenda-requires
+room-for-agenda-requires c κs = search needs
+
+-- src/lib.rt:62:9
+array-borrow-prefix-domains : tie.Need-array-borrow-prefix-domains
+array-borrow-prefix-domains c = search needs
+
+-- src/lib.rt:62:9
+slice-aggregate-answer-in : tie.Need-slice-aggregate-answer-in
+slice-aggregate-answer-in c = part-length _ 32 _ (c .before .before .before .room-for-domains .ensures) (c .before .before .before .before .before .before .at-most .ensures .1)
+
+-- src/lib.rt:63:9
+array-borrow-prefix-tables : tie.Need-array-borrow-prefix-tables
+array-borrow-prefix-tables c = let few = masks-few _ _ (c .before .before .before .before .before .before .at-most .ensures .1) (c .before .before .before .before .at-most2 .ensures .1) in search (needs, few)
+
+-- src/lib.rt:63:9
+slice-aggregate-answer-in-2 : tie.Need-slice-aggregate-answer-in-2
+slice-aggregate-answer-in-2 c = part-length _ 16384 _ (c .before .before .before .room-for-tables .ensures) (masks-few _ _ (c .before .before .before .before .before .before .before .at-most .ensures .1) (c .before .before .before .before .before .at-most2 .ensures .1))
+
+-- src/lib.rt:64:9
+array-borrow-prefix-agenda : tie.Need-array-borrow-prefix-agenda
+array-borrow-prefix-agenda c = search needs
+
+-- src/lib.rt:64:9
+slice-aggregate-answer-in-3 : tie.Need-slice-aggregate-answer-in-3
+slice-aggregate-answer-in-3 c = let few = c .before .before .before .before .before .before .before .before .at-most .ensures .1 in part-length _ 17408 _ (c .before .before .before .room-for-agenda .ensures) (omega (arith, few))
+
+-- src/lib.rt:60:5
+answer-in-requires : tie.Need-answer-in-requires
+answer-in-requires c κs =
+    let n-is = c .before .before .before .before .before .before .before .before .before .n .ensures in
+    let d-is = c .before .before .before .before .before .before .before .d .ensures in
+    lent (c .before .before .before .before .before .before .before .before .before .before .before .args .file .now) (c .before .before .before .before .before .before .before .before .at-most .result) (c .before .before .before .before .before .before .at-most2 .result) (c .before .before .before .before .before .room-for-domains .result) (c .before .before .before .before .room-for-tables .result) (c .before .before .before .room-for-agenda .result)
+    (λ h. c .before .before .before .before .before .before .before .before .at-most .ensures .0 (omega (arith, n-is, h)) ∙ n-is) (λ h. c .before .before .before .before .before .before .at-most2 .ensures .0 (omega (arith, d-is, h)) ∙ d-is)
+    (c .before .before .before .before .before .before .before .before .at-most .ensures .1) (c .before .before .before .before .before .before .at-most2 .ensures .1)
+    (c .before .before .before .before .before .room-for-domains .ensures) (c .before .before .before .before .room-for-tables .ensures) (c .before .before .before .room-for-agenda .ensures)
+
+-- src/lib.rt:50:1
+returns : tie.Need-returns
+returns c = c .before .before .before .answer-in .ensures
+
+pub answer-to-spec : {M : Type 1} → statement M
+answer-to-spec =
+    tie.close
+    (tie.spec
+    n-requires
+    at-most-requires
+    d-requires
+    at-most-requires-2
+    mul-masks
+    mul-masks-2
+    add-slots
+    mul-slots
+    room-for-domains-requires
+    room-for-tables-requires
+    room-for-agenda-requires
+    array-borrow-prefix-domains
+    slice-aggregate-answer-in
+    array-borrow-prefix-tables
+    slice-aggregate-answer-in-2
+    array-borrow-prefix-agenda
+    slice-aggregate-answer-in-3
+    answer-in-requires
+    returns)

@@ -1,0 +1,54 @@
+-- `answer::text::Text::with_value` meets its contract.
+-- Assumes nothing.
+use mathlib.Core.Path.{ap}
+use Rattle.search.specs.Verdicts.{ascii}
+use Rattle.answer.specs.Text.{decimal}
+use Rattle.answer.specs.Work.Writing.{valueLine}
+use Rattle.answer.proofs.Writing.{adds-both, adds-same}
+use borrow.Author.Needs.{needs}
+use Rattle.answer.proofs.text.Text.with_value.Statement.{statement}
+use Rattle.answer.proofs.text.Text.with_value.Tie as tie
+use Rattle.answer.proofs.text.Text.with_value.Reads as reads
+use Rattle.answer.proofs.text.Text.with_value.Lts as lts
+use Rattle.answer.proofs.text.Text.with_byte.Reads as with-byte-reads
+use Rattle.answer.proofs.text.Text.with_number.Reads as with-number-reads
+use Rattle.splits.proofs.mask.first.Reads as first-reads
+
+-- src/text.rt:99:20
+with-number-requires : tie.Need-with-number-requires
+with-number-requires c κs = search needs
+
+-- src/text.rt:99:13
+with-byte-requires : tie.Need-with-byte-requires
+with-byte-requires c κs = search needs
+
+-- src/text.rt:100:26
+first-requires : tie.Need-first-requires
+first-requires c κs = search needs
+
+-- src/text.rt:100:9
+with-number-requires-2 : tie.Need-with-number-requires-2
+with-number-requires-2 c κs = search needs
+
+-- src/text.rt:100:9
+with-byte-requires-2 : tie.Need-with-byte-requires-2
+with-byte-requires-2 c κs = search needs
+
+-- src/text.rt:96:5
+returns : tie.Need-returns
+unfolding valueLine ascii
+returns c =
+    let value = adds-same _ _ _ _ (ap decimal (c .before .before .first .ensures)) (c .before .with-number2 .ensures) in
+    let both = adds-both _ _ _ _ _ (adds-both _ _ _ _ _ (c .before .before .before .before .with-number .ensures) (c .before .before .before .with-byte .ensures)) value in
+    adds-both _ _ _ _ _ both (c .with-byte2 .ensures)
+
+pub with-value-spec : {M : Type 1} → statement M
+with-value-spec =
+    tie.close
+    (tie.spec
+    with-number-requires
+    with-byte-requires
+    first-requires
+    with-number-requires-2
+    with-byte-requires-2
+    returns)

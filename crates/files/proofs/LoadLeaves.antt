@@ -1,0 +1,64 @@
+-- What an accepted load leaves in lent memory, handed on.
+-- Assumes nothing.
+use native.Mathlib.Omega.{arith}
+use mathlib.Core.Path.{_≡_, refl, sym, ap, _∙_}
+use mathlib.Core.Bool.{true}
+use mathlib.Core.List.{List, List·Memᴰ}
+use Prim.Native.Nat.{ℕ, _+_, _*_, _^_, _≤_, _<_}
+use lib.ListN.{length, getD}
+use lib.Dec.{eqb}
+use borrow.Author.Tests.{eq-eqb}
+use Rattle.splits.specs.declared.subproblem.Subproblem.{Subproblem}
+use Rattle.search.specs.Agenda.{stackOf, agendaOf}
+use Rattle.search.specs.Work.Kept.{Shape}
+use Rattle.search.proofs.HandedOn.{Shaped, agenda-small}
+use Rattle.files.specs.Reading.{contentWord, saidN, saidD, saidSteps, saidChecks, saidSubproblems, saidDomains, saidAllowed, saidSearch, tableWords}
+use Rattle.files.specs.Calls.{loadRefusal, Loads}
+use Rattle.files.specs.Promises.{Bytes, Canonical, Left-by-load}
+use Rattle.files.specs.declared.saved.Loaded.{Loaded}
+use Rattle.files.proofs.Loading.{load-taken, memory-length, memory-read, said-passing}
+use Rattle.files.proofs.Passing.{passing-search}
+use Rattle.files.proofs.RoundTrip.{said-canonical, content-word}
+
+-- A subproblem as memory holds it has the shape of a slot.
+canonical-shape : (n : ℕ) (P : Subproblem) → Canonical n P → Shape n 16 P
+canonical-shape n P c = record { long = c .entries; masks = c .masks; past = c .past; marks = c .marks }
+
+pub load-leaves : (file domains domains′ tables tables′ agenda agenda′ : List ℕ) (r : Loaded) → Bytes file
+    → Loads file domains domains′ tables tables′ agenda agenda′ r → r .refusal ≡ 0 → Left-by-load file agenda domains′ tables′ agenda′ r
+load-leaves file domains domains′ tables tables′ agenda agenda′ r bytes loads accepted =
+    let none : loadRefusal file (length domains) (length tables) (length agenda) ≡ 0 = sym (loads .refusal) ∙ accepted in
+    let test : eqb (loadRefusal file (length domains) (length tables) (length agenda)) 0 ≡ true = eq-eqb _ 0 none in
+    let t = load-taken file (length domains) (length tables) (length agenda) none in
+    let n-is : r .n ≡ saidN file = rw test at (loads .its-n) in
+    let d-is : r .d ≡ saidD file = rw test at (loads .its-d) in
+    let domains-are : domains′ ≡ saidDomains file = rw test at (loads .its-domains) in
+    let tables-are : tables′ ≡ tableWords (saidN file) (saidD file) (saidAllowed file) = rw test at (loads .its-tables) in
+    let agenda-is : agenda′ ≡ agendaOf (saidN file) (length agenda) (saidSearch file .stack) = rw test at (loads .its-agenda) in
+    let steps-are : r .state .counts .steps .0 ≡ saidSteps file = rw test at (loads .steps) in
+    let checks-are : r .state .counts .checks .0 ≡ saidChecks file = rw test at (loads .checks) in
+    let count-is : r .state .subproblems ≡ saidSubproblems file = rw test at (loads .subproblems) in
+    let shaped : Shaped (saidN file) 16 (saidSearch file .stack) = λ P m. canonical-shape (saidN file) P (said-canonical file bytes (t .accepts .variables) P m) in
+    let passes = passing-search _ _ _ _ _ _ _ _ (said-passing file (t .accepts) bytes (length agenda) (t .lengths .slots) (t .room)) in
+    let high = content-word file bytes 2 in
+    let low = content-word file bytes 3 in
+    record {
+      its-n = n-is;
+      its-d = d-is;
+      its-domains = domains-are;
+      its-tables = tables-are;
+      handed = record {
+        words = rw agenda-is (agenda-small (saidN file) 16 (length agenda) (saidSearch file .stack) (omega arith) shaped);
+        stepped = rw steps-are (omega (arith, high, low));
+        passes = rw (n-is, d-is, domains-are, tables-are, agenda-is, steps-are, checks-are, count-is) passes;
+      };
+      search = λ i. record {
+        stack = (ap (λ k. stackOf k agenda′ (r .state .subproblems)) n-is
+            ∙ ap (λ l. stackOf (saidN file) l (r .state .subproblems)) agenda-is
+            ∙ ap (stackOf (saidN file) (agendaOf (saidN file) (length agenda) (saidSearch file .stack))) count-is
+            ∙ memory-read file (t .accepts) bytes (length agenda) (t .lengths .slots) (t .room)) i;
+        steps = steps-are i;
+        checks = checks-are i;
+      };
+      length-kept = ap length agenda-is ∙ memory-length file (t .accepts) bytes (length agenda) (t .lengths .slots) (t .room);
+    }
