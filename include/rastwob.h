@@ -1,0 +1,152 @@
+/* rastwob.h: the planner for delivery windows, for C.
+ *
+ * A path is a variable, a window a value. There are n paths and d windows, both numbered from 0. The calls work on
+ * memory that the caller lends and keep nothing between calls. Link target/staticlib/libconsole.a, made by
+ * 'rt staticlib console' for x86-64.
+ *
+ * In memory, by 16-bit words, each low byte first (a uint16_t of x86-64, so that C lends its own arrays):
+ *   domains   n words: bit v of word i is set if window v is in the list of path i
+ *   tables    n * n * d words: word (i * n + j) * d + a has the windows of path j that are allowed beside window a of
+ *             path i; b beside a exactly if a beside b. All d bits set: no constraint. The places for a path with
+ *             itself are never read
+ *   agenda    1 to 512 slots of n + 2 words, slot 0 the bottom of the stack. A slot is a subproblem: n masks, then the
+ *             set of instantiated paths as two words, high word first, bit i for path i. Unused slots hold zeros
+ *   requests  any number of them, n + 3 words each: kind, V, v, n target masks. What its kind does not read may be
+ *             anything
+ * A file is bytes as they are, its words high byte first: 1 to 101 blocks of 512 bytes; docs/FORMAT.md has the rest.
+ *
+ * What the caller owes, in every call: no pointer is NULL, not even one whose length is 0; behind each stand as many
+ * bytes as its length says, or one number, aligned as its type; and no two of them, buffers or numbers, overlap.
+ * Buffers may stand at any address. Lengths are in BYTES. A wrong length or wrong content is refused, never undefined.
+ *
+ * A search is the agenda and three numbers: steps, checks, subproblems. Hand on all four as the last call left them. */
+#ifndef RASTWOB_H
+#define RASTWOB_H
+
+#include <stddef.h>
+#include <stdint.h>
+
+#ifdef __cplusplus
+extern "C" {
+#endif
+
+/* Limits: n, d, the agenda's slots, a file's blocks; and the bytes of a block. */
+#define RASTWOB_MOST_VARIABLES 32u
+#define RASTWOB_MOST_VALUES 16u
+#define RASTWOB_MOST_SLOTS 512u
+#define RASTWOB_MOST_BLOCKS 101u
+#define RASTWOB_BLOCK_BYTES 512u
+
+/* Lengths in bytes; constants where their arguments are. */
+#define RASTWOB_DOMAINS_BYTES(n) ((size_t)2 * (size_t)(n))
+#define RASTWOB_TABLES_BYTES(n, d) ((size_t)2 * (size_t)(n) * (size_t)(n) * (size_t)(d))
+#define RASTWOB_AGENDA_BYTES(n, slots) ((size_t)2 * (size_t)(slots) * ((size_t)(n) + 2u))
+#define RASTWOB_REQUESTS_BYTES(n, requests) ((size_t)2 * (size_t)(requests) * ((size_t)(n) + 3u))
+
+/* The words that save writes for so many subproblems, their blocks (253 words of each are content), and bytes. */
+#define RASTWOB_FILE_WORDS(n, d, subproblems) \
+    (9u + (size_t)(n) + (size_t)(n) * ((size_t)(n) - 1u) / 2u * (size_t)(d) + \
+     (size_t)(subproblems) * ((size_t)(n) + 2u))
+#define RASTWOB_FILE_BLOCKS(n, d, subproblems) ((RASTWOB_FILE_WORDS(n, d, subproblems) + 252u) / 253u)
+#define RASTWOB_FILE_BYTES(n, d, subproblems) (RASTWOB_BLOCK_BYTES * RASTWOB_FILE_BLOCKS(n, d, subproblems))
+#define RASTWOB_LARGEST_FILE_BYTES ((size_t)RASTWOB_MOST_BLOCKS * RASTWOB_BLOCK_BYTES)
+
+/* The tables' word for value a of variable i beside variable j. */
+#define RASTWOB_TABLE_WORD(n, d, i, j, a) (((size_t)(i) * (size_t)(n) + (size_t)(j)) * (size_t)(d) + (size_t)(a))
+
+/* Kinds of request, and what each reads. */
+#define RASTWOB_BACKTRACKING 1u     /* V and v */
+#define RASTWOB_FORWARD_CHECKING 2u /* V and v */
+#define RASTWOB_IDC 3u              /* V and v */
+#define RASTWOB_HALVING 4u          /* V */
+#define RASTWOB_EXTRACTION 5u       /* the targets */
+
+/* Verdicts. */
+#define RASTWOB_NONE 0u       /* the first checks refused */
+#define RASTWOB_RUNNING 1u    /* neither solved nor unsolvable */
+#define RASTWOB_SOLVED 2u     /* the top subproblem has every path instantiated: it is the plan, and stays */
+#define RASTWOB_UNSOLVABLE 3u /* the agenda is empty; of a search begun by opening, there is no plan */
+
+/* Refusals: the result of each call, 0 for none. The order in which a call looks for them stands with the call. */
+#define RASTWOB_ACCEPTED 0u
+#define RASTWOB_REFUSED_N 1u           /* n not 1 to 32 */
+#define RASTWOB_REFUSED_D 2u           /* d not 1 to 16 */
+#define RASTWOB_REFUSED_LENGTH 3u      /* domains not n words; tables not n * n * d words; agenda not 1 to 512 whole
+                                          slots; request list not whole requests */
+#define RASTWOB_REFUSED_MASK 4u        /* a domain or read table mask has a bit at d or above */
+#define RASTWOB_REFUSED_ONE_WAY 5u     /* a pair is allowed one way only */
+#define RASTWOB_REFUSED_SEARCH 6u      /* a handed-in search breaks the rules for subproblems, has more of them than
+                                          slots, has a nonzero unused slot, or more than 496 * steps checks */
+#define RASTWOB_REFUSED_KIND 7u        /* kind not 1 to 5 */
+#define RASTWOB_REFUSED_VARIABLE 8u    /* kinds 1 to 4: V is n or more, or instantiated */
+#define RASTWOB_REFUSED_VALUE 9u       /* kinds 1 to 3: v is d or more, or not in V's domain; kind 4: V has one value */
+#define RASTWOB_REFUSED_TARGET 10u     /* kind 5: a target is empty or not part of the top's domain, or all equal it */
+#define RASTWOB_REFUSED_STEPS 11u      /* steps already 4,294,967,295 */
+#define RASTWOB_REFUSED_ROOM 12u       /* nonempty pieces exceed free slots, the top's slot counted free; at load, more
+                                          subproblems than slots */
+#define RASTWOB_REFUSED_FILE_ROOM 13u  /* the file buffer is shorter than the blocks to write */
+#define RASTWOB_REFUSED_BLOCKS 14u     /* file not 1 to 101 whole blocks, or a block's check, number or count wrong */
+#define RASTWOB_REFUSED_FILE_WORDS 15u /* the file's words break a rule, or do not fill exactly that many blocks with
+                                          zeros after */
+
+/* Opens a search: clears the agenda, which may hold anything before, and both counts, and places the problem in slot 0
+ * with nothing instantiated; but nothing where a domain is empty.
+ * Leaves: *steps and *checks 0, *subproblems 1 (0 where a domain is empty), the agenda as said.
+ * Returns the refusal, looked for in the order 1 to 5. Refused: the three numbers are 0, the agenda is as it was. */
+uint32_t rastwob_open(uint32_t n, uint32_t d,
+                      const uint8_t *domains, size_t domains_bytes,
+                      const uint8_t *tables, size_t tables_bytes,
+                      uint8_t *agenda, size_t agenda_bytes,
+                      uint32_t *steps, uint64_t *checks, uint32_t *subproblems);
+
+/* Runs a list of requests. Each splits the top subproblem and is one step. The run stops at a verdict other than
+ * running, at the first refused request, or at the list's end; on a finished search it takes none, with refusal 0.
+ * The three numbers go in as the search has them.
+ * Leaves: agenda and three numbers after the requests taken; *verdict, that of this state; *taken, how many were taken.
+ * Returns the refusal. First 1 to 6: then *verdict and *taken are 0, agenda and three numbers as they were. Then, at
+ * each request, 11, 7, 8, 9, 10, 12: the refused request changes nothing, those taken before it stand. */
+uint32_t rastwob_run(uint32_t n, uint32_t d,
+                     const uint8_t *domains, size_t domains_bytes,
+                     const uint8_t *tables, size_t tables_bytes,
+                     uint8_t *agenda, size_t agenda_bytes,
+                     const uint8_t *requests, size_t requests_bytes,
+                     uint32_t *steps, uint64_t *checks, uint32_t *subproblems,
+                     uint32_t *verdict, uint32_t *taken);
+
+/* Runs the house chooser for up to limit steps. V is the uninstantiated path with the fewest windows, lowest number
+ * among equals; v its lowest window; kind 2 if the precluded piece is empty or if kind 3 has no room, else kind 3.
+ * Takes, leaves and returns as rastwob_run does, *taken being the steps taken; after 1 to 6 it meets only 11 and 12.
+ * At its limit it stops with refusal 0, and the search may be gone on with. */
+uint32_t rastwob_choose(uint32_t n, uint32_t d,
+                        const uint8_t *domains, size_t domains_bytes,
+                        const uint8_t *tables, size_t tables_bytes,
+                        uint8_t *agenda, size_t agenda_bytes,
+                        uint32_t limit,
+                        uint32_t *steps, uint64_t *checks, uint32_t *subproblems,
+                        uint32_t *verdict, uint32_t *taken);
+
+/* Saves the search into the front of a file buffer of at least RASTWOB_FILE_BYTES(n, d, subproblems).
+ * Leaves: *blocks, the blocks written; the first 512 * *blocks bytes of the buffer are the file, the rest is as it was.
+ * Returns the refusal, looked for in the order 1 to 6, 13. Refused: *blocks is 0, the buffer is as it was. */
+uint32_t rastwob_save(uint32_t n, uint32_t d,
+                      const uint8_t *domains, size_t domains_bytes,
+                      const uint8_t *tables, size_t tables_bytes,
+                      const uint8_t *agenda, size_t agenda_bytes,
+                      uint32_t steps, uint64_t checks, uint32_t subproblems,
+                      uint8_t *file, size_t file_bytes, uint32_t *blocks);
+
+/* Loads a saved search. All file_bytes are the file. Domains and tables are lent at exactly the lengths for the file's
+ * own n and d, which stand in its bytes 4 and 5, and 6 and 7, high byte first; the agenda at any number of slots.
+ * Leaves: the five numbers; domains, tables (zeros for a path with itself) and agenda (zeros in unused slots), whole.
+ * Returns the refusal, looked for in the order 14, 15, 3, 12. Refused: the numbers are 0, the buffers as they were. */
+uint32_t rastwob_load(const uint8_t *file, size_t file_bytes,
+                      uint8_t *domains, size_t domains_bytes,
+                      uint8_t *tables, size_t tables_bytes,
+                      uint8_t *agenda, size_t agenda_bytes,
+                      uint32_t *n, uint32_t *d, uint32_t *steps, uint64_t *checks, uint32_t *subproblems);
+
+#ifdef __cplusplus
+}
+#endif
+
+#endif
