@@ -4,22 +4,25 @@ use native.Mathlib.Omega.{arith}
 use native.Mathlib.Nat.{mul-div-cancel, mul-le-mul-right, div-mul-le-self, le-trans}
 use native.Mathlib.Decide.{ℕ-discrete}
 use mathlib.Core.Path.{_≡_, refl, sym, ap, _∙_}
+use mathlib.Core.Logic.{inl, inr}
 use mathlib.Core.Bool.{true, cond}
 use mathlib.Core.List.{List, _++_}
 use Prim.Native.Nat.{ℕ, _+_, _*_, _/_, _≤_, _<_}
 use lib.ListN.{length}
 use lib.Dec.{eqb, ltb}
 use borrow.Author.Tests.{eq-eqb, ne-eqb}
+use Rattle.splits.specs.Problem.{Problem}
 use Rattle.search.specs.Agenda.{problemOf, stackOf, slotsIn}
 use Rattle.search.specs.FirstChecks.{orElse, refusalOfLengths, searchRefusal}
-use Rattle.search.specs.Runs.{Stopped}
-use Rattle.search.specs.Verdicts.{verdictOf}
+use Rattle.search.specs.Runs.{Search, Stopped, run}
+use Rattle.search.specs.Verdicts.{numberOf, verdictOf}
 use Rattle.search.specs.Chooser.{choose}
 use Rattle.search.specs.Calls.{searchOf, Chooses}
-use Rattle.search.specs.Promises.{Leaves}
+use Rattle.search.specs.Promises.{Leaves, picks}
 use Rattle.search.specs.declared.state.Ran.{Ran}
 use Rattle.search.proofs.FirstPassing.{search-is-passed}
-use Rattle.search.proofs.Promises.{chooser-leaves}
+use Rattle.search.specs.declared.state.Verdict.the-variants.{Running, Solved}
+use Rattle.search.proofs.Promises.{chooser-leaves, stops, picks as picks-run}
 use Rattle.files.specs.Reading.{saidN, saidD, saidSubproblems, saidDomains, saidAllowed, saidSearch, tableWords, refusalOfFile, refusalOfWords}
 use Rattle.files.specs.Calls.{loadRefusal, Loads}
 use Rattle.files.specs.Promises.{Bytes, Left-by-load}
@@ -64,6 +67,22 @@ from-stopped : (n : ℕ) (after : List ℕ) (ran : Ran) (x : Stopped) → ran .v
     → ran .state .counts .checks .0 ≡ x .search .checks → ran .refusal ≡ x .refusal → textFrom n after ran ≡ textOf n x
 unfolding textFrom textOf
 from-stopped n after ran x verdict stack steps checks refusal = rw (verdict, stack, steps, checks, refusal) refl
+
+-- A chooser that stops solved was not refused.
+chooser-solved : (p : Problem) (room limit : ℕ) (s : Search) → verdictOf (p .n) (choose p room limit s .search .stack) ≡ Solved → choose p room limit s .refusal ≡ 0
+chooser-solved p room limit s e =
+    let x : Stopped = run p room (picks p room limit s) s in
+    let is : choose p room limit s ≡ x = picks-run p room limit s in
+    ap (λ y. y .refusal) is ∙ elim (stops p room (picks p room limit s) s .1) [
+      | inl finished ↦ finished .refusal
+      | inr more ↦ elim more [
+        | inl refused ↦ absurd (solved-running (sym e ∙ ap (λ y. verdictOf (p .n) (y .search .stack)) is ∙ refused .verdict))
+        | inr ended ↦ ended .refusal
+      ]
+    ]
+  where
+    solved-running : Solved ≡ Running → ⊥
+    solved-running e = omega (arith, ap numberOf e)
 
 -- An accepted one: what the chooser then returns shows what it leaves, and its text is the answer.
 module _ (file domains domains′ tables tables′ agenda agenda′ : List ℕ) (l : Loaded) (after : List ℕ) (ran : Ran) (bytes : Bytes file)
@@ -135,3 +154,17 @@ module _ (file domains domains′ tables tables′ agenda agenda′ : List ℕ) 
   chosen-text =
       from-stopped (l .n) after ran stopped verdict stack steps checks refusal ∙ ap (λ n. textOf n stopped) (left .its-n)
       ∙ ap (textOf (saidN file)) same ∙ rw (eq-eqb (refusalOf file) 0 none) refl
+
+  -- What it returns, of where the run of the file stops.
+  pub chosen-steps : ran .state .counts .steps .0 ≡ ranOf file .search .steps
+  chosen-steps = steps ∙ ap (λ x. x .search .steps) same
+
+  pub chosen-checks : ran .state .counts .checks .0 ≡ ranOf file .search .checks
+  chosen-checks = checks ∙ ap (λ x. x .search .checks) same
+
+  -- A run that is solved was not refused.
+  pub solved-taken : ran .verdict ≡ Solved → ran .refusal ≡ 0
+  unfolding stopped
+  solved-taken e =
+      refusal
+      ∙ chooser-solved (problemOf (l .n) (l .d) domains′ tables′) (slotsIn (l .n) (length agenda′)) 1000000 (searchOf (l .n) agenda′ (l .state)) (sym verdict ∙ e)

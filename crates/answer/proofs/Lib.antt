@@ -6,3 +6,5 @@ pub mod Made
 pub mod Answering
 pub mod Lending
 pub mod Promises
+pub mod Saying
+pub mod Example

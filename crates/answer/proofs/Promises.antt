@@ -1,12 +1,14 @@
 -- The promises of specs/Promises.antt, proved.
 -- Assumes nothing.
 use native.Mathlib.Omega.{arith}
-use mathlib.Core.Path.{_≡_, refl, sym, ap, _∙_}
-use mathlib.Core.List.{List, _++_}
-use Prim.Native.Nat.{ℕ, _+_, _-_, _≤_}
+use mathlib.Core.Path.{_≡_, sym, ap, _∙_}
+use mathlib.Core.List.{_++_}
+use Prim.Native.Nat.{_-_}
 use lib.ListN.{length, replicate, length-append}
-use Rattle.answer.specs.Promises.{Answer-to-one, Within}
 use Rattle.answer.specs.Calls.{answer}
+use Rattle.answer.specs.Promises.{Answer-to-one, Within, Answer-14, Answer-15, Answer-else, Of-the-calls, Says-a-plan, Says-no-plan, Printed}
+use Rattle.answer.proofs.Saying
+use Rattle.answer.proofs.Example
 
 pub answer-to-one : Answer-to-one
 answer-to-one file r r′ h h′ = λ i. record { bytes = (h .bytes ∙ sym (h′ .bytes)) i; length = (h .its-length ∙ sym (h′ .its-length)) i }
@@ -17,3 +19,24 @@ within file r h =
     let bytes : length (r .bytes) ≡ length (answer file ++ replicate (512 - length (answer file)) 0) = ap length (h .bytes) in
     let its-length = h .its-length in
     omega (arith, long, bytes, its-length)
+
+pub answer-14 : Answer-14
+answer-14 = Saying.says-14
+
+pub answer-15 : Answer-15
+answer-15 = Saying.says-15
+
+pub answer-else : Answer-else
+answer-else = Saying.says-else
+
+pub of-the-calls : Of-the-calls
+of-the-calls = Saying.of-calls
+
+pub says-a-plan : Says-a-plan
+says-a-plan = Saying.a-plan
+
+pub says-no-plan : Says-no-plan
+says-no-plan = Saying.no-plan
+
+pub printed : Printed
+printed = Example.printed

@@ -1,27 +1,25 @@
 -- What the answer to a file promises. Stated here, proved in proofs/Promises.antt.
 use mathlib.Core.Path.{_≡_}
-use mathlib.Core.List.{List, [], _∷_, _++_, map}
-use Prim.Native.Nat.{ℕ, _*_, _+_, _^_, _≤_, _<_}
-use lib.ListN.{length, getD, replicate}
-use Rattle.splits.specs.Masks.{lowest, minus, single}
-use Rattle.splits.specs.Problem.{Table, Solution}
-use Rattle.splits.specs.Subproblems.{domain}
+use mathlib.Core.List.{List, [], _∷_, _++_}
+use Prim.Native.Nat.{ℕ, _*_, _+_, _≤_}
+use lib.ListN.{length, getD, take}
+use Rattle.splits.specs.Problem.{Solution}
 use Rattle.splits.specs.Splits.{below}
 use Rattle.splits.specs.Promises.{One}
-use Rattle.splits.specs.declared.subproblem.Subproblem.{Subproblem}
-use Rattle.search.specs.Agenda.{problemOf, slotsIn, stackOf}
-use Rattle.search.specs.Runs.{Search}
-use Rattle.search.specs.Verdicts.{ascii, numberOf, verdictOf}
-use Rattle.search.specs.Calls.{opening, searchOf, Chooses}
+use Rattle.search.specs.Agenda.{problemOf, stackOf}
+use Rattle.search.specs.Verdicts.{ascii}
+use Rattle.search.specs.Calls.{Opens, Chooses}
 use Rattle.search.specs.Promises.{Has-solution}
+use Rattle.search.specs.declared.state.State.{State}
+use Rattle.search.specs.declared.state.Opened.{Opened}
 use Rattle.search.specs.declared.state.Ran.{Ran}
-use Rattle.files.specs.Blocks.{fileOf}
-use Rattle.files.specs.Content.{each, contentOf}
+use Rattle.files.specs.Content.{each}
 use Rattle.files.specs.Reading.{saidN, saidD, saidDomains, saidAllowed, Deserves-14, Deserves-15}
-use Rattle.files.specs.Calls.{Loads}
-use Rattle.files.specs.Promises.{Bytes, Begun}
+use Rattle.files.specs.Calls.{Saves, Loads}
+use Rattle.files.specs.Promises.{Bytes, Lived}
+use Rattle.files.specs.declared.saved.Saved.{Saved}
 use Rattle.files.specs.declared.saved.Loaded.{Loaded}
-use Rattle.answer.specs.Text.{verdictLine, countsLine, planLine, planLines, refusedLine, textOf}
+use Rattle.answer.specs.Text.{decimal, verdictLine, countsLine, planLines, refusedLine, textOf}
 use Rattle.answer.specs.Calls.{ranOf, answer, Answers}
 use Rattle.answer.specs.declared.text.Text.{Text}
 
@@ -82,11 +80,36 @@ Of-the-calls =
 
 -- ---- what the lines say
 
--- If the file is accepted and the verdict is solved, the values printed are a solution of the problem that the file says.
-abbrev pub Shows-a-plan : Type 0
-Shows-a-plan =
-    (file : List ℕ) → Bytes file → (Deserves-14 file → ⊥) → (Deserves-15 file → ⊥)
-    → numberOf (verdictOf (saidN file) (ranOf file .search .stack)) ≡ 2
-    → (top : Subproblem)
-    × (planLines (saidN file) (ranOf file .search .stack) ≡ each (planLine top) (below (saidN file)))
-    × Solution (saidN file) (saidAllowed file) (λ i. getD (saidDomains file) i 0) (λ i. lowest (domain top i))
+-- Where line 1 is "solved", the lines after line 2 give each variable a value, and these are a solution of the problem that the file says.
+abbrev pub Says-a-plan : Type 0
+Says-a-plan =
+    (file : List ℕ) → Bytes file → (rest : List ℕ) → answer file ≡ ascii "solved\n" ++ rest
+    → (f : ℕ → ℕ)
+    × (answer file
+    ≡ ascii "solved\n" ++ countsLine (ranOf file .search .steps) (ranOf file .search .checks)
+    ++ each (λ i. decimal i ++ ascii " " ++ decimal (f i) ++ ascii "\n") (below (saidN file)))
+    × Solution (saidN file) (saidAllowed file) (λ i. getD (saidDomains file) i 0) f
+
+-- Where line 1 is "unsolvable" and the file is what save wrote of a search begun by opening, the problem that was opened has no solution.
+abbrev pub Says-no-plan : Type 0
+Says-no-plan =
+    (n d : ℕ) (domains tables₀ tables agenda : List ℕ) (s : State) (before after : List ℕ) (saved : Saved) (rest : List ℕ)
+    → Lived n d domains tables₀ tables agenda s → Saves n d domains tables agenda s before after saved → saved .refusal ≡ 0
+    → Bytes (take (512 * saved .blocks) after) → answer (take (512 * saved .blocks) after) ≡ ascii "unsolvable\n" ++ rest
+    → Has-solution (problemOf n d domains tables₀) → ⊥
+
+-- ---- document 01's printed example
+
+-- Two variables, d 2, domains {0} and {0, 1}, unequal values allowed: beside 0 the mask 2, beside 1 the mask 1.
+abbrev pub printed-domains : List ℕ
+printed-domains = 1 ∷ 3 ∷ []
+
+abbrev pub printed-tables : List ℕ
+printed-tables = 0 ∷ 0 ∷ 2 ∷ 1 ∷ 2 ∷ 1 ∷ 0 ∷ 0 ∷ []
+
+-- The file that save writes of it, the agenda fresh: whatever opening it leaves and returns.
+abbrev pub Printed : Type 0
+Printed =
+    (before after buffer file : List ℕ) (r : Opened) (saved : Saved) → Opens 2 2 printed-domains printed-tables before after r → r .refusal ≡ 0
+    → Saves 2 2 printed-domains printed-tables after (r .state) buffer file saved → saved .refusal ≡ 0
+    → answer (take (512 * saved .blocks) file) ≡ ascii "solved\nsteps 2 checks 3\n0 0\n1 1\n"

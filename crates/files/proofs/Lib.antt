@@ -25,7 +25,8 @@ pub mod Diagonal
 pub mod LoadLeaves
 pub mod Back
 pub mod Cut
-pub mod Widening
+pub mod Solutions
+pub mod Living
 pub mod OneOutcome
 pub mod Promises
 pub mod Places

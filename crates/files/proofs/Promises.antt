@@ -38,26 +38,22 @@ use Rattle.files.specs.Promises.{
   Diagonal-run,
   Diagonal-choose,
   Diagonal-save,
-  Reached-again,
-  Widened,
-  Begun-passes,
-  Begun-solvable,
-  Begun-unsolvable,
-  Begun-steps,
+  Lived,
+  Lived-reached,
+  Lived-solvable,
+  Lived-steps,
+  Lived-checks,
+  Unsolvable-run,
+  Unsolvable-choose,
+  Solved-run,
+  Solved-choose,
   Same-solutions,
   Cut,
-  Cut-widened,
   Cut-any,
+  Cut-lived,
 }
-use mathlib.Core.Logic.{_↔_}
-use mathlib.Core.List.{List·Memᴰ}
-use Rattle.splits.specs.Promises.{Solvable}
-use Rattle.splits.specs.declared.subproblem.Subproblem.{Subproblem}
-use Rattle.search.specs.Verdicts.{verdictOf}
-use Rattle.search.specs.Promises.{Passes, Has-solution}
-use Rattle.search.specs.declared.state.Verdict.the-variants.{Unsolvable}
 use Rattle.splits.proofs.Refusals.{one}
-use Rattle.search.proofs.Promises.{reached-passes, reached-solvable, reached-unsolvable, reached-steps}
+use Rattle.search.proofs.Promises.{reached-solvable, reached-steps, reached-checks, chooser-says}
 use Rattle.files.proofs.Sums
 use Rattle.files.proofs.Blocks
 use Rattle.files.proofs.Whole
@@ -72,7 +68,8 @@ use Rattle.files.proofs.Diagonal
 use Rattle.files.proofs.Cut as Cutting
 use Rattle.files.proofs.LoadLeaves
 use Rattle.files.proofs.Back
-use Rattle.files.proofs.Widening
+use Rattle.files.proofs.Solutions
+use Rattle.files.proofs.Living
 use Rattle.files.proofs.OneOutcome
 
 pub blocks-whole : Blocks-whole
@@ -167,40 +164,58 @@ diagonal-choose n d domains tables tables′ before after limit s r same = Diago
 pub diagonal-save : Diagonal-save
 diagonal-save n d domains tables tables′ agenda s before after r same = Diagonal.diagonal-save n d domains tables tables′ same agenda s before after r
 
-pub reached-again : Reached-again
-reached-again = Cutting.reached-again
+pub lived-reached : Lived-reached
+lived-reached n d domains tables₀ tables agenda s h =
+    let life = Living.lived h in
+    (life .handed, life .same, Living.proper₀ life, Living.reached₀ life)
 
-pub widened : Widened
-widened n d domains tables slots s h = let k = Widening.known h in (k .proper, k .reached)
+pub lived-solvable : Lived-solvable
+lived-solvable n d domains tables₀ tables agenda s h =
+    let life = Living.lived h in reached-solvable n d domains tables₀ _ _ (Living.proper₀ life) (Living.reached₀ life)
 
-pub begun-passes : Begun-passes
-begun-passes = Widening.begun-all Passes reached-passes
+pub lived-steps : Lived-steps
+lived-steps n d domains tables₀ tables agenda s h =
+    let life = Living.lived h in reached-steps n d domains tables₀ _ _ (Living.proper₀ life) (Living.reached₀ life)
 
-pub begun-solvable : Begun-solvable
-begun-solvable = Widening.begun-all (λ p slots s. Has-solution p ↔ ((P : Subproblem) × List·Memᴰ P (s .stack) × Solvable p P)) reached-solvable
+pub lived-checks : Lived-checks
+lived-checks n d domains tables₀ tables agenda s h =
+    let life = Living.lived h in reached-checks n d domains tables₀ _ _ (Living.proper₀ life) (Living.reached₀ life)
 
-pub begun-unsolvable : Begun-unsolvable
-begun-unsolvable = Widening.begun-all (λ p slots s. verdictOf (p .n) (s .stack) ≡ Unsolvable → Has-solution p → ⊥) reached-unsolvable
+pub unsolvable-run : Unsolvable-run
+unsolvable-run n d domains tables₀ tables before after requests s r h runs e =
+    Living.says-unsolvable (Living.lived (Lived.ran h requests runs)) (r .verdict)
+    (Living.run-verdict n d domains tables before after requests s r (Living.lived h .handed) runs (omega (arith, e))) e
 
-pub begun-steps : Begun-steps
-begun-steps n d domains tables slots s h = let k = Widening.known h in reached-steps n d domains tables slots s (k .proper) (k .reached)
+pub unsolvable-choose : Unsolvable-choose
+unsolvable-choose n d domains tables₀ tables before after limit s r h chooses e =
+    Living.says-unsolvable (Living.lived (Lived.chose h limit chooses)) (r .verdict)
+    (chooser-says n d domains tables before after limit s r (Living.lived h .handed) chooses .verdict) e
+
+pub solved-run : Solved-run
+solved-run n d domains tables₀ tables before after requests s r h runs e =
+    Living.says-solved (Living.lived (Lived.ran h requests runs)) (r .verdict)
+    (Living.run-verdict n d domains tables before after requests s r (Living.lived h .handed) runs (omega (arith, e))) e
+
+pub solved-choose : Solved-choose
+solved-choose n d domains tables₀ tables before after limit s r h chooses e =
+    Living.says-solved (Living.lived (Lived.chose h limit chooses)) (r .verdict)
+    (chooser-says n d domains tables before after limit s r (Living.lived h .handed) chooses .verdict) e
 
 pub same-solutions : Same-solutions
-same-solutions = Widening.same-solutions
+same-solutions = Solutions.same-solutions
 
 pub cut : Cut
 cut = Cutting.reached-cut
-
-pub cut-widened : Cut-widened
-cut-widened n d domains tables slots gone agenda s requests more h words held w v t =
-    let k = Widening.known h in
-    Cutting.reached-cut n d domains tables slots gone agenda s requests more (k .proper) (k .words) words (k .some) (k .few) (k .reached) held w v t
 
 pub cut-any : Cut-any
 cut-any n d domains tables agenda s requests more words short e w v t =
     let h = Passing.search-passing n d domains tables agenda (s .counts .steps .0) (s .counts .checks .0) (s .subproblems) e in
     Cutting.same-end n d domains tables agenda s requests more short h
     (λ P m. let c = Saving.stack-canonical n d domains tables agenda s words h P m in record { entries = c .entries; past = c .past }) w v t
+
+pub cut-lived : Cut-lived
+cut-lived n d domains tables₀ tables agenda s requests more h w v t =
+    let handed = Living.lived h .handed in cut-any n d domains tables agenda s requests more (handed .words) (omega (arith, handed .stepped)) (handed .passes) w v t
 
 pub n-one : N-one
 n-one file = one _

@@ -5,18 +5,17 @@ use mathlib.Core.List.{List, List·Memᴰ, [], _∷_, _++_}
 use Prim.Native.Nat.{ℕ, _+_, _-_, _*_, _/_, _%_, _^_, _≤_, _<_}
 use lib.ListN.{length, getD, take, drop}
 use Rattle.splits.specs.Problem.{Problem, Proper, Table, Solution, possibilities, tableOf}
+use Rattle.splits.specs.Masks.{lowest, single}
 use Rattle.splits.specs.Subproblems.{domain}
 use Rattle.splits.specs.Measure.{sum}
 use Rattle.splits.specs.Promises.{Solvable, One}
 use Rattle.splits.specs.declared.subproblem.Subproblem.{Subproblem}
-use Rattle.search.specs.Agenda.{problemOf, slotsIn, agendaOf}
+use Rattle.search.specs.Agenda.{problemOf, stackOf, slotsIn, agendaOf}
 use Rattle.search.specs.FirstChecks.{WholeSlots, WholeRequests, Deserves-3, searchRefusal}
-use Rattle.search.specs.Runs.{Search, run}
-use Rattle.search.specs.Chooser.{choose}
-use Rattle.search.specs.Calls.{opening, searchOf, Opens, Runs, Chooses}
-use Rattle.search.specs.Promises.{Passes, Handed, Reached, Has-solution}
-use Rattle.search.specs.Verdicts.{verdictOf}
-use Rattle.search.specs.declared.state.Verdict.the-variants.{Unsolvable}
+use Rattle.search.specs.Runs.{Search}
+use Rattle.search.specs.Calls.{searchOf, Opens, Runs, Chooses}
+use Rattle.search.specs.Promises.{Handed, Reached, Has-solution}
+use Rattle.search.specs.Verdicts.{numberOf}
 use Rattle.search.specs.declared.state.State.{State}
 use Rattle.search.specs.declared.state.Opened.{Opened}
 use Rattle.search.specs.declared.state.Ran.{Ran}
@@ -264,56 +263,75 @@ Diagonal-save =
 
 -- ---- searches begun by opening, saved and loaded
 
--- Reached is the search crate's: opening, runs, choosers, and moves to other slots that take the stack. A file that says a reached search says it
--- of a problem that differs at most at a variable with itself, and there it is reached too, in any slots that take it.
-abbrev pub Reached-again : Type 0
-Reached-again =
-    (n d : ℕ) (domains tables : List ℕ) (room slots : ℕ) (s : Search) (file : List ℕ) → Proper (problemOf n d domains tables) → length domains ≡ n
-    → Reached n d domains tables room s → Says file n d domains (tableOf n d tables) s → length (s .stack) ≤ slots
-    → Reached (saidN file) (saidD file) (saidDomains file) (tableWords (saidN file) (saidD file) (saidAllowed file)) slots (saidSearch file)
+-- What opening and any number of calls lead to, each handed what the one before it left, loads of the blocks that save wrote among them. tables₀ are
+-- the tables that were opened; load writes zeros at a variable with itself, so that those in memory may differ from them there.
+pub data Lived (n d : ℕ) (domains tables₀ : List ℕ) : List ℕ → List ℕ → State → Type 0 where
+  opened : {before after : List ℕ} {r : Opened} → Opens n d domains tables₀ before after r → r .refusal ≡ 0
+      → Lived n d domains tables₀ tables₀ after (r .state)
+  ran : {tables before after : List ℕ} {s : State} {r : Ran} → Lived n d domains tables₀ tables before s → (requests : List ℕ)
+      → Runs n d domains tables before after requests s r → Lived n d domains tables₀ tables after (r .state)
+  chose : {tables before after : List ℕ} {s : State} {r : Ran} → Lived n d domains tables₀ tables before s → (limit : ℕ)
+      → Chooses n d domains tables before after limit s r → Lived n d domains tables₀ tables after (r .state)
+  loaded : {tables agenda before after domains₁ domains′ tables₁ tables′ agenda₁ agenda′ : List ℕ} {s : State} {saved : Saved} {r : Loaded}
+      → Lived n d domains tables₀ tables agenda s → Saves n d domains tables agenda s before after saved → saved .refusal ≡ 0
+      → Loads (take (512 * saved .blocks) after) domains₁ domains′ tables₁ tables′ agenda₁ agenda′ r → r .refusal ≡ 0
+      → Lived n d domains tables₀ tables′ agenda′ (r .state)
 
--- The searches of a problem begun by opening, gone on with by any number of runs and choosers, saved, and loaded into any 1 to 512 slots that take them.
--- A load makes the problem the one that the file says.
-pub data Begun : (n d : ℕ) (domains tables : List ℕ) (slots : ℕ) → Search → Type 0 where
-  begun : {n d : ℕ} {domains tables : List ℕ} {slots : ℕ} → Proper (problemOf n d domains tables) → length domains ≡ n → 1 ≤ slots → slots ≤ 512
-      → Begun n d domains tables slots (record { stack = opening n domains; steps = 0; checks = 0 })
-  run-on : {n d : ℕ} {domains tables : List ℕ} {slots : ℕ} {s : Search} → Begun n d domains tables slots s → (rs : List (List ℕ))
-      → Begun n d domains tables slots (run (problemOf n d domains tables) slots rs s .search)
-  chosen-on : {n d : ℕ} {domains tables : List ℕ} {slots : ℕ} {s : Search} → Begun n d domains tables slots s → (limit : ℕ)
-      → Begun n d domains tables slots (choose (problemOf n d domains tables) slots limit s .search)
-  saved-loaded : {n d : ℕ} {domains tables : List ℕ} {slots : ℕ} {s : Search} → Begun n d domains tables slots s → (file : List ℕ) (other : ℕ)
-      → file ≡ fileOf (contentOf n d domains (tableOf n d tables) s) → length (s .stack) ≤ other → 1 ≤ other → other ≤ 512
-      → Begun (saidN file) (saidD file) (saidDomains file) (tableWords (saidN file) (saidD file) (saidAllowed file)) other (saidSearch file)
+-- It passes when handed on, and it is a reached search of the problem that was opened.
+abbrev pub Lived-reached : Type 0
+Lived-reached =
+    (n d : ℕ) (domains tables₀ tables agenda : List ℕ) (s : State) → Lived n d domains tables₀ tables agenda s
+    → Handed n d domains tables agenda s × Same-away n d tables₀ tables × Proper (problemOf n d domains tables₀)
+    × Reached n d domains tables₀ (slotsIn n (length agenda)) (searchOf n agenda s)
 
--- Each is reached, in the search crate's sense, of a proper problem: what that crate promises of every reached search holds of it.
-abbrev pub Widened : Type 0
-Widened =
-    (n d : ℕ) (domains tables : List ℕ) (slots : ℕ) (s : Search) → Begun n d domains tables slots s
-    → Proper (problemOf n d domains tables) × Reached n d domains tables slots s
-
--- Of each, something said of the problem, the slots and the search.
-abbrev pub Begins : (Problem → ℕ → Search → Type 0) → Type 0
-Begins Said =
-    (n d : ℕ) (domains tables : List ℕ) (slots : ℕ) (s : Search) → Begun n d domains tables slots s → Said (problemOf n d domains tables) slots s
-
--- It passes; so its checks are at most 496 × steps.
-abbrev pub Begun-passes : Type 0
-Begun-passes = Begins Passes
+-- Of each, something said of the problem that was opened, the slots and the search.
+abbrev pub Lives : (Problem → ℕ → Search → Type 0) → Type 0
+Lives Said =
+    (n d : ℕ) (domains tables₀ tables agenda : List ℕ) (s : State) → Lived n d domains tables₀ tables agenda s
+    → Said (problemOf n d domains tables₀) (slotsIn n (length agenda)) (searchOf n agenda s)
 
 -- The problem is solvable exactly if some subproblem on the agenda is.
-abbrev pub Begun-solvable : Type 0
-Begun-solvable = Begins (λ p slots s. Has-solution p ↔ ((P : Subproblem) × List·Memᴰ P (s .stack) × Solvable p P))
-
--- Unsolvable means that the problem has no solution.
-abbrev pub Begun-unsolvable : Type 0
-Begun-unsolvable = Begins (λ p slots s. verdictOf (p .n) (s .stack) ≡ Unsolvable → Has-solution p → ⊥)
+abbrev pub Lived-solvable : Type 0
+Lived-solvable = Lives (λ p slots s. Has-solution p ↔ ((P : Subproblem) × List·Memᴰ P (s .stack) × Solvable p P))
 
 -- With S possibilities at most S × (n + 1) − 1 steps were taken, none where S is 0; hence at most S × (n + 2).
-abbrev pub Begun-steps : Type 0
-Begun-steps =
-    Begins (λ p slots s.
+abbrev pub Lived-steps : Type 0
+Lived-steps =
+    Lives (λ p slots s.
     let S : ℕ = possibilities (p .n) (p .domain) in
     (s .steps ≤ S * (p .n + 1) - 1) × (S ≡ 0 → s .steps ≡ 0) × (s .steps ≤ S * (p .n + 2)))
+
+-- The checks are at most 496 × steps.
+abbrev pub Lived-checks : Type 0
+Lived-checks = Lives (λ p slots s. s .checks ≤ 496 * s .steps)
+
+-- A run or a chooser of such a search that says unsolvable: the problem that was opened has no solution.
+abbrev pub Unsolvable-run : Type 0
+Unsolvable-run =
+    (n d : ℕ) (domains tables₀ tables before after requests : List ℕ) (s : State) (r : Ran) → Lived n d domains tables₀ tables before s
+    → Runs n d domains tables before after requests s r → numberOf (r .verdict) ≡ 3 → Has-solution (problemOf n d domains tables₀) → ⊥
+
+abbrev pub Unsolvable-choose : Type 0
+Unsolvable-choose =
+    (n d : ℕ) (domains tables₀ tables before after : List ℕ) (limit : ℕ) (s : State) (r : Ran) → Lived n d domains tables₀ tables before s
+    → Chooses n d domains tables before after limit s r → numberOf (r .verdict) ≡ 3 → Has-solution (problemOf n d domains tables₀) → ⊥
+
+-- One that says solved: the top slot shows a solution of the problem that was opened, one value for each variable.
+abbrev pub Shown : ℕ → ℕ → List ℕ → List ℕ → List ℕ → State → Type 0
+Shown n d domains tables₀ after s =
+    (P : Subproblem) × (S : List Subproblem) × (stackOf n after (s .subproblems) ≡ P ∷ S)
+    × ((i : ℕ) → i < n → domain P i ≡ single (lowest (domain P i)))
+    × Solution n (tableOf n d tables₀) (λ i. getD domains i 0) (λ i. lowest (domain P i))
+
+abbrev pub Solved-run : Type 0
+Solved-run =
+    (n d : ℕ) (domains tables₀ tables before after requests : List ℕ) (s : State) (r : Ran) → Lived n d domains tables₀ tables before s
+    → Runs n d domains tables before after requests s r → numberOf (r .verdict) ≡ 2 → Shown n d domains tables₀ after (r .state)
+
+abbrev pub Solved-choose : Type 0
+Solved-choose =
+    (n d : ℕ) (domains tables₀ tables before after : List ℕ) (limit : ℕ) (s : State) (r : Ran) → Lived n d domains tables₀ tables before s
+    → Chooses n d domains tables before after limit s r → numberOf (r .verdict) ≡ 2 → Shown n d domains tables₀ after (r .state)
 
 -- And the problem that a file says has the solutions of the one saved.
 abbrev pub Same-solutions : Type 0
@@ -388,10 +406,9 @@ Cut =
     → (t : Trip n d domains tables agenda s requests more) → Same-end t
 
 -- So of every search begun by opening and saved and loaded any number of times since.
-abbrev pub Cut-widened : Type 0
-Cut-widened =
-    (n d : ℕ) (domains tables : List ℕ) (slots : ℕ) (gone : Search) (agenda : List ℕ) (s : State) (requests more : List ℕ)
-    → Begun n d domains tables slots gone → length tables ≡ n * n * d → Held-in n slots agenda s gone
+abbrev pub Cut-lived : Type 0
+Cut-lived =
+    (n d : ℕ) (domains tables₀ tables agenda : List ℕ) (s : State) (requests more : List ℕ) → Lived n d domains tables₀ tables agenda s
     → WholeRequests n (length requests) → WholeRequests n (length more)
     → (t : Trip n d domains tables agenda s requests more) → Same-end t
 

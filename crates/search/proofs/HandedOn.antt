@@ -290,7 +290,7 @@ chooser-says-so n d domains tables before after limit s r handed chooses =
 
 -- ---- opening
 
-some-slots : (n words : ℕ) → WholeSlots n words → 1 ≤ slotsIn n words
+pub some-slots : (n words : ℕ) → WholeSlots n words → 1 ≤ slotsIn n words
 some-slots n words w = let some : 0 < n + 2 = omega arith in rw (w .3, mul-div-cancel (w .0) some) (w .1)
 
 holding-shape : (n d : ℕ) (domains : List ℕ) → n ≤ 32 → length domains ≡ n → ((i : ℕ) → i < n → getD domains i 0 < 2 ^ d) → Shape n d (holding n domains 0)
@@ -332,7 +332,7 @@ open-leaves-so n d domains tables before after r opens none =
 -- ---- any number of calls
 
 -- whether so many words are whole requests can be told
-whole-requests : (n words : ℕ) → Dec (WholeRequests n words)
+pub whole-requests : (n words : ℕ) → Dec (WholeRequests n words)
 whole-requests n words = elim (ℕ-discrete (refusalOfRequests n words) 0) [
   | yes e ↦ yes (requests-none n words .0 e)
   | no f ↦ no (λ w. f (requests-none n words .1 w))

@@ -1,0 +1,121 @@
+-- Words made of bytes, lent to the covered calls and written back: each call's statement at the words that the bytes say.
+-- Assumes nothing.
+use mathlib.Core.Path.{_≡_, sym, ap, _∙_}
+use mathlib.Core.List.{List, _++_}
+use Prim.Native.Nat.{ℕ, _+_, _*_, _/_, _^_, _≤_, _<_}
+use native.Mathlib.Omega.{arith}
+use native.Mathlib.Nat.{mul-le-mul}
+use native.Mathlib.Decide.{ℕ-discrete}
+use lib.ListN.{length, getD, take, drop, length-append}
+use lib.Seq.{take-at}
+use borrow.Author.Tests.{ne-eqb}
+use Rattle.search.specs.Calls.{Opens, Runs, Chooses}
+use Rattle.search.specs.declared.state.State.{State}
+use Rattle.search.specs.declared.state.Opened.{Opened}
+use Rattle.search.specs.declared.state.Ran.{Ran}
+use Rattle.files.specs.Blocks.{blocksFor}
+use Rattle.files.specs.Reading.{triangleWords}
+use Rattle.files.specs.Calls.{handedContent, saveRefusal, Saves, Loads}
+use Rattle.files.specs.Work.Saved.{handed}
+use Rattle.files.specs.declared.saved.Saved.{Saved}
+use Rattle.files.specs.declared.saved.Loaded.{Loaded}
+use Rattle.files.proofs.Refusals.{save-none}
+use Rattle.files.proofs.RoundTrip.{triangle-few}
+use Rattle.files.proofs.SaveOutcomes.{first-passed}
+use Rattle.files.proofs.Written.{handed-length}
+use Rattle.console.specs.Bytes.{Whole, wordsOf, bytesOf}
+use Rattle.console.specs.Calls.{OpensWords, RunsWords, ChoosesWords, LoadsWords}
+use Rattle.console.specs.Work.Parts.{Narrow}
+use Rattle.console.proofs.Words.{words-length, words-small}
+use Rattle.console.proofs.Runs.{choose-narrow}
+
+-- `words` begins with the words that `b` says.
+abbrev pub Says : List ℕ → List ℕ → Type 0
+Says b words = take (length b / 2) words ≡ wordsOf b
+
+-- How many words are lent.
+pub count-is : (b words : List ℕ) → Says b words → length b / 2 ≡ length (take (length b / 2) words)
+count-is b words e = sym (ap length e ∙ words-length b)
+
+-- A callee left y in the part that was lent to it.
+module _ (b words y : List ℕ) (e : Says b words) (kept : length y ≡ length (take (length b / 2) words)) where
+  left-length : length y ≡ length b / 2
+  left-length = kept ∙ sym (count-is b words e)
+
+  -- The part again.
+  pub left-again : take (length b / 2) (y ++ drop (length b / 2) words) ≡ y
+  left-again = take-at y (drop (length b / 2) words) (length b / 2) left-length
+
+  pub left-fits : length b / 2 ≤ length (y ++ drop (length b / 2) words)
+  left-fits = rw length-append (omega (arith, left-length))
+
+  pub left-count : length b / 2 ≡ length (take (length b / 2) (y ++ drop (length b / 2) words))
+  left-count = sym (ap length left-again ∙ left-length)
+
+  pub left-bytes : Whole b → length b ≡ 2 * length (take (length b / 2) (y ++ drop (length b / 2) words))
+  left-bytes w = omega (arith, left-count)
+
+  pub left-said : (after : List ℕ) → after ≡ bytesOf (take (length b / 2) (y ++ drop (length b / 2) words)) → after ≡ bytesOf y
+  left-said after s = s ∙ ap bytesOf left-again
+
+module _ (n d : ℕ) (domains tables agenda ds ts xs y after : List ℕ) (e : Says domains ds) (f : Says tables ts) (g : Says agenda xs)
+    (kept : length y ≡ length (take (length agenda / 2) xs)) (said : after ≡ bytesOf (take (length agenda / 2) (y ++ drop (length agenda / 2) xs))) where
+  pub opens-words : (r : Opened) → Opens n d (take (length domains / 2) ds) (take (length tables / 2) ts) (take (length agenda / 2) xs) y r
+      → OpensWords n d domains tables agenda after r
+  opens-words r h = record { left = y; opens = rw (← e, ← f, ← g) h; said = left-said agenda xs y g kept after said }
+
+  pub runs-words : (requests : List ℕ) (s : State) (r : Ran)
+      → Runs n d (take (length domains / 2) ds) (take (length tables / 2) ts) (take (length agenda / 2) xs) y (wordsOf requests) s r
+      → RunsWords n d domains tables agenda after requests s r
+  runs-words requests s r h = record { left = y; runs = rw (← e, ← f, ← g) h; said = left-said agenda xs y g kept after said }
+
+  pub chooses-words : (limit : ℕ) (s : State) (r : Ran)
+      → Chooses n d (take (length domains / 2) ds) (take (length tables / 2) ts) (take (length agenda / 2) xs) y limit s r
+      → ChoosesWords n d domains tables agenda after limit s r
+  chooses-words limit s r h = record { left = y; chooses = rw (← e, ← f, ← g) h; said = left-said agenda xs y g kept after said }
+
+pub saves-words : (n d : ℕ) (domains tables agenda ds ts xs : List ℕ) (s : State) (before after : List ℕ) (r : Saved) → Says domains ds → Says tables ts
+    → Says agenda xs → Saves n d (take (length domains / 2) ds) (take (length tables / 2) ts) (take (length agenda / 2) xs) s before after r
+    → Saves n d (wordsOf domains) (wordsOf tables) (wordsOf agenda) s before after r
+saves-words n d domains tables agenda ds ts xs s before after r e f g h = rw (← e, ← f, ← g) h
+
+pub loads-words : (file domains tables agenda ds ts xs x y z domains′ tables′ agenda′ : List ℕ) (r : Loaded) → Says domains ds → Says tables ts → Says agenda xs
+    → length x ≡ length (take (length domains / 2) ds) → length y ≡ length (take (length tables / 2) ts) → length z ≡ length (take (length agenda / 2) xs)
+    → Loads file (take (length domains / 2) ds) x (take (length tables / 2) ts) y (take (length agenda / 2) xs) z r
+    → domains′ ≡ bytesOf (take (length domains / 2) (x ++ drop (length domains / 2) ds))
+    → tables′ ≡ bytesOf (take (length tables / 2) (y ++ drop (length tables / 2) ts))
+    → agenda′ ≡ bytesOf (take (length agenda / 2) (z ++ drop (length agenda / 2) xs))
+    → LoadsWords file domains domains′ tables tables′ agenda agenda′ r
+loads-words file domains tables agenda ds ts xs x y z domains′ tables′ agenda′ r e f g a b c h s t u = record {
+  left-domains = x;
+  left-tables = y;
+  left-agenda = z;
+  loads = rw (← e, ← f, ← g) h;
+  said-domains = left-said domains ds x e a domains′ s;
+  said-tables = left-said tables ts y f b tables′ t;
+  said-agenda = left-said agenda xs z g c agenda′ u;
+}
+
+-- ---- what fits 32 bits
+
+-- What the chooser returns.
+pub choose-fits : (n d : ℕ) (domains tables before after : List ℕ) (limit : ℕ) (s : State) (r : Ran) → ((i : ℕ) → getD before i 0 < 256)
+    → s .counts .steps .0 < 2 ^ 32 → s .subproblems < 4294967296 → ChoosesWords n d domains tables before after limit s r → Narrow r
+choose-fits n d domains tables before after limit s r small stepped few h =
+    choose-narrow n d (wordsOf domains) (wordsOf tables) (wordsOf before) s (words-small before small) (omega arith) (h .left) limit r few (h .chooses)
+
+-- The blocks that save writes.
+pub save-fits : (n d : ℕ) (domains tables agenda : List ℕ) (s : State) (before after : List ℕ) (r : Saved)
+    → ((i : ℕ) → getD agenda i 0 < 256) → Saves n d domains tables (wordsOf agenda) s before after r → r .blocks < 4294967296
+unfolding handed blocksFor
+save-fits n d domains tables bytes s before after r small h = elim (ℕ-discrete (saveRefusal n d domains tables (wordsOf bytes) s before) 0) [
+  | yes e ↦
+      let passed = save-none n d domains tables (wordsOf bytes) s before .0 e .0 in
+      let held = first-passed n d domains tables (wordsOf bytes) s passed in
+      let slot : n + 2 ≤ 34 = omega (arith, held .numbers .variables) in
+      let slots : s .subproblems * (n + 2) ≤ 512 * 34 = mul-le-mul (held .few) slot in
+      let words : length (handedContent n d domains tables (wordsOf bytes) s) ≡ 9 + n + triangleWords n d + s .subproblems * (n + 2) = handed-length n d domains tables (wordsOf bytes) s held (words-small bytes small) in
+      let blocks : r .blocks ≡ (length (handedContent n d domains tables (wordsOf bytes) s) + 252) / 253 = rw e at (h .blocks) in
+      omega (arith, triangle-few n d (held .numbers .variables) (held .numbers .values), held .numbers .variables)
+  | no f ↦ let none : r .blocks ≡ 0 = rw (ne-eqb (saveRefusal n d domains tables (wordsOf bytes) s before) 0 f) at (h .blocks) in omega arith
+]

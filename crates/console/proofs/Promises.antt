@@ -1,0 +1,148 @@
+-- The promises of specs/Promises.antt.
+-- Assumes nothing.
+use mathlib.Core.Path.{_≡_, sym, ap, subst, _∙_}
+use mathlib.Core.Logic.{inl}
+use mathlib.Core.List.{List, []}
+use Prim.Native.Nat.{ℕ}
+use native.Mathlib.Omega.{arith}
+use Rattle.search.specs.Verdicts.{numberOf}
+use Rattle.search.specs.Calls.{Opens, Runs, Chooses}
+use Rattle.search.specs.declared.state.Opened.{Opened}
+use Rattle.search.specs.declared.state.Ran.{Ran}
+use Rattle.search.proofs.Promises.{open-refusal-1, open-refusal-2, open-refusal-3}
+use Rattle.files.specs.declared.saved.Saved.{Saved}
+use Rattle.files.specs.declared.saved.Loaded.{Loaded}
+use Rattle.files.proofs.Refusals.{load-14, load-15, load-3}
+use Rattle.console.specs.Bytes.{wordsOf}
+use Rattle.console.specs.Promises.{Words-again, Bytes-again, Unwhole-1, Unwhole-2, Unwhole-3, Unwhole-14, Unwhole-15, Unwhole-file-3, Open-in-words, Run-in-words, Choose-in-words, Load-in-words, Run-in-parts, Rastwob-open-one, Rastwob-run-one, Rastwob-choose-one, Rastwob-save-one, Rastwob-load-one}
+use Rattle.console.proofs.Words as words
+use Rattle.console.proofs.Rooms.{none-unwhole, load-no-words}
+use Rattle.console.proofs.Runs.{run-joined, run-ended}
+use Rattle.console.proofs.OneOutcome.{opens-one, runs-one, chooses-one, saves-one, loads-one}
+
+-- ---- words and bytes
+
+pub words-again : Words-again
+words-again w = (omega (arith, words.bytes-length w), words.bytes-small w, words.words-again w)
+
+pub bytes-again : Bytes-again
+bytes-again b e h = (words.words-small b h, words.bytes-again b e h)
+
+-- ---- a slice that is not whole words
+
+pub unwhole-1 : Unwhole-1
+unwhole-1 n d = rw none-unwhole at (open-refusal-1 n d [] [] [])
+
+pub unwhole-2 : Unwhole-2
+unwhole-2 n d = rw none-unwhole at (open-refusal-2 n d [] [] [])
+
+pub unwhole-3 : Unwhole-3
+unwhole-3 n d =
+    let both = rw none-unwhole at (open-refusal-3 n d [] [] []) in (
+      (λ e. (both .0 e .1, both .0 e .2)),
+      (λ f. both .1 (inl (λ e. f .0 (inl (omega arith))), f .0, f .1)),
+    )
+
+pub unwhole-14 : Unwhole-14
+unwhole-14 file = rw load-no-words at (load-14 file [] [] [])
+
+pub unwhole-15 : Unwhole-15
+unwhole-15 file = rw load-no-words at (load-15 file [] [] [])
+
+pub unwhole-file-3 : Unwhole-file-3
+unwhole-file-3 file =
+    let both = rw load-no-words at (load-3 file [] [] []) in (
+      (λ e. (both .0 e .0, both .0 e .1)),
+      (λ f. both .1 (f .0, f .1, inl (λ e. f .1 (inl (inl (omega arith)))))),
+    )
+
+-- ---- the words before and after
+
+pub open-in-words : Open-in-words
+open-in-words n d domains tables before after r w h =
+    let x = h .whole w in
+    subst (λ (l : List ℕ). Opens n d (wordsOf domains) (wordsOf tables) (wordsOf before) l r) (sym (ap wordsOf (x .said) ∙ words.words-again (x .left))) (x .opens)
+
+pub run-in-words : Run-in-words
+run-in-words n d domains tables before after requests s r w e h =
+    let x = h .whole w e in
+    subst (λ (l : List ℕ). Runs n d (wordsOf domains) (wordsOf tables) (wordsOf before) l (wordsOf requests) s r) (sym (ap wordsOf (x .said) ∙ words.words-again (x .left))) (x .runs)
+
+pub choose-in-words : Choose-in-words
+choose-in-words n d domains tables before after limit s r w h =
+    let x = h .whole w in
+    subst (λ (l : List ℕ). Chooses n d (wordsOf domains) (wordsOf tables) (wordsOf before) l limit s r) (sym (ap wordsOf (x .said) ∙ words.words-again (x .left))) (x .chooses)
+
+pub load-in-words : Load-in-words
+load-in-words file domains domains′ tables tables′ agenda agenda′ r w h =
+    let x = h .whole w in
+    let a : wordsOf domains′ ≡ x .left-domains = ap wordsOf (x .said-domains) ∙ words.words-again (x .left-domains) in
+    let b : wordsOf tables′ ≡ x .left-tables = ap wordsOf (x .said-tables) ∙ words.words-again (x .left-tables) in
+    let c : wordsOf agenda′ ≡ x .left-agenda = ap wordsOf (x .said-agenda) ∙ words.words-again (x .left-agenda) in
+    rw (a, b, c) (x .loads)
+
+-- ---- two parts
+
+pub run-in-parts : Run-in-parts
+run-in-parts n d domains tables before mid requests more s r small stepped w v runs = (
+  (λ e t after q h. run-joined n d domains tables before s small stepped mid requests more r w v runs e t after q h),
+  (λ f. run-ended n d domains tables before s small stepped mid requests more r w v runs (λ e z. f e (ap numberOf z))),
+)
+
+-- ---- one answer
+
+pub rastwob-open-one : Rastwob-open-one
+rastwob-open-one n d domains tables before after after′ steps steps′ checks checks′ subproblems subproblems′ refusal refusal′ h k =
+    let (same, bytes) = opens-one n d domains tables before after after′ (h .outcome) (k .outcome) (h .opens) (k .opens) in (
+      bytes,
+      h .its-steps ∙ ap (λ (x : Opened). x .state .counts .steps .0) same ∙ sym (k .its-steps),
+      h .its-checks ∙ ap (λ (x : Opened). x .state .counts .checks .0) same ∙ sym (k .its-checks),
+      h .its-subproblems ∙ ap (λ (x : Opened). x .state .subproblems) same ∙ sym (k .its-subproblems),
+      h .its-refusal ∙ ap (λ (x : Opened). x .refusal) same ∙ sym (k .its-refusal),
+    )
+
+pub rastwob-run-one : Rastwob-run-one
+rastwob-run-one n d domains tables before after after′ requests steps checks subproblems s₁ s₂ c₁ c₂ m₁ m₂ v v′ t t′ f f′ h k =
+    let (same, bytes) = runs-one n d domains tables before after after′ requests _ (h .outcome) (k .outcome) (h .runs) (k .runs) in (
+      bytes,
+      h .hands-out .its-steps ∙ ap (λ (x : Ran). x .state .counts .steps .0) same ∙ sym (k .hands-out .its-steps),
+      h .hands-out .its-checks ∙ ap (λ (x : Ran). x .state .counts .checks .0) same ∙ sym (k .hands-out .its-checks),
+      h .hands-out .its-subproblems ∙ ap (λ (x : Ran). x .state .subproblems) same ∙ sym (k .hands-out .its-subproblems),
+      h .hands-out .its-verdict ∙ ap (λ (x : Ran). numberOf (x .verdict)) same ∙ sym (k .hands-out .its-verdict),
+      h .hands-out .its-taken ∙ ap (λ (x : Ran). x .taken) same ∙ sym (k .hands-out .its-taken),
+      h .hands-out .its-refusal ∙ ap (λ (x : Ran). x .refusal) same ∙ sym (k .hands-out .its-refusal),
+    )
+
+pub rastwob-choose-one : Rastwob-choose-one
+rastwob-choose-one n d domains tables before after after′ limit steps checks subproblems s₁ s₂ c₁ c₂ m₁ m₂ v v′ t t′ f f′ h k =
+    let (same, bytes) = chooses-one n d domains tables before after after′ limit _ (h .outcome) (k .outcome) (h .chooses) (k .chooses) in (
+      bytes,
+      h .hands-out .its-steps ∙ ap (λ (x : Ran). x .state .counts .steps .0) same ∙ sym (k .hands-out .its-steps),
+      h .hands-out .its-checks ∙ ap (λ (x : Ran). x .state .counts .checks .0) same ∙ sym (k .hands-out .its-checks),
+      h .hands-out .its-subproblems ∙ ap (λ (x : Ran). x .state .subproblems) same ∙ sym (k .hands-out .its-subproblems),
+      h .hands-out .its-verdict ∙ ap (λ (x : Ran). numberOf (x .verdict)) same ∙ sym (k .hands-out .its-verdict),
+      h .hands-out .its-taken ∙ ap (λ (x : Ran). x .taken) same ∙ sym (k .hands-out .its-taken),
+      h .hands-out .its-refusal ∙ ap (λ (x : Ran). x .refusal) same ∙ sym (k .hands-out .its-refusal),
+    )
+
+pub rastwob-save-one : Rastwob-save-one
+rastwob-save-one n d domains tables agenda steps checks subproblems before after after′ blocks blocks′ refusal refusal′ h k =
+    let (same, bytes) = saves-one n d domains tables agenda _ before after after′ (h .outcome) (k .outcome) (h .saves) (k .saves) in (
+      bytes,
+      h .its-blocks ∙ ap (λ (x : Saved). x .blocks) same ∙ sym (k .its-blocks),
+      h .its-refusal ∙ ap (λ (x : Saved). x .refusal) same ∙ sym (k .its-refusal),
+    )
+
+pub rastwob-load-one : Rastwob-load-one
+rastwob-load-one file domains domains₁ domains₂ tables tables₁ tables₂ agenda agenda₁ agenda₂ n n′ d d′ steps steps′ checks checks′ subproblems subproblems′ refusal refusal′ h k =
+    let (same, one, two, three) = loads-one file domains domains₁ domains₂ tables tables₁ tables₂ agenda agenda₁ agenda₂ (h .outcome) (k .outcome) (h .loads) (k .loads) in (
+      one,
+      two,
+      three,
+      h .its-n ∙ ap (λ (x : Loaded). x .n) same ∙ sym (k .its-n),
+      h .its-d ∙ ap (λ (x : Loaded). x .d) same ∙ sym (k .its-d),
+      h .its-steps ∙ ap (λ (x : Loaded). x .state .counts .steps .0) same ∙ sym (k .its-steps),
+      h .its-checks ∙ ap (λ (x : Loaded). x .state .counts .checks .0) same ∙ sym (k .its-checks),
+      h .its-subproblems ∙ ap (λ (x : Loaded). x .state .subproblems) same ∙ sym (k .its-subproblems),
+      h .its-refusal ∙ ap (λ (x : Loaded). x .refusal) same ∙ sym (k .its-refusal),
+    )

@@ -1,0 +1,221 @@
+-- Bytes that are turned into words, and the refusal of those that are not.
+-- Assumes nothing.
+use mathlib.Core.Path.{_≡_, refl, sym, ap, _∙_}
+use mathlib.Core.Logic.{_⊎_, inl, inr, ⊎-elim}
+use mathlib.Core.Bool.{Bool, true, false, cond, _&&_}
+use mathlib.Core.List.{List, []}
+use Prim.Native.Nat.{ℕ, _+_, _*_, _%_, _≤_, _<_}
+use native.Mathlib.Omega.{arith}
+use native.Mathlib.Nat.{mul-le-mul, lt-of-not-le}
+use native.Mathlib.Decide.{decLt}
+use lib.ListN.{length}
+use lib.Dec.{eqb, leb}
+use borrow.Author.Tests.{leb-true, leb-false, eqb-true, eqb-false, eq-eqb, ne-eqb}
+use Rattle.splits.proofs.Tests.{and-left, and-right}
+use Rattle.search.specs.Agenda.{problemOf}
+use Rattle.search.specs.FirstChecks.{orElse, refusalOfNumbers, wholeSlots, refusalOfLengths, refusalOfRequests, refusalOfProblem, refusalOfSearch, openRefusal, searchRefusal, runRefusal}
+use Rattle.search.proofs.Deserved.{slots-true}
+use Rattle.search.proofs.FirstPassing.{numbers-none}
+use Rattle.files.proofs.Tests.{and-cases}
+use Rattle.files.specs.Reading.{saidN, saidD, refusalOfFile, refusalOfWords}
+use Rattle.files.specs.Calls.{saveRefusal, loadRefusal}
+use Rattle.search.specs.declared.state.State.{State}
+use Rattle.files.proofs.Accepted.{words-accept}
+use Rattle.console.specs.Bytes.{wordsOf}
+use Rattle.console.specs.Calls.{WholeProblem, unwhole, unwholeFile}
+use Rattle.console.specs.Work.Rooms.{fits, roomFor, wholeList, Fits, Room}
+use Rattle.console.proofs.Words.{words-length}
+
+-- ---- what the tests say
+
+fits-true : (bytes most : ℕ) → fits bytes most ≡ true → Fits bytes most
+unfolding fits
+fits-true bytes most e = record {
+  even = eqb-true (bytes % 2) 0 (and-left (eqb (bytes % 2) 0) (leb bytes (2 * most)) e);
+  few = leb-true bytes (2 * most) (and-right (eqb (bytes % 2) 0) (leb bytes (2 * most)) e);
+}
+
+fits-false : (bytes most : ℕ) → fits bytes most ≡ false → bytes % 2 ≡ 0 → 2 * most < bytes
+unfolding fits
+fits-false bytes most e even = leb-false bytes (2 * most) (rw (eq-eqb (bytes % 2) 0 even) at e)
+
+pub room-true : (domains tables agenda : List ℕ) (b : Bool) → b ≡ roomFor (length domains) (length tables) (length agenda) → b ≡ true → Room domains tables agenda
+unfolding roomFor
+room-true domains tables agenda b s y =
+    let x : Bool = fits (length domains) 32 in
+    let y′ : Bool = fits (length tables) 16384 in
+    let z : Bool = fits (length agenda) 17408 in
+    let all : (x && y′ && z) ≡ true = sym s ∙ y in
+    let two : (x && y′) ≡ true = and-left (x && y′) z all in
+    record {
+      of-domains = fits-true (length domains) 32 (and-left x y′ two);
+      of-tables = fits-true (length tables) 16384 (and-right x y′ two);
+      of-agenda = fits-true (length agenda) 17408 (and-right (x && y′) z all);
+    }
+
+-- One of them is longer than any that the rules allow.
+abbrev pub Long : List ℕ → List ℕ → List ℕ → Type 0
+Long domains tables agenda = (64 < length domains) ⊎ (32768 < length tables) ⊎ (34816 < length agenda)
+
+pub room-false : (domains tables agenda : List ℕ) (b : Bool) → b ≡ roomFor (length domains) (length tables) (length agenda) → b ≡ false
+    → WholeProblem domains tables agenda → Long domains tables agenda
+unfolding roomFor
+room-false domains tables agenda b s y w =
+    let x : Bool = fits (length domains) 32 in
+    let y′ : Bool = fits (length tables) 16384 in
+    let z : Bool = fits (length agenda) 17408 in
+    ⊎-elim
+    (λ two. ⊎-elim (λ e. inl (fits-false (length domains) 32 e (w .of-domains))) (λ e. inr (inl (fits-false (length tables) 16384 e (w .of-tables)))) (and-cases x y′ two))
+    (λ e. inr (inr (fits-false (length agenda) 17408 e (w .of-agenda))))
+    (and-cases (x && y′) z (sym s ∙ y))
+
+-- ---- then 3 is deserved
+
+pub record In-range (n d : ℕ) : Type 0 where
+  pub some : 1 ≤ n
+  pub few : n ≤ 32
+  pub small : d ≤ 16
+
+pub in-range : (n d : ℕ) → refusalOfNumbers n d ≡ 0 → In-range n d
+in-range n d e =
+    let f = numbers-none n d .0 e in record {
+      some = elim (decLt n 1) [
+        | yes l ↦ absurd (f .0 (inl l))
+        | no a ↦ omega (arith, lt-of-not-le a)
+      ];
+      few = elim (decLt 32 n) [
+        | yes l ↦ absurd (f .0 (inr l))
+        | no a ↦ omega (arith, lt-of-not-le a)
+      ];
+      small = elim (decLt 16 d) [
+        | yes l ↦ absurd (f .1 (inr l))
+        | no a ↦ omega (arith, lt-of-not-le a)
+      ];
+    }
+
+-- So many words are more than the rules allow.
+abbrev pub Above : ℕ → ℕ → ℕ → Type 0
+Above domains tables agenda = (32 < domains) ⊎ (16384 < tables) ⊎ (17408 < agenda)
+
+pub long-above : (domains tables agenda : List ℕ) → WholeProblem domains tables agenda → Long domains tables agenda
+    → Above (length (wordsOf domains)) (length (wordsOf tables)) (length (wordsOf agenda))
+long-above domains tables agenda w h =
+    ⊎-elim (λ l. inl (omega (arith, words-length domains, w .of-domains)))
+    (λ k. inr (⊎-elim (λ l. inl (omega (arith, words-length tables, w .of-tables))) (λ l. inr (omega (arith, words-length agenda, w .of-agenda))) k)) h
+
+pub lengths-three : (n d domains tables agenda : ℕ) → n ≤ 32 → d ≤ 16 → Above domains tables agenda → refusalOfLengths n d domains tables agenda ≡ 3
+unfolding refusalOfLengths
+lengths-three n d domains tables agenda few small h = go (eqb domains n && eqb tables (n * n * d) && wholeSlots n agenda) refl
+  where
+    go : (b : Bool) → (eqb domains n && eqb tables (n * n * d) && wholeSlots n agenda) ≡ b → _≡_ {A = ℕ} (cond b 0 3) 3
+    go false e = refl
+    go true e =
+        let x : Bool = eqb domains n in
+        let y : Bool = eqb tables (n * n * d) in
+        let z : Bool = wholeSlots n agenda in
+        let two : (x && y) ≡ true = and-left (x && y) z e in
+        let its-n : domains ≡ n = eqb-true domains n (and-left x y two) in
+        let its-masks : tables ≡ n * n * d = eqb-true tables (n * n * d) (and-right x y two) in
+        let masks : n * n * d ≤ 32 * 32 * 16 = mul-le-mul (mul-le-mul few few) small in
+        let slots = slots-true n agenda (and-right (x && y) z e) in
+        let slot : n + 2 ≤ 34 = omega arith in
+        let words : slots .0 * (n + 2) ≤ 512 * 34 = mul-le-mul (slots .2) slot in
+        absurd (⊎-elim (λ l. omega arith) (λ k. ⊎-elim (λ l. omega arith) (λ l. omega (arith, slots .3)) k) h)
+
+-- ---- the refusals that follow
+
+else-three : (a x : ℕ) → (a ≡ 0 → x ≡ 3) → orElse a x ≡ orElse a 3
+else-three a x h = go (eqb a 0) refl
+  where
+    go : (b : Bool) → eqb a 0 ≡ b → cond b x a ≡ cond b 3 a
+    go true e = h (eqb-true a 0 e)
+    go false e = refl
+
+unwhole-some : (a : ℕ) → orElse a 3 ≡ 0 → ⊥
+unwhole-some a = go (eqb a 0) refl
+  where
+    go : (b : Bool) → eqb a 0 ≡ b → cond b 3 a ≡ 0 → ⊥
+    go true e h = absurd (omega arith)
+    go false e h = eqb-false a 0 e h
+
+pub unwhole-not : (n d : ℕ) → unwhole n d ≡ 0 → ⊥
+unfolding unwhole
+unwhole-not n d = unwhole-some (refusalOfNumbers n d)
+
+module _ (n d : ℕ) (domains tables agenda : List ℕ) where
+  -- Of opening.
+  pub open-above : Above (length domains) (length tables) (length agenda) → openRefusal n d domains tables agenda ≡ unwhole n d
+  unfolding openRefusal unwhole
+  open-above h =
+      else-three (refusalOfNumbers n d) _
+      (λ e. let r = in-range n d e in rw (lengths-three n d (length domains) (length tables) (length agenda) (r .few) (r .small) h) refl)
+
+  -- Of the chooser and of save.
+  pub search-above : (steps checks subproblems : ℕ) → Above (length domains) (length tables) (length agenda)
+      → searchRefusal n d domains tables agenda steps checks subproblems ≡ unwhole n d
+  unfolding searchRefusal
+  search-above steps checks subproblems h = rw (open-above h, ne-eqb (unwhole n d) 0 (unwhole-not n d)) refl
+
+  -- Of a run.
+  pub run-above : (requests : List ℕ) (steps checks subproblems : ℕ) → Above (length domains) (length tables) (length agenda)
+      → runRefusal n d domains tables agenda requests steps checks subproblems ≡ unwhole n d
+  unfolding runRefusal unwhole
+  run-above requests steps checks subproblems h =
+      else-three (refusalOfNumbers n d) _
+      (λ e. let r = in-range n d e in rw (lengths-three n d (length domains) (length tables) (length agenda) (r .few) (r .small) h) refl)
+
+  -- Of a run whose list is not whole requests.
+  pub run-cut : (requests : List ℕ) (steps checks subproblems : ℕ) → (n ≤ 32 → refusalOfRequests n (length requests) ≡ 3)
+      → runRefusal n d domains tables agenda requests steps checks subproblems ≡ unwhole n d
+  unfolding runRefusal unwhole refusalOfLengths
+  run-cut requests steps checks subproblems h =
+      else-three (refusalOfNumbers n d) _
+      (λ e. go (eqb (length domains) n && eqb (length tables) (n * n * d) && wholeSlots n (length agenda)) (refusalOfRequests n (length requests)) (h (in-range n d e .few)))
+    where
+      go : (b : Bool) (x : ℕ) → x ≡ 3
+          → orElse (cond b 0 3) (orElse x (orElse (refusalOfProblem (problemOf n d domains tables)) (refusalOfSearch (problemOf n d domains tables) agenda steps checks subproblems))) ≡ 3
+      go true x e = rw e refl
+      go false x e = refl
+
+-- Of save.
+pub save-above : (n d : ℕ) (domains tables agenda : List ℕ) (s : State) (file : List ℕ) → Above (length domains) (length tables) (length agenda)
+    → saveRefusal n d domains tables agenda s file ≡ unwhole n d
+unfolding saveRefusal
+save-above n d domains tables agenda s file h =
+    rw (search-above n d domains tables agenda (s .counts .steps .0) (s .counts .checks .0) (s .subproblems) h, ne-eqb (unwhole n d) 0 (unwhole-not n d)) refl
+
+-- The first checks of no words at all.
+pub none-unwhole : (n d : ℕ) → openRefusal n d [] [] [] ≡ unwhole n d
+unfolding openRefusal unwhole refusalOfLengths
+none-unwhole n d =
+    else-three (refusalOfNumbers n d) _
+    (λ e. let r = in-range n d e in let f : eqb 0 n ≡ false = ne-eqb 0 n (λ z. absurd (omega (arith, r .some))) in rw f refl)
+
+-- A list that is not whole requests.
+pub list-true : (n bytes : ℕ) (b : Bool) → b ≡ wholeList n bytes → b ≡ true → (n ≤ 32) × (bytes % (2 * (n + 3)) ≡ 0)
+unfolding wholeList
+list-true n bytes b s y =
+    let e : wholeList n bytes ≡ true = sym s ∙ y in
+    (leb-true n 32 (and-left (leb n 32) (eqb (bytes % (2 * (n + 3))) 0) e), eqb-true (bytes % (2 * (n + 3))) 0 (and-right (leb n 32) (eqb (bytes % (2 * (n + 3))) 0) e))
+
+-- ---- load
+
+pub unwhole-file-not : (file : List ℕ) → unwholeFile file ≡ 0 → ⊥
+unfolding unwholeFile
+unwhole-file-not file = go (eqb (refusalOfFile file) 0) refl
+  where
+    go : (b : Bool) → eqb (refusalOfFile file) 0 ≡ b → cond b (orElse (refusalOfWords file) 3) (refusalOfFile file) ≡ 0 → ⊥
+    go true e h = unwhole-some (refusalOfWords file) h
+    go false e h = eqb-false (refusalOfFile file) 0 e h
+
+pub load-above : (file : List ℕ) (domains tables agenda : ℕ) → Above domains tables agenda → loadRefusal file domains tables agenda ≡ unwholeFile file
+unfolding loadRefusal unwholeFile
+load-above file domains tables agenda h =
+    ap (orElse (refusalOfFile file)) (else-three (refusalOfWords file) _
+    (λ e. let r = words-accept file e in rw (lengths-three (saidN file) (saidD file) domains tables agenda (r .variables) (r .values) h) refl))
+
+pub load-no-words : (file : List ℕ) → loadRefusal file 0 0 0 ≡ unwholeFile file
+unfolding loadRefusal unwholeFile refusalOfLengths
+load-no-words file =
+    ap (orElse (refusalOfFile file)) (else-three (refusalOfWords file) _
+    (λ e. let r = words-accept file e in let f : eqb 0 (saidN file) ≡ false = ne-eqb 0 (saidN file) (λ z. absurd (omega (arith, r .some-variable))) in rw f refl))

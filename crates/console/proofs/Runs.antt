@@ -1,0 +1,242 @@
+-- A run of two lists of requests, one after the other: of a stack, and in lent words.
+-- Assumes nothing.
+use mathlib.Core.Path.{_≡_, refl, sym, ap, ap₂, subst, _∙_}
+use mathlib.Core.Logic.{⊎-elim}
+use mathlib.Core.Bool.{Bool, true, false}
+use mathlib.Core.List.{List, _∷_, _++_}
+use Prim.Native.Nat.{ℕ, _+_, _^_, _≤_, _<_}
+use native.Mathlib.Omega.{arith}
+use native.Mathlib.Nat.{zero-add}
+use native.Mathlib.Decide.{ℕ-discrete}
+use lib.ListN.{length, getD}
+use lib.Dec.{eqb}
+use borrow.Author.Tests.{ne-eqb}
+use Rattle.splits.specs.Problem.{Problem}
+use Rattle.search.specs.Agenda.{problemOf, slotsIn, agendaOf}
+use Rattle.search.specs.Verdicts.{finished, verdictOf}
+use Rattle.search.specs.Runs.{Search, Stopped, step, run, requestsIn}
+use Rattle.search.specs.FirstChecks.{WholeRequests, runRefusal}
+use Rattle.search.specs.Calls.{searchOf, Ends, Runs, Chooses}
+use Rattle.search.specs.Promises.{Handed, Leaves, picks}
+use Rattle.search.specs.declared.state.State.{State}
+use Rattle.search.specs.declared.state.Ran.{Ran}
+use Rattle.search.specs.declared.state.Verdict.the-variants.{Running}
+use Rattle.search.proofs.Verdicts.{running}
+use Rattle.search.proofs.Runs.{after, run-finished, run-taken, run-refused, run-ind, stops}
+use Rattle.search.proofs.FirstPassing.{search-is-passed, run-is-passed}
+use Rattle.search.proofs.Picking.{picked}
+use Rattle.search.proofs.HandedOn.{known, run-leaves-so, chooser-leaves-so}
+use Rattle.files.proofs.Passing.{slots-in, requests-whole}
+use Rattle.files.proofs.Requests.{whole-append, requests-append}
+use Rattle.files.proofs.LoadOutcomes.{given, not-given}
+use Rattle.console.specs.Work.Parts.{joined, Narrow}
+
+-- ---- of a stack
+
+module _ (p : Problem) (room : ℕ) where
+  after-none : (x : Stopped) → x ≡ after 0 x
+  after-none x = λ i. record { search = x .search; refusal = x .refusal; taken = sym (zero-add (x .taken)) i }
+
+  after-more : (k : ℕ) (x : Stopped) → after 1 (after k x) ≡ after (1 + k) x
+  after-more k x = let e : 1 + (k + x .taken) ≡ 1 + k + x .taken = omega arith in λ i. record { search = x .search; refusal = x .refusal; taken = e i }
+
+  -- A list that is taken whole is gone on from.
+  pub run-on : (qs rs : List (List ℕ)) (s : Search) → run p room rs s .refusal ≡ 0 → run p room rs s .taken ≡ length rs
+      → run p room (rs ++ qs) s ≡ after (run p room rs s .taken) (run p room qs (run p room rs s .search))
+  run-on qs =
+      run-ind p room (λ rs s x. x .refusal ≡ 0 → x .taken ≡ length rs → run p room (rs ++ qs) s ≡ after (x .taken) (run p room qs (x .search)))
+      (λ s e t. after-none (run p room qs s))
+      (λ r rs s e f t. absurd (omega (arith, t)))
+      (λ r rs s e h f t. absurd (h f))
+      (λ r rs s x e h same f t.
+      run-taken p room r (rs ++ qs) s e h ∙ ap (after 1) (same f (omega (arith, t))) ∙ after-more (x .taken) (run p room qs (x .search)))
+
+  is-finished : (s : Search) → (verdictOf (p .n) (s .stack) ≡ Running → ⊥) → finished (p .n) (s .stack) ≡ true
+  is-finished s f = go (finished (p .n) (s .stack)) refl
+    where
+      go : (b : Bool) → finished (p .n) (s .stack) ≡ b → b ≡ true
+      go true e = refl
+      go false e = absurd (f (running (p .n) (s .stack) e))
+
+  -- A run that stops in its list stops there, whatever follows.
+  pub run-stopped : (qs rs : List (List ℕ)) (s : Search)
+      → (run p room rs s .refusal ≡ 0 → verdictOf (p .n) (run p room rs s .search .stack) ≡ Running → ⊥) → run p room (rs ++ qs) s ≡ run p room rs s
+  run-stopped qs =
+      run-ind p room (λ rs s x. (x .refusal ≡ 0 → verdictOf (p .n) (x .search .stack) ≡ Running → ⊥) → run p room (rs ++ qs) s ≡ x)
+      (λ s f. run-finished p room qs s (is-finished s (f refl)))
+      (λ r rs s e f. run-finished p room (r ∷ rs ++ qs) s e)
+      (λ r rs s e h f. run-refused p room r (rs ++ qs) s e h)
+      (λ r rs s x e h same f. run-taken p room r (rs ++ qs) s e h ∙ ap (after 1) (same f))
+
+  -- Each request taken is one step.
+  pub run-steps : (rs : List (List ℕ)) (s : Search) → run p room rs s .search .steps ≡ s .steps + run p room rs s .taken
+  unfolding step
+  run-steps =
+      run-ind p room (λ rs s x. x .search .steps ≡ s .steps + x .taken)
+      (λ s. omega arith) (λ r rs s e. omega arith) (λ r rs s e h. omega arith) (λ r rs s x e h same. omega (arith, same))
+
+  -- Still running with none refused, it took all.
+  pub run-whole : (rs : List (List ℕ)) (s : Search) → run p room rs s .refusal ≡ 0 → verdictOf (p .n) (run p room rs s .search .stack) ≡ Running
+      → run p room rs s .taken ≡ length rs
+  run-whole rs s e v =
+      ⊎-elim (λ f. absurd (f .verdict v)) (λ k. ⊎-elim (λ f. absurd (f .refused e)) (λ f. f .taken) k) (stops p room rs s .1)
+
+-- ---- in lent words
+
+-- The statement of a run at an equal list.
+pub runs-list : (n d : ℕ) (domains tables before left a b : List ℕ) (s : State) (r : Ran) → a ≡ b → Runs n d domains tables before left a s r
+    → Runs n d domains tables before left b s r
+runs-list n d domains tables before left a b s r e h = rw (← e) h
+
+-- 32 bits hold the subproblems of a search that passes.
+few-held : (n d : ℕ) (domains tables agenda : List ℕ) (s : State) → Handed n d domains tables agenda s → s .subproblems < 4294967296
+few-held n d domains tables agenda s h =
+    let passed = known n d domains tables agenda s h .passed in
+    let (slots, some, most, words) = passed .passed .slots in
+    let count : slotsIn n (length agenda) ≡ slots = ap (slotsIn n) words ∙ slots-in n slots in
+    omega (arith, passed .room)
+
+-- What a call ends with that passed its first checks, and whose run took so many steps, fits 32 bits.
+ends-narrow : (first n d : ℕ) (domains tables before left : List ℕ) (s : State) (x : Stopped) (r : Ran) → Ends first n before left s x r
+    → s .subproblems < 4294967296 → (first ≡ 0 → Leaves n d domains tables before left (r .state) (x .search))
+    → x .search .steps ≡ s .counts .steps .0 + x .taken → Narrow r
+ends-narrow first n d domains tables before left s x r ends few leaves stepped = elim (ℕ-discrete first 0) [
+  | yes e ↦
+      let l = leaves e in
+      let taken : r .taken ≡ x .taken = rw e at (ends .taken) in
+      let steps : r .state .counts .steps .0 ≡ x .search .steps = rw e at (ends .steps) in
+      record { taken = omega (arith, l .handed .stepped); subproblems = few-held n d domains tables left (r .state) (l .handed) }
+  | no f ↦
+      let taken : r .taken ≡ 0 = rw (ne-eqb first 0 f) at (ends .taken) in
+      let count : r .state .subproblems ≡ s .subproblems = rw (ne-eqb first 0 f) at (ends .subproblems) in
+      record { taken = omega arith; subproblems = omega arith }
+]
+
+module _ (n d : ℕ) (domains tables before : List ℕ) (s : State) (small : (i : ℕ) → getD before i 0 < 2 ^ 16) (stepped : s .counts .steps .0 ≤ 4294967295) where
+  p : Problem
+  p = problemOf n d domains tables
+
+  room : ℕ
+  room = slotsIn n (length before)
+
+  -- A search that passes the first checks of a run.
+  run-handed : (requests : List ℕ) → runRefusal n d domains tables before requests (s .counts .steps .0) (s .counts .checks .0) (s .subproblems) ≡ 0
+      → Handed n d domains tables before s
+  run-handed requests e = record {
+    words = small;
+    stepped = stepped;
+    passes =
+        search-is-passed n d domains tables before (s .counts .steps .0) (s .counts .checks .0) (s .subproblems) .1
+        (run-is-passed n d domains tables before (s .counts .steps .0) (s .counts .checks .0) (s .subproblems) requests .0 e .0);
+  }
+
+  -- What a run and the chooser return fits 32 bits.
+  pub run-narrow : (left requests : List ℕ) (r : Ran) → WholeRequests n (length requests) → s .subproblems < 4294967296
+      → Runs n d domains tables before left requests s r → Narrow r
+  run-narrow left requests r whole few runs =
+      ends-narrow _ n d domains tables before left s _ r runs few
+      (λ e. run-leaves-so n d domains tables before left requests s r (run-handed requests e) runs .0 whole)
+      (run-steps (problemOf n d domains tables) (slotsIn n (length before)) (requestsIn n requests) (searchOf n before s))
+
+  -- The steps that a run leaves fit their counter.
+  pub run-stepped : (left requests : List ℕ) (r : Ran) → WholeRequests n (length requests) → Runs n d domains tables before left requests s r
+      → r .state .counts .steps .0 ≤ 4294967295
+  run-stepped left requests r whole runs =
+      let first : ℕ = runRefusal n d domains tables before requests (s .counts .steps .0) (s .counts .checks .0) (s .subproblems) in
+      elim (ℕ-discrete first 0) [
+        | yes e ↦ run-leaves-so n d domains tables before left requests s r (run-handed requests e) runs .0 whole .handed .stepped
+        | no f ↦ let same : r .state .counts .steps .0 ≡ s .counts .steps .0 = rw (ne-eqb first 0 f) at (runs .steps) in omega (arith, stepped)
+      ]
+
+  pub choose-narrow : (left : List ℕ) (limit : ℕ) (r : Ran) → s .subproblems < 4294967296 → Chooses n d domains tables before left limit s r → Narrow r
+  choose-narrow left limit r few chooses =
+      let as-run = picked (problemOf n d domains tables) (slotsIn n (length before)) limit (searchOf n before s) 0 in
+      ends-narrow _ n d domains tables before left s _ r chooses few
+      (λ e. chooser-leaves-so n d domains tables before left limit s r (record { words = small; stepped = stepped; passes = e }) chooses)
+      (rw as-run (run-steps (problemOf n d domains tables) (slotsIn n (length before)) (picks (problemOf n d domains tables) (slotsIn n (length before)) limit (searchOf n before s)) (searchOf n before s)))
+
+  module _ (mid a b : List ℕ) (r : Ran) (wa : WholeRequests n (length a)) (wb : WholeRequests n (length b)) (runs : Runs n d domains tables before mid a s r) where
+    first : List ℕ → ℕ
+    first requests = runRefusal n d domains tables before requests (s .counts .steps .0) (s .counts .checks .0) (s .subproblems)
+
+    -- The list's length apart, the first checks do not read the requests.
+    first-same : first (a ++ b) ≡ first a
+    unfolding first runRefusal
+    first-same = rw (requests-whole n (length a) wa, requests-whole n (length (a ++ b)) (whole-append n a b wa wb)) refl
+
+    -- A run that is not refused passed its first checks.
+    passed : r .refusal ≡ 0 → first a ≡ 0
+    unfolding first
+    passed e = elim (ℕ-discrete (first a) 0) [
+      | yes z ↦ z
+      | no f ↦ absurd (f (sym (rw (ne-eqb (first a) 0 f) at (runs .refusal)) ∙ e))
+    ]
+
+    x0 : Search
+    x0 = searchOf n before s
+
+    x1 : Stopped
+    x1 = run p room (requestsIn n a) x0
+
+    -- The run of both lists, where the first was taken whole.
+    pub run-joined : r .refusal ≡ 0 → r .taken ≡ length (requestsIn n a) → (left : List ℕ) (q : Ran) → Runs n d domains tables mid left b (r .state) q
+        → Runs n d domains tables before left (a ++ b) s (joined (r .taken) q)
+    unfolding first p room x0 x1
+    run-joined e t left q more =
+        let zero : first a ≡ 0 = passed e in
+        let l = run-leaves-so n d domains tables before mid a s r (run-handed a zero) runs .0 wa in
+        let none : runRefusal n d domains tables mid b (r .state .counts .steps .0) (r .state .counts .checks .0) (r .state .subproblems) ≡ 0 =
+        run-is-passed n d domains tables mid (r .state .counts .steps .0) (r .state .counts .checks .0) (r .state .subproblems) b .1
+        (known n d domains tables mid (r .state) (l .handed) .passed, wb) in
+        let x2 : Stopped = run p (slotsIn n (length mid)) (requestsIn n b) (searchOf n mid (r .state)) in
+        let same : x2 ≡ run p room (requestsIn n b) (x1 .search) =
+        ap₂ (λ (k : ℕ) (y : Search). run p k (requestsIn n b) y) (ap (slotsIn n) (l .length-kept)) (l .search) in
+        let refused : x1 .refusal ≡ 0 = sym (rw zero at (runs .refusal)) ∙ e in
+        let taken : r .taken ≡ x1 .taken = rw zero at (runs .taken) in
+        let whole : run p room (requestsIn n (a ++ b)) x0 ≡ after (x1 .taken) x2 =
+        ap (λ (rs : List (List ℕ)). run p room rs x0) (requests-append n a b wa wb)
+        ∙ run-on p room (requestsIn n b) (requestsIn n a) x0 refused (sym taken ∙ t) ∙ ap (after (x1 .taken)) (sym same) in
+        let all : first (a ++ b) ≡ 0 = first-same ∙ zero in
+        record {
+          verdict = given (first (a ++ b)) _ _ _ all ((rw none at (more .verdict)) ∙ sym (ap (λ (y : Stopped). verdictOf n (y .search .stack)) whole));
+          refusal = given (first (a ++ b)) _ _ _ all ((rw none at (more .refusal)) ∙ sym (ap (λ (y : Stopped). y .refusal) whole));
+          taken = given (first (a ++ b)) _ _ _ all (ap₂ _+_ taken (rw none at (more .taken)) ∙ sym (ap (λ (y : Stopped). y .taken) whole));
+          steps = given (first (a ++ b)) _ _ _ all ((rw none at (more .steps)) ∙ sym (ap (λ (y : Stopped). y .search .steps) whole));
+          checks = given (first (a ++ b)) _ _ _ all ((rw none at (more .checks)) ∙ sym (ap (λ (y : Stopped). y .search .checks) whole));
+          subproblems = given (first (a ++ b)) _ _ _ all ((rw none at (more .subproblems)) ∙ sym (ap (λ (y : Stopped). length (y .search .stack)) whole));
+          agenda = given (first (a ++ b)) _ _ _ all ((rw none at (more .agenda)) ∙ ap (λ (k : ℕ). agendaOf n k (x2 .search .stack)) (l .length-kept)
+              ∙ sym (ap (λ (y : Stopped). agendaOf n (length before) (y .search .stack)) whole));
+        }
+
+    -- It is the run of the first, where this was refused or is not running any more.
+    pub run-ended : (r .refusal ≡ 0 → r .verdict ≡ Running → ⊥) → Runs n d domains tables before mid (a ++ b) s r
+    unfolding first p room x0 x1
+    run-ended f = elim (ℕ-discrete (first a) 0) [
+      | yes zero ↦
+          let refused : r .refusal ≡ x1 .refusal = rw zero at (runs .refusal) in
+          let verdict : r .verdict ≡ verdictOf n (x1 .search .stack) = rw zero at (runs .verdict) in
+          let same : run p room (requestsIn n (a ++ b)) x0 ≡ x1 =
+          ap (λ (rs : List (List ℕ)). run p room rs x0) (requests-append n a b wa wb)
+          ∙ run-stopped p room (requestsIn n b) (requestsIn n a) x0 (λ e v. f (refused ∙ e) (verdict ∙ v)) in
+          subst (λ (k : ℕ). Ends k n before mid s (run p room (requestsIn n (a ++ b)) x0) r) (sym first-same)
+          (subst (λ (y : Stopped). Ends (first a) n before mid s y r) (sym same) runs)
+      | no some ↦
+          let test : eqb (first a) 0 ≡ false = ne-eqb (first a) 0 some in
+          let all : first (a ++ b) ≡ 0 → ⊥ = λ e. some (sym first-same ∙ e) in
+          record {
+            verdict = not-given (first (a ++ b)) _ _ _ all (rw test at (runs .verdict));
+            refusal = not-given (first (a ++ b)) _ _ _ all ((rw test at (runs .refusal)) ∙ sym first-same);
+            taken = not-given (first (a ++ b)) _ _ _ all (rw test at (runs .taken));
+            steps = not-given (first (a ++ b)) _ _ _ all (rw test at (runs .steps));
+            checks = not-given (first (a ++ b)) _ _ _ all (rw test at (runs .checks));
+            subproblems = not-given (first (a ++ b)) _ _ _ all (rw test at (runs .subproblems));
+            agenda = not-given (first (a ++ b)) _ _ _ all (rw test at (runs .agenda));
+          }
+    ]
+
+    -- Still running with none refused, it took all.
+    pub took-all : r .refusal ≡ 0 → r .verdict ≡ Running → r .taken ≡ length (requestsIn n a)
+    unfolding first p room x0 x1
+    took-all e v =
+        let zero : first a ≡ 0 = passed e in
+        (rw zero at (runs .taken)) ∙ run-whole p room (requestsIn n a) x0 (sym (rw zero at (runs .refusal)) ∙ e) (sym (rw zero at (runs .verdict)) ∙ v)

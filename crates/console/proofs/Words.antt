@@ -1,0 +1,122 @@
+-- Words in bytes: how many there are, what stands where, and that each says the other.
+-- Assumes nothing.
+use mathlib.Core.Path.{_≡_, refl, sym, ap, ap₂, _∙_}
+use mathlib.Core.List.{List, [], _∷_, _++_, append-nil}
+use Prim.Native.Nat.{ℕ, zero, suc, _+_, _*_, _/_, _%_, _^_, _≤_, _<_}
+use native.Mathlib.Omega.{arith}
+use lib.ListN.{length, getD, take, drop, set}
+use lib.Seq.{take-at, take-length, drop-length}
+use Rattle.search.proofs.Copies.{copy-more}
+use Rattle.console.specs.Bytes.{Whole, wordsOf, bytesOf}
+
+-- ---- how many
+
+pub words-length : (b : List ℕ) → length (wordsOf b) ≡ length b / 2
+unfolding wordsOf
+words-length [] = omega arith
+words-length (x ∷ []) = omega arith
+words-length (x ∷ y ∷ b) = omega (arith, words-length b)
+
+pub bytes-length : (w : List ℕ) → length (bytesOf w) ≡ 2 * length w
+unfolding bytesOf
+bytes-length [] = omega arith
+bytes-length (x ∷ w) = omega (arith, bytes-length w)
+
+-- ---- what stands where
+
+pub word-at : (b : List ℕ) (i : ℕ) → 2 * i + 1 < length b → getD (wordsOf b) i 0 ≡ getD b (2 * i) 0 + 256 * getD b (2 * i + 1) 0
+unfolding wordsOf
+word-at [] i h = absurd (omega arith)
+word-at (x ∷ []) i h = absurd (omega arith)
+word-at (x ∷ y ∷ b) zero h = refl
+word-at (x ∷ y ∷ b) (suc i) h =
+    let even : 2 * suc i ≡ suc (suc (2 * i)) = omega arith in
+    let odd : 2 * suc i + 1 ≡ suc (suc (2 * i + 1)) = omega arith in
+    rw (odd, even) (word-at b i (omega arith))
+
+pub low-at : (w : List ℕ) (i : ℕ) → i < length w → getD (bytesOf w) (2 * i) 0 ≡ getD w i 0 % 256
+unfolding bytesOf
+low-at [] i h = absurd (omega arith)
+low-at (x ∷ w) zero h = refl
+low-at (x ∷ w) (suc i) h = let even : 2 * suc i ≡ suc (suc (2 * i)) = omega arith in rw even (low-at w i (omega arith))
+
+pub high-at : (w : List ℕ) (i : ℕ) → i < length w → getD (bytesOf w) (2 * i + 1) 0 ≡ getD w i 0 / 256
+unfolding bytesOf
+high-at [] i h = absurd (omega arith)
+high-at (x ∷ w) zero h = refl
+high-at (x ∷ w) (suc i) h = let odd : 2 * suc i + 1 ≡ suc (suc (2 * i + 1)) = omega arith in rw odd (high-at w i (omega arith))
+
+-- Words that bytes say have 16 bits.
+pub words-small : (b : List ℕ) → ((i : ℕ) → getD b i 0 < 256) → (i : ℕ) → getD (wordsOf b) i 0 < 2 ^ 16
+unfolding wordsOf
+words-small [] h i = omega arith
+words-small (x ∷ []) h i = omega arith
+words-small (x ∷ y ∷ b) h zero = let l : x < 256 = h 0 in let k : y < 256 = h 1 in omega arith
+words-small (x ∷ y ∷ b) h (suc i) = words-small b (λ j. h (suc (suc j))) i
+
+-- The bytes of words of 16 bits are bytes.
+pub bytes-small : (w : List ℕ) → ((i : ℕ) → getD w i 0 < 65536) → (i : ℕ) → getD (bytesOf w) i 0 < 256
+unfolding bytesOf
+bytes-small [] h i = omega arith
+bytes-small (x ∷ w) h zero = omega arith
+bytes-small (x ∷ w) h (suc zero) = let l : x < 65536 = h 0 in omega arith
+bytes-small (x ∷ w) h (suc (suc i)) = bytes-small w (λ j. h (suc j)) i
+
+-- ---- there and back
+
+pub words-again : (w : List ℕ) → wordsOf (bytesOf w) ≡ w
+unfolding wordsOf bytesOf
+words-again [] = refl
+words-again (x ∷ w) = let e : x % 256 + 256 * (x / 256) ≡ x = omega arith in ap₂ _∷_ e (words-again w)
+
+pub bytes-again : (b : List ℕ) → Whole b → ((i : ℕ) → getD b i 0 < 256) → bytesOf (wordsOf b) ≡ b
+unfolding wordsOf bytesOf
+bytes-again [] e h = refl
+bytes-again (x ∷ []) e h = absurd (omega arith)
+bytes-again (x ∷ y ∷ b) e h =
+    let l : x < 256 = h 0 in
+    let low : (x + 256 * y) % 256 ≡ x = omega arith in
+    let high : (x + 256 * y) / 256 ≡ y = omega arith in
+    ap₂ _∷_ low (ap₂ _∷_ high (bytes-again b (omega arith) (λ j. h (suc (suc j)))))
+
+-- Two lists of whole words say the words of the first, then those of the second.
+pub words-append : (a b : List ℕ) → Whole a → wordsOf (a ++ b) ≡ wordsOf a ++ wordsOf b
+unfolding wordsOf
+words-append [] b e = refl
+words-append (x ∷ []) b e = absurd (omega arith)
+words-append (x ∷ y ∷ a) b e = ap₂ _∷_ refl (words-append a b (omega arith))
+
+-- ---- the loops
+
+-- A word more.
+pub word-more : (b d m : List ℕ) (i x : ℕ) → m ≡ take i (wordsOf b) ++ drop i d → x ≡ getD b (2 * i) 0 + 256 * getD b (2 * i + 1) 0 → i < length b / 2
+    → i < length d → set m i x ≡ take (i + 1) (wordsOf b) ++ drop (i + 1) d
+word-more b d m i x e s h k = copy-more (wordsOf b) d m i x e (s ∙ sym (word-at b i (omega arith))) (omega (arith, words-length b)) k
+
+-- After the last.
+pub words-end : (b d m : List ℕ) (i : ℕ) → m ≡ take i (wordsOf b) ++ drop i d → i ≤ length b / 2 → length b / 2 ≤ i
+    → take (length b / 2) m ≡ wordsOf b
+words-end b d m i e h k =
+    let at : i ≡ length b / 2 = omega arith in
+    rw (e, at, take-words) (take-at (wordsOf b) (drop (length b / 2) d) (length b / 2) (words-length b))
+  where
+    take-words : take (length b / 2) (wordsOf b) ≡ wordsOf b
+    take-words = ap (λ (k : ℕ). take k (wordsOf b)) (sym (words-length b)) ∙ take-length (wordsOf b)
+
+-- The two bytes of a word more.
+pub bytes-more : (w d m : List ℕ) (i x y : ℕ) → m ≡ take (2 * i) (bytesOf w) ++ drop (2 * i) d → x ≡ getD w i 0 % 256 → y ≡ getD w i 0 / 256
+    → i < length w → length d ≡ 2 * length w
+    → set (set m (2 * i) x) (2 * i + 1) y ≡ take (2 * (i + 1)) (bytesOf w) ++ drop (2 * (i + 1)) d
+bytes-more w d m i x y e s t h k =
+    let long : 2 * i + 1 < length (bytesOf w) = omega (arith, bytes-length w) in
+    let two : 2 * i + 1 + 1 ≡ 2 * (i + 1) = omega arith in
+    let first : set m (2 * i) x ≡ take (2 * i + 1) (bytesOf w) ++ drop (2 * i + 1) d = copy-more (bytesOf w) d m (2 * i) x e (s ∙ sym (low-at w i h)) (omega arith) (omega arith) in
+    copy-more (bytesOf w) d (set m (2 * i) x) (2 * i + 1) y first (t ∙ sym (high-at w i h)) long (omega arith)
+    ∙ ap (λ (j : ℕ). take j (bytesOf w) ++ drop j d) two
+
+pub bytes-end : (w d m : List ℕ) (i : ℕ) → m ≡ take (2 * i) (bytesOf w) ++ drop (2 * i) d → i ≤ length w → length w ≤ i → length d ≡ 2 * length w
+    → m ≡ bytesOf w
+bytes-end w d m i e h l k =
+    let all : 2 * i ≡ length (bytesOf w) = omega (arith, bytes-length w) in
+    let none : 2 * i ≡ length d = omega arith in
+    e ∙ ap₂ _++_ (ap (λ (j : ℕ). take j (bytesOf w)) all ∙ take-length (bytesOf w)) (ap (λ (j : ℕ). drop j d) none ∙ drop-length d) ∙ append-nil (bytesOf w)

@@ -1,0 +1,40 @@
+-- `console::rastwob_run` meets its contract.
+-- Assumes nothing.
+use mathlib.Core.Path.{refl}
+use Rattle.console.proofs.Refusing.{runs-state}
+use borrow.Author.Needs.{needs}
+use Rattle.console.proofs.rastwob_run.Statement.{statement}
+use Rattle.console.proofs.rastwob_run.Tie as tie
+
+state-of-requires : tie.Need-state-of-requires
+state-of-requires c κs = search needs
+
+run-requires : tie.Need-run-requires
+run-requires c κs = search needs
+
+cast-subproblems : tie.Need-cast-subproblems
+cast-subproblems c = search needs
+
+number-of-requires : tie.Need-number-of-requires
+number-of-requires c κs = search needs
+
+cast-taken : tie.Need-cast-taken
+cast-taken c = search needs
+
+same-length : tie.Need-same-length
+same-length c = search needs
+
+returns : tie.Need-returns
+returns c = record { outcome = c .before .before .before .before .before .run .result; runs = runs-state _ _ _ _ _ _ _ _ _ _ (c .before .before .before .before .before .before .before .state-of .ensures .0) (c .before .before .before .before .before .run .ensures .0); hands-out = record { its-refusal = refl; its-steps = refl; its-checks = refl; its-subproblems = refl; its-verdict = c .before .number-of .ensures; its-taken = refl } }
+
+pub rastwob-run-spec : {M : Type 1} → statement M
+rastwob-run-spec =
+    tie.close
+    (tie.spec
+    state-of-requires
+    run-requires
+    cast-subproblems
+    number-of-requires
+    cast-taken
+    same-length
+    returns)

@@ -1,0 +1,73 @@
+// Words in bytes: two bytes a word, the low one first.
+ghost use mathlib.Core.Path.{_≡_};
+ghost use Prim.Native.Nat.{_+_, _*_, _/_, _%_, _≤_, _<_};
+ghost use lib.ListN.{length, take};
+ghost use Rattle.console.specs.Bytes.{wordsOf, bytesOf};
+ghost use Rattle.console.specs.Work.Rooms.{fits, roomFor, wholeList};
+
+// The word of two bytes.
+fn word(low: u8, high: u8) -> u16
+    ensures { λ r. ⌜ r ≡ low + 256 * high ⌝ }
+{
+    (low as u16) + 256 * (high as u16)
+}
+
+// The words that the bytes say, at the front of `words`.
+pub(crate) fn words_of(bytes: &[u8], words: &mut [u16])
+    requires { ⌜ (length (now bytes) % 2 ≡ 0) × (length (now bytes) ≤ 2 * length (now words)) ⌝ }
+    ensures { λ r. ⌜ take (length (now (bytes .entry)) / 2) (now (words .exit)) ≡ wordsOf (now (bytes .entry)) ⌝ }
+{
+    let count = bytes.len() / 2;
+    let mut i = 0;
+    while i < count {
+        words[i] = word(bytes[2 * i], bytes[2 * i + 1]);
+        i += 1;
+    }
+}
+
+// The bytes that say the words.
+pub(crate) fn bytes_of(words: &[u16], bytes: &mut [u8])
+    requires { ⌜ length (now bytes) ≡ 2 * length (now words) ⌝ }
+    ensures { λ r. ⌜ now (bytes .exit) ≡ bytesOf (now (words .entry)) ⌝ }
+{
+    let mut i = 0;
+    while i < words.len() {
+        bytes[2 * i] = (words[i] % 256) as u8;
+        bytes[2 * i + 1] = (words[i] / 256) as u8;
+        i += 1;
+    }
+}
+
+// Whether so many bytes are whole words, no more than `most` of them.
+fn fits(bytes: usize, most: usize) -> bool
+    requires { ⌜ most ≤ 17408 ⌝ }
+    ensures { λ r. ⌜ r ≡ fits bytes most ⌝ }
+{
+    if bytes % 2 != 0 {
+        return false;
+    }
+    bytes <= 2 * most
+}
+
+// Whether domains, tables and agenda are whole words, no more of them than any problem and any agenda have.
+pub(crate) fn room_for(domains: usize, tables: usize, agenda: usize) -> bool
+    ensures { λ r. ⌜ r ≡ roomFor domains tables agenda ⌝ }
+{
+    if !fits(domains, 32) {
+        return false;
+    }
+    if !fits(tables, 16384) {
+        return false;
+    }
+    fits(agenda, 17408)
+}
+
+// Whether so many bytes are whole requests; of n above 32 no length is.
+pub(crate) fn whole_list(n: usize, bytes: usize) -> bool
+    ensures { λ r. ⌜ r ≡ wholeList n bytes ⌝ }
+{
+    if 32 < n {
+        return false;
+    }
+    bytes % (2 * (n + 3)) == 0
+}

@@ -1,0 +1,265 @@
+// The calls on bytes: at the words that the bytes say, or refused where these are not whole words or more than the rules allow.
+use crate::bytes;
+use crate::numbers;
+use crate::parts;
+use files::saved::Loaded;
+use files::saved::Saved;
+use search::state::Opened;
+use search::state::Ran;
+use search::state::State;
+ghost use mathlib.Core.Path.{_≡_};
+ghost use Prim.Native.Nat.{_<_};
+ghost use lib.ListN.{length};
+ghost use Rattle.files.specs.Calls.{Saves};
+ghost use Rattle.console.specs.Bytes.{wordsOf};
+ghost use Rattle.console.specs.Calls.{OpensWords, OpensBytes, RunsWords, RunsBytes, ChoosesWords, ChoosesBytes, SavesBytes, unloaded, LoadsWords, LoadsBytes};
+ghost use Rattle.console.specs.Work.Rooms.{Room};
+ghost use Rattle.console.specs.Work.Parts.{Listed, Narrow, NarrowLoaded};
+
+// Opening, at the words.
+fn open_words(n: usize, d: usize, domains: &[u8], tables: &[u8], agenda: &mut [u8]) -> Opened
+    requires { ⌜ Room (now domains) (now tables) (now agenda) ⌝ }
+    ensures { λ r. ⌜ OpensWords n d (now (domains .entry)) (now (tables .entry)) (now (agenda .entry)) (now (agenda .exit)) r ⌝ }
+{
+    let mut domain_words = [0u16; 32];
+    let mut table_words = [0u16; 16384];
+    let mut agenda_words = [0u16; 17408];
+    let variables = domains.len() / 2;
+    let masks = tables.len() / 2;
+    let slots = agenda.len() / 2;
+    bytes::words_of(domains, &mut domain_words);
+    bytes::words_of(tables, &mut table_words);
+    bytes::words_of(agenda, &mut agenda_words);
+    let opened = search::open(
+        n,
+        d,
+        &domain_words[..variables],
+        &table_words[..masks],
+        &mut agenda_words[..slots],
+    );
+    bytes::bytes_of(&agenda_words[..slots], agenda);
+    opened
+}
+
+// Opening.
+pub(crate) fn open(n: usize, d: usize, domains: &[u8], tables: &[u8], agenda: &mut [u8]) -> Opened
+    ensures { λ r. ⌜ OpensBytes n d (now (domains .entry)) (now (tables .entry)) (now (agenda .entry)) (now (agenda .exit)) r × (r .state .subproblems < 4294967296) ⌝ }
+{
+    if bytes::room_for(domains.len(), tables.len(), agenda.len()) {
+        return open_words(n, d, domains, tables, agenda);
+    }
+    numbers::unopened(n, d)
+}
+
+// A run, at the words.
+fn run_words(
+    n: usize,
+    d: usize,
+    domains: &[u8],
+    tables: &[u8],
+    agenda: &mut [u8],
+    requests: &[u8],
+    state: State,
+) -> Ran
+    requires { ⌜ Room (now domains) (now tables) (now agenda) × (Listed n (length (now requests)) × (state .subproblems < 4294967296)) ⌝ }
+    ensures { λ r. ⌜ RunsWords n d (now (domains .entry)) (now (tables .entry)) (now (agenda .entry)) (now (agenda .exit)) (now (requests .entry)) state r × Narrow r ⌝ }
+{
+    let mut domain_words = [0u16; 32];
+    let mut table_words = [0u16; 16384];
+    let mut agenda_words = [0u16; 17408];
+    let variables = domains.len() / 2;
+    let masks = tables.len() / 2;
+    let slots = agenda.len() / 2;
+    bytes::words_of(domains, &mut domain_words);
+    bytes::words_of(tables, &mut table_words);
+    bytes::words_of(agenda, &mut agenda_words);
+    let ran = parts::run_parts(
+        n,
+        d,
+        &domain_words[..variables],
+        &table_words[..masks],
+        &mut agenda_words[..slots],
+        requests,
+        state,
+    );
+    bytes::bytes_of(&agenda_words[..slots], agenda);
+    ran
+}
+
+// A run.
+pub(crate) fn run(
+    n: usize,
+    d: usize,
+    domains: &[u8],
+    tables: &[u8],
+    agenda: &mut [u8],
+    requests: &[u8],
+    state: State,
+) -> Ran
+    requires { ⌜ state .subproblems < 4294967296 ⌝ }
+    ensures { λ r. ⌜ RunsBytes n d (now (domains .entry)) (now (tables .entry)) (now (agenda .entry)) (now (agenda .exit)) (now (requests .entry)) state r × Narrow r ⌝ }
+{
+    if !bytes::room_for(domains.len(), tables.len(), agenda.len()) {
+        return numbers::refused(n, d, state);
+    }
+    if bytes::whole_list(n, requests.len()) {
+        return run_words(n, d, domains, tables, agenda, requests, state);
+    }
+    numbers::refused(n, d, state)
+}
+
+// The house chooser, at the words.
+fn choose_words(
+    n: usize,
+    d: usize,
+    domains: &[u8],
+    tables: &[u8],
+    agenda: &mut [u8],
+    limit: usize,
+    state: State,
+) -> Ran
+    requires { ⌜ Room (now domains) (now tables) (now agenda) × ((state .counts .steps .0 < 4294967296) × (state .subproblems < 4294967296)) ⌝ }
+    ensures { λ r. ⌜ ChoosesWords n d (now (domains .entry)) (now (tables .entry)) (now (agenda .entry)) (now (agenda .exit)) limit state r × Narrow r ⌝ }
+{
+    let mut domain_words = [0u16; 32];
+    let mut table_words = [0u16; 16384];
+    let mut agenda_words = [0u16; 17408];
+    let variables = domains.len() / 2;
+    let masks = tables.len() / 2;
+    let slots = agenda.len() / 2;
+    bytes::words_of(domains, &mut domain_words);
+    bytes::words_of(tables, &mut table_words);
+    bytes::words_of(agenda, &mut agenda_words);
+    let ran = search::choose(
+        n,
+        d,
+        &domain_words[..variables],
+        &table_words[..masks],
+        &mut agenda_words[..slots],
+        limit,
+        state,
+    );
+    bytes::bytes_of(&agenda_words[..slots], agenda);
+    ran
+}
+
+// The house chooser.
+pub(crate) fn choose(
+    n: usize,
+    d: usize,
+    domains: &[u8],
+    tables: &[u8],
+    agenda: &mut [u8],
+    limit: usize,
+    state: State,
+) -> Ran
+    requires { ⌜ state .subproblems < 4294967296 ⌝ }
+    ensures { λ r. ⌜ ChoosesBytes n d (now (domains .entry)) (now (tables .entry)) (now (agenda .entry)) (now (agenda .exit)) limit state r × Narrow r ⌝ }
+{
+    if bytes::room_for(domains.len(), tables.len(), agenda.len()) {
+        return choose_words(n, d, domains, tables, agenda, limit, state);
+    }
+    numbers::refused(n, d, state)
+}
+
+// Save, at the words.
+fn save_words(
+    n: usize,
+    d: usize,
+    domains: &[u8],
+    tables: &[u8],
+    agenda: &[u8],
+    state: State,
+    file: &mut [u8],
+) -> Saved
+    requires { ⌜ Room (now domains) (now tables) (now agenda) ⌝ }
+    ensures { λ r. ⌜ Saves n d (wordsOf (now (domains .entry))) (wordsOf (now (tables .entry))) (wordsOf (now (agenda .entry))) state (now (file .entry)) (now (file .exit)) r × (r .blocks < 4294967296) ⌝ }
+{
+    let mut domain_words = [0u16; 32];
+    let mut table_words = [0u16; 16384];
+    let mut agenda_words = [0u16; 17408];
+    let variables = domains.len() / 2;
+    let masks = tables.len() / 2;
+    let slots = agenda.len() / 2;
+    bytes::words_of(domains, &mut domain_words);
+    bytes::words_of(tables, &mut table_words);
+    bytes::words_of(agenda, &mut agenda_words);
+    files::save(
+        n,
+        d,
+        &domain_words[..variables],
+        &table_words[..masks],
+        &agenda_words[..slots],
+        state,
+        file,
+    )
+}
+
+// Save.
+pub(crate) fn save(
+    n: usize,
+    d: usize,
+    domains: &[u8],
+    tables: &[u8],
+    agenda: &[u8],
+    state: State,
+    file: &mut [u8],
+) -> Saved
+    ensures { λ r. ⌜ SavesBytes n d (now (domains .entry)) (now (tables .entry)) (now (agenda .entry)) state (now (file .entry)) (now (file .exit)) r × (r .blocks < 4294967296) ⌝ }
+{
+    if bytes::room_for(domains.len(), tables.len(), agenda.len()) {
+        return save_words(n, d, domains, tables, agenda, state, file);
+    }
+    numbers::unsaved(n, d)
+}
+
+// Load, at the words.
+fn load_words(file: &[u8], domains: &mut [u8], tables: &mut [u8], agenda: &mut [u8]) -> Loaded
+    requires { ⌜ Room (now domains) (now tables) (now agenda) ⌝ }
+    ensures { λ r. ⌜ LoadsWords (now (file .entry)) (now (domains .entry)) (now (domains .exit)) (now (tables .entry)) (now (tables .exit)) (now (agenda .entry)) (now (agenda .exit)) r ⌝ }
+{
+    let mut domain_words = [0u16; 32];
+    let mut table_words = [0u16; 16384];
+    let mut agenda_words = [0u16; 17408];
+    let variables = domains.len() / 2;
+    let masks = tables.len() / 2;
+    let slots = agenda.len() / 2;
+    bytes::words_of(domains, &mut domain_words);
+    bytes::words_of(tables, &mut table_words);
+    bytes::words_of(agenda, &mut agenda_words);
+    let loaded = files::load(
+        file,
+        &mut domain_words[..variables],
+        &mut table_words[..masks],
+        &mut agenda_words[..slots],
+    );
+    bytes::bytes_of(&domain_words[..variables], domains);
+    bytes::bytes_of(&table_words[..masks], tables);
+    bytes::bytes_of(&agenda_words[..slots], agenda);
+    loaded
+}
+
+// Load into no words at all: what the file deserves, or 3.
+fn load_none(file: &[u8]) -> Loaded
+    ensures { λ r. ⌜ r ≡ unloaded (now (file .entry)) ⌝ }
+{
+    let mut domain_words = [0u16; 1];
+    let mut table_words = [0u16; 1];
+    let mut agenda_words = [0u16; 1];
+    files::load(
+        file,
+        &mut domain_words[..0],
+        &mut table_words[..0],
+        &mut agenda_words[..0],
+    )
+}
+
+// Load.
+pub(crate) fn load(file: &[u8], domains: &mut [u8], tables: &mut [u8], agenda: &mut [u8]) -> Loaded
+    ensures { λ r. ⌜ LoadsBytes (now (file .entry)) (now (domains .entry)) (now (domains .exit)) (now (tables .entry)) (now (tables .exit)) (now (agenda .entry)) (now (agenda .exit)) r × NarrowLoaded r ⌝ }
+{
+    if bytes::room_for(domains.len(), tables.len(), agenda.len()) {
+        return load_words(file, domains, tables, agenda);
+    }
+    load_none(file)
+}

@@ -1,0 +1,161 @@
+-- Searches begun by opening and gone on with by calls, saves and loads among them: each passes when handed on, and is reached.
+-- Assumes nothing.
+use mathlib.Core.Path.{_≡_, refl, sym, ap, _∙_}
+use mathlib.Core.Bool.{false}
+use mathlib.Core.List.{List, _∷_}
+use Prim.Native.Nat.{ℕ, _+_, _*_, _≤_, _<_}
+use native.Mathlib.Omega.{arith}
+use native.Mathlib.Decide.{ℕ-discrete}
+use lib.ListN.{length, getD, take}
+use lib.Dec.{eqb}
+use borrow.Author.Tests.{ne-eqb}
+use Rattle.splits.specs.Problem.{Proper, tableOf, Solution}
+use Rattle.search.specs.Agenda.{problemOf, stackOf, slotsIn, agendaOf}
+use Rattle.search.specs.Runs.{requestsIn}
+use Rattle.search.specs.FirstChecks.{runRefusal}
+use Rattle.search.specs.Verdicts.{numberOf, verdictOf}
+use Rattle.search.specs.Calls.{searchOf, Runs}
+use Rattle.search.specs.Promises.{Passed, Handed, Leaves, Reached, Has-solution}
+use Rattle.search.specs.declared.state.State.{State}
+use Rattle.search.specs.declared.state.Ran.{Ran}
+use Rattle.search.specs.declared.state.Verdict.{Verdict}
+use Rattle.search.specs.declared.state.Verdict.the-variants.{None}
+use Rattle.search.proofs.Verdicts.{is-unsolvable, is-solved}
+use Rattle.search.proofs.HandedOn.{known, leaves, some-slots, whole-requests}
+use Rattle.search.proofs.Promises.{open-leaves, run-leaves, chooser-leaves, run-says, run-passed, reached-passes, reached-unsolvable, solved-shows}
+use Rattle.files.specs.Blocks.{fileOf}
+use Rattle.files.specs.Reading.{saidN, saidD, saidAllowed, tableWords}
+use Rattle.files.specs.Calls.{handedContent, saveRefusal, Saves, loadRefusal, Loads}
+use Rattle.files.specs.Promises.{Agree, Says, Same-away, Shown, Lived, opened, ran, chose, loaded}
+use Rattle.files.specs.declared.saved.Saved.{Saved}
+use Rattle.files.specs.declared.saved.Loaded.{Loaded}
+use Rattle.files.proofs.Triangle.{table-other, table-length}
+use Rattle.files.proofs.Tables.{proper-agree, agree-back}
+use Rattle.files.proofs.Stacks.{of-length}
+use Rattle.files.proofs.Passing.{search-passing}
+use Rattle.files.proofs.Saving.{saved-says}
+use Rattle.files.proofs.Loading.{Fits, load-taken}
+use Rattle.files.proofs.Reaching.{reached-good, reached-agree}
+use Rattle.files.proofs.Refusals.{save-none}
+use Rattle.files.proofs.Back.{stateOf, lent, lent-agree, written-blocks}
+
+-- What is known of each: it is a reached search of the problem in memory, which agrees with the one that was opened.
+pub record Life (n d : ℕ) (domains tables₀ tables agenda : List ℕ) (s : State) : Type 0 where
+  pub handed : Handed n d domains tables agenda s
+  pub same : Same-away n d tables₀ tables
+  pub proper : Proper (problemOf n d domains tables)
+  pub words : length domains ≡ n
+  pub reached : Reached n d domains tables (slotsIn n (length agenda)) (searchOf n agenda s)
+
+-- What a call leaves that was handed it.
+module _ (n d : ℕ) (domains tables₀ tables before after : List ℕ) (s s′ : State) (life : Life n d domains tables₀ tables before s) where
+  gone-on : {x : _} → Leaves n d domains tables before after s′ x → Reached n d domains tables (slotsIn n (length before)) x
+      → Life n d domains tables₀ tables after s′
+  gone-on l reached = record {
+    handed = l .handed;
+    same = life .same;
+    proper = life .proper;
+    words = life .words;
+    reached = rw (l .search, l .length-kept) reached;
+  }
+
+-- What load leaves of the blocks that save wrote of it.
+module _ (n d : ℕ) (domains tables₀ tables agenda : List ℕ) (s : State) (life : Life n d domains tables₀ tables agenda s)
+    (before after : List ℕ) (saved : Saved) (saves : Saves n d domains tables agenda s before after saved) (none : saved .refusal ≡ 0)
+    (domains₁ domains′ tables₁ tables′ agenda₁ agenda′ : List ℕ) (r : Loaded)
+    (loads : Loads (take (512 * saved .blocks) after) domains₁ domains′ tables₁ tables′ agenda₁ agenda′ r) (accepted : r .refusal ≡ 0) where
+  moved-on : Life n d domains tables₀ tables′ agenda′ (r .state)
+  unfolding stateOf
+  moved-on =
+      let p = search-passing n d domains tables agenda (s .counts .steps .0) (s .counts .checks .0) (s .subproblems) (life .handed .passes) in
+      let passes : saveRefusal n d domains tables agenda s before ≡ 0 = sym (saves .refusal) ∙ none in
+      let file : List ℕ = fileOf (handedContent n d domains tables agenda s) in
+      let x = searchOf n agenda s in
+      let says : Says file n d domains (tableOf n d tables) x = saved-says n d domains tables agenda s (life .handed .words) p in
+      let given : Loads file domains₁ domains′ tables₁ tables′ agenda₁ agenda′ r = rw (written-blocks n d domains tables agenda s before after saved saves passes) at loads in
+      let t = load-taken file (length domains₁) (length tables₁) (length agenda₁) (sym (given .refusal) ∙ accepted) in
+      let fits : Fits n d (length domains₁) (length tables₁) (length agenda₁) = rw (says .its-n, says .its-d) at (t .lengths) in
+      let room : length (x .stack) ≤ slotsIn n (length agenda₁) = rw (says .its-subproblems, says .its-n) at (t .room) in
+      let back = lent file n d domains (tableOf n d tables) x says domains₁ domains′ tables₁ tables′ agenda₁ agenda′ r given fits room in
+      let agree : Agree n d (tableOf n d tables) (tableOf n d tables′) =
+      rw (back .its-tables) (agree-back (tableOf n d (tableWords n d (saidAllowed file))) (tableOf n d tables) (lent-agree file n d domains (tableOf n d tables) x says)) in
+      let proper : Proper (problemOf n d domains tables′) = proper-agree n d (λ i. getD domains i 0) (tableOf n d tables) (tableOf n d tables′) agree (life .proper) in
+      let reached : Reached n d domains tables′ (slotsIn n (length agenda₁)) x =
+      reached-agree n d domains tables (life .proper) (life .words) tables′ agree (Reached.moved (life .reached) room) in
+      let long : length tables′ ≡ n * n * d = ap length (back .its-tables) ∙ table-length n d (saidAllowed file) in
+      let passed : Passed n d domains tables′ agenda₁ = record { proper = proper; domains-words = life .words; tables-words = long; slots = fits .slots } in
+      let l =
+      leaves n d domains tables′ agenda₁ agenda′ (r .state) x passed (reached-good n d domains tables′ proper (life .words) reached .passes)
+      (known n d domains tables agenda s (life .handed) .shaped) (back .its-agenda) (ap (λ st. st .counts .steps .0) (back .its-state))
+      (ap (λ st. st .counts .checks .0) (back .its-state)) (ap (λ st. st .subproblems) (back .its-state)) in
+      record {
+        handed = l .handed;
+        same = record {
+          words = life .same .words ∙ p .table-words ∙ sym long;
+          agree = λ i j a h k f m. life .same .agree i j a h k f m ∙ agree i j a h k f m;
+        };
+        proper = proper;
+        words = life .words;
+        reached = rw (l .search, l .length-kept) reached;
+      }
+
+-- It is known of each.
+pub lived : {n d : ℕ} {domains tables₀ tables agenda : List ℕ} {s : State} → Lived n d domains tables₀ tables agenda s → Life n d domains tables₀ tables agenda s
+lived {n} {d} {domains} {tables₀} (opened {before} {after} {r} opens none) =
+    let l = open-leaves n d domains tables₀ before after r opens none in
+    let passed = known n d domains tables₀ after (r .state) (l .handed) .passed .passed in
+    record {
+      handed = l .handed;
+      same = record { words = refl; agree = λ i j a h k f m. refl };
+      proper = passed .proper;
+      words = passed .domains-words;
+      reached = rw (l .search) (Reached.opened (some-slots n (length after) (passed .slots)));
+    }
+lived {n} {d} {domains} {tables₀} (ran {tables} {before} {after} {s} {r} h requests runs) =
+    let life = lived h in
+    let both = run-leaves n d domains tables before after requests s r (life .handed) runs in
+    elim (whole-requests n (length requests)) [
+      | yes w ↦ gone-on n d domains tables₀ tables before after s (r .state) life (both .0 w) (Reached.ran (life .reached) (requestsIn n requests))
+      | no w ↦ gone-on n d domains tables₀ tables before after s (r .state) life (both .1 w) (life .reached)
+    ]
+lived {n} {d} {domains} {tables₀} (chose {tables} {before} {after} {s} {r} h limit chooses) =
+    let life = lived h in
+    gone-on n d domains tables₀ tables before after s (r .state) life (chooser-leaves n d domains tables before after limit s r (life .handed) chooses)
+    (Reached.chose (life .reached) limit)
+lived {n} {d} {domains} {tables₀} (loaded {tables} {agenda} {before} {after} {domains₁} {domains′} {tables₁} {tables′} {agenda₁} {agenda′} {s} {saved} {r} h saves none loads accepted) =
+    moved-on n d domains tables₀ tables agenda s (lived h) before after saved saves none domains₁ domains′ tables₁ tables′ agenda₁ agenda′ r loads accepted
+
+-- Of the problem that was opened.
+module _ {n d : ℕ} {domains tables₀ tables agenda : List ℕ} {s : State} (life : Life n d domains tables₀ tables agenda s) where
+  back : Agree n d (tableOf n d tables) (tableOf n d tables₀)
+  back = agree-back (tableOf n d tables₀) (tableOf n d tables) (life .same .agree)
+
+  pub proper₀ : Proper (problemOf n d domains tables₀)
+  proper₀ = proper-agree n d (λ i. getD domains i 0) (tableOf n d tables) (tableOf n d tables₀) back (life .proper)
+
+  pub reached₀ : Reached n d domains tables₀ (slotsIn n (length agenda)) (searchOf n agenda s)
+  reached₀ = reached-agree n d domains tables (life .proper) (life .words) tables₀ back (life .reached)
+
+  -- What a verdict says of it.
+  pub says-unsolvable : (v : Verdict) → v ≡ verdictOf n (stackOf n agenda (s .subproblems)) → numberOf v ≡ 3 → Has-solution (problemOf n d domains tables₀) → ⊥
+  says-unsolvable v e h =
+      reached-unsolvable n d domains tables₀ (slotsIn n (length agenda)) (searchOf n agenda s) proper₀ reached₀ (is-unsolvable _ (ap numberOf (sym e) ∙ h))
+
+  pub says-solved : (v : Verdict) → v ≡ verdictOf n (stackOf n agenda (s .subproblems)) → numberOf v ≡ 2 → Shown n d domains tables₀ agenda s
+  says-solved v e h =
+      solved-shows (problemOf n d domains tables₀) (slotsIn n (length agenda)) (searchOf n agenda s)
+      (reached-passes n d domains tables₀ (slotsIn n (length agenda)) (searchOf n agenda s) proper₀ reached₀) (is-solved _ (ap numberOf (sym e) ∙ h))
+
+-- A run that returns a verdict was handed whole requests, and its verdict is that of what it leaves.
+pub run-verdict : (n d : ℕ) (domains tables before after requests : List ℕ) (s : State) (r : Ran) → Handed n d domains tables before s
+    → Runs n d domains tables before after requests s r → 1 ≤ numberOf (r .verdict) → r .verdict ≡ verdictOf n (stackOf n after (r .state .subproblems))
+run-verdict n d domains tables before after requests s r handed runs some =
+    elim (ℕ-discrete (runRefusal n d domains tables before requests (s .counts .steps .0) (s .counts .checks .0) (s .subproblems)) 0) [
+      | yes none ↦
+          run-says n d domains tables before after requests s r handed
+          (run-passed n d domains tables before requests (s .counts .steps .0) (s .counts .checks .0) (s .subproblems) .0 none .1) runs .verdict
+      | no refused ↦
+          let test : eqb (runRefusal n d domains tables before requests (s .counts .steps .0) (s .counts .checks .0) (s .subproblems)) 0 ≡ false = ne-eqb _ 0 refused in
+          let nothing : r .verdict ≡ None = rw test at (runs .verdict) in
+          absurd (omega (arith, ap numberOf nothing, some))
+    ]
