@@ -1,9 +1,9 @@
-#!/usr/bin/env python3
-"""Holds the papers to the proofs.
+"""Holds the papers to the rules, the proofs and the code, by name; proves nothing.
 
-docs/PROMISES.md: a name that it cites, as `crates/splits/proofs/Promises.antt:sound`, is a top-level declaration of that file.
-docs/DECISIONS.md: a place that it cites, as `crates/splits/src/checks.rt:58 look`, is a line that has that word.
-Every `pub fn` of every library has its uniqueness theorem, NAME-one, in its crate's proofs/Promises.antt.
+docs/RULES.md has a number in brackets before each sentence; docs/PROMISES.md has one line for each number, which says what holds it.
+A name that docs/PROMISES.md cites, as `file:name`, is declared by that file. A place that docs/DECISIONS.md cites, as `file:line word`, has that word.
+Every `pub fn` of every library has no `requires`, and an `ensures` that cites one definition; its uniqueness theorem, NAME-one, is stated of that
+definition in its crate's specs/Promises.antt and proved, as that statement, in its proofs/Promises.antt.
 """
 import pathlib
 import re
@@ -11,10 +11,16 @@ import sys
 
 TOP = pathlib.Path(__file__).resolve().parent.parent
 MARKS = r"(?:(?:unfoldable|abbrev|axiom|pub) )*"
+NUMBER = r"\d+|D\d\.\d"
+HELD = ("none owed: ", "by the language: ", "run: ", "as [", "`crates/")
+
+
+def text_of(path):
+    return path.read_text() if path.is_file() else ""
 
 
 def declares(path, name):
-    text = path.read_text()
+    text = text_of(path)
     if path.suffix == ".rt":
         return re.search(rf"(?m)^\s*(?:pub(?:\(crate\))? )?(?:extern \"C\" )?(?:fn|struct|enum) {re.escape(name)}\b", text)
     shapes = rf"(?m)^(?:{MARKS}{re.escape(name)}(?: \{{[^}}]*\}})? :|(?:pub )?(?:record|data) {re.escape(name)}(?: |$))"
@@ -33,6 +39,21 @@ def cited_names(faults):
     return count
 
 
+def numbered_lines(faults):
+    numbers = set(re.findall(rf"\[({NUMBER})\] ", (TOP / "docs/RULES.md").read_text()))
+    lines = re.findall(rf"(?m)^\| ({NUMBER}) \| (.*) \| (.*) \|$", (TOP / "docs/PROMISES.md").read_text())
+    count = {number: sum(1 for line in lines if line[0] == number) for number in numbers.union(line[0] for line in lines)}
+    for number in sorted(count):
+        if number not in numbers:
+            faults.append(f"docs/PROMISES.md has a line {number}, and docs/RULES.md has no [{number}]")
+        elif count[number] != 1:
+            faults.append(f"docs/RULES.md has [{number}], and docs/PROMISES.md has {count[number]} lines for it")
+    for number, _, held in lines:
+        if not any(words in held for words in HELD):
+            faults.append(f"docs/PROMISES.md, line {number}, does not say what holds it")
+    return len(numbers)
+
+
 def cited_places(faults):
     count = 0
     for found in re.finditer(r"`([\w/.]+\.\w+):(\d+) ([^`]+)`", (TOP / "docs/DECISIONS.md").read_text()):
@@ -44,29 +65,48 @@ def cited_places(faults):
     return count
 
 
+def public_functions():
+    """Crate, file, name and header, up to the line that opens the body, of each `pub fn` of each library."""
+    for folder in sorted((TOP / "crates").iterdir()):
+        if (folder / "src/lib.rt").is_file():
+            for source in sorted((folder / "src").rglob("*.rt")):
+                for found in re.finditer(r"(?ms)^\s*pub (?:extern \"C\" )?fn (\w+)(.*?)\{$", source.read_text()):
+                    yield folder, source.relative_to(TOP), found.group(1), found.group(2)
+
+
+def statement(path, name):
+    """What a definition of a file says: from its = to the next empty line."""
+    found = re.search(rf"(?ms)^{re.escape(name)} =(.*?)(?:\n\n|\Z)", text_of(path))
+    return found.group(1) if found else ""
+
+
 def uniqueness(faults):
     count = 0
-    for folder in sorted((TOP / "crates").iterdir()):
-        if not (folder / "src/lib.rt").is_file():
-            continue
-        promises = folder / "proofs/Promises.antt"
-        for source in sorted((folder / "src").rglob("*.rt")):
-            for found in re.finditer(r"(?m)^\s*pub (?:extern \"C\" )?fn (\w+)", source.read_text()):
-                count += 1
-                name = found.group(1).replace("_", "-") + "-one"
-                if not (promises.is_file() and declares(promises, name)):
-                    faults.append(f"{source.relative_to(TOP)}: {found.group(1)} has no {name} in {promises.relative_to(TOP)}")
+    for folder, source, function, header in public_functions():
+        count += 1
+        where, name = f"{source}: {function}", function.replace("_", "-") + "-one"
+        stated = name[0].upper() + name[1:]
+        specs, proofs = folder / "specs/Promises.antt", folder / "proofs/Promises.antt"
+        if re.search(r"\brequires\b", header):
+            faults.append(f"{where} has a requires")
+        ensures = re.search(r"ensures \{ λ r\. ⌜ (?:r ≡ )?([^\s()]+) ", header)
+        if not ensures:
+            faults.append(f"{where} has no ensures that cites one definition")
+        elif not re.search(rf"(?<![^\s(]){re.escape(ensures.group(1))}(?![^\s)])", statement(specs, stated)):
+            faults.append(f"{where} has no {stated} in {specs.relative_to(TOP)} that speaks of {ensures.group(1)}")
+        if not re.search(rf"(?m)^pub {re.escape(name)} : {re.escape(stated)}$", text_of(proofs)):
+            faults.append(f"{where} has no {name} : {stated} in {proofs.relative_to(TOP)}")
     return count
 
 
 def main():
     faults = []
-    names, places, functions = cited_names(faults), cited_places(faults), uniqueness(faults)
-    if not (names and places and functions):
+    numbers, names, places, functions = numbered_lines(faults), cited_names(faults), cited_places(faults), uniqueness(faults)
+    if not (numbers and names and places and functions):
         faults.append("nothing was found to hold: is this the repository?")
     for fault in faults:
         print(fault)
-    print(f"{names} cited names, {places} cited places, {functions} public functions with one answer each, {len(faults)} faults")
+    print(f"{numbers} numbered sentences, {names} cited names, {places} cited places, {functions} public functions with one answer each, {len(faults)} faults")
     sys.exit(1 if faults else 0)
 
 

@@ -21,7 +21,7 @@ use Rattle.search.specs.Calls.{searchOf, Chooses}
 use Rattle.search.specs.Promises.{Leaves, picks}
 use Rattle.search.specs.declared.state.Ran.{Ran}
 use Rattle.search.proofs.FirstPassing.{search-is-passed}
-use Rattle.search.specs.declared.state.Verdict.the-variants.{Running, Solved}
+use Rattle.search.specs.declared.state.Verdict.the-variants.{Solved}
 use Rattle.search.proofs.Promises.{chooser-leaves, stops, picks as picks-run}
 use Rattle.files.specs.Reading.{saidN, saidD, saidSubproblems, saidDomains, saidAllowed, saidSearch, tableWords, refusalOfFile, refusalOfWords}
 use Rattle.files.specs.Calls.{loadRefusal, Loads}
@@ -76,13 +76,10 @@ chooser-solved p room limit s e =
     ap (λ y. y .refusal) is ∙ elim (stops p room (picks p room limit s) s .1) [
       | inl finished ↦ finished .refusal
       | inr more ↦ elim more [
-        | inl refused ↦ absurd (solved-running (sym e ∙ ap (λ y. verdictOf (p .n) (y .search .stack)) is ∙ refused .verdict))
+        | inl refused ↦ absurd (let two = ap numberOf (sym (ap (λ y. verdictOf (p .n) (y .search .stack)) is) ∙ e) in let one = refused .verdict in omega (arith, two, one))
         | inr ended ↦ ended .refusal
       ]
     ]
-  where
-    solved-running : Solved ≡ Running → ⊥
-    solved-running e = omega (arith, ap numberOf e)
 
 -- An accepted one: what the chooser then returns shows what it leaves, and its text is the answer.
 module _ (file domains domains′ tables tables′ agenda agenda′ : List ℕ) (l : Loaded) (after : List ℕ) (ran : Ran) (bytes : Bytes file)

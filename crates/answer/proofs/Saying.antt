@@ -294,7 +294,7 @@ module _ (file : List ℕ) (bytes : Bytes file) (rest : List ℕ) (solved : answ
       × Solution (saidN file) (saidAllowed file) (λ i. getD (saidDomains file) i 0) f
   unfolding planLine
   a-plan =
-      let (P, S, stack, solution) = says .solved (ap numberOf verdict) in
+      let (P, S, stack, values, solution) = says .solved (ap numberOf verdict) in
       let a = load-taken file (length (c .domains)) (length (c .tables)) (length (c .agenda)) (sym (c .loads .refusal) ∙ accepted) .accepts in
       let steps = chosen-steps file (c .domains) (c .domains′) (c .tables) (c .tables′) (c .agenda) (c .agenda′) (c .loaded) (c .after) (c .ran) bytes (lends file c) (c .loads) accepted (c .chooses) in
       let checks = chosen-checks file (c .domains) (c .domains′) (c .tables) (c .tables′) (c .agenda) (c .agenda′) (c .loaded) (c .after) (c .ran) bytes (lends file c) (c .loads) accepted (c .chooses) in (

@@ -13,7 +13,7 @@ use lib.Dec.{eqb}
 use borrow.Author.Tests.{ne-eqb}
 use Rattle.splits.specs.Problem.{Problem}
 use Rattle.search.specs.Agenda.{problemOf, slotsIn, agendaOf}
-use Rattle.search.specs.Verdicts.{finished, verdictOf}
+use Rattle.search.specs.Verdicts.{numberOf, finished, verdictOf}
 use Rattle.search.specs.Runs.{Search, Stopped, step, run, requestsIn}
 use Rattle.search.specs.FirstChecks.{WholeRequests, runRefusal}
 use Rattle.search.specs.Calls.{searchOf, Ends, Runs, Chooses}
@@ -79,7 +79,7 @@ module _ (p : Problem) (room : ℕ) where
   pub run-whole : (rs : List (List ℕ)) (s : Search) → run p room rs s .refusal ≡ 0 → verdictOf (p .n) (run p room rs s .search .stack) ≡ Running
       → run p room rs s .taken ≡ length rs
   run-whole rs s e v =
-      ⊎-elim (λ f. absurd (f .verdict v)) (λ k. ⊎-elim (λ f. absurd (f .refused e)) (λ f. f .taken) k) (stops p room rs s .1)
+      ⊎-elim (λ f. absurd (f .verdict (ap numberOf v))) (λ k. ⊎-elim (λ f. absurd (f .refused e)) (λ f. f .taken) k) (stops p room rs s .1)
 
 -- ---- in lent words
 

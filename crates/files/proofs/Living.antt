@@ -20,7 +20,6 @@ use Rattle.search.specs.declared.state.State.{State}
 use Rattle.search.specs.declared.state.Ran.{Ran}
 use Rattle.search.specs.declared.state.Verdict.{Verdict}
 use Rattle.search.specs.declared.state.Verdict.the-variants.{None}
-use Rattle.search.proofs.Verdicts.{is-unsolvable, is-solved}
 use Rattle.search.proofs.HandedOn.{known, leaves, some-slots, whole-requests}
 use Rattle.search.proofs.Promises.{open-leaves, run-leaves, chooser-leaves, run-says, run-passed, reached-passes, reached-unsolvable, solved-shows}
 use Rattle.files.specs.Blocks.{fileOf}
@@ -139,12 +138,12 @@ module _ {n d : ℕ} {domains tables₀ tables agenda : List ℕ} {s : State} (l
   -- What a verdict says of it.
   pub says-unsolvable : (v : Verdict) → v ≡ verdictOf n (stackOf n agenda (s .subproblems)) → numberOf v ≡ 3 → Has-solution (problemOf n d domains tables₀) → ⊥
   says-unsolvable v e h =
-      reached-unsolvable n d domains tables₀ (slotsIn n (length agenda)) (searchOf n agenda s) proper₀ reached₀ (is-unsolvable _ (ap numberOf (sym e) ∙ h))
+      reached-unsolvable n d domains tables₀ (slotsIn n (length agenda)) (searchOf n agenda s) proper₀ reached₀ (ap numberOf (sym e) ∙ h)
 
   pub says-solved : (v : Verdict) → v ≡ verdictOf n (stackOf n agenda (s .subproblems)) → numberOf v ≡ 2 → Shown n d domains tables₀ agenda s
   says-solved v e h =
       solved-shows (problemOf n d domains tables₀) (slotsIn n (length agenda)) (searchOf n agenda s)
-      (reached-passes n d domains tables₀ (slotsIn n (length agenda)) (searchOf n agenda s) proper₀ reached₀) (is-solved _ (ap numberOf (sym e) ∙ h))
+      (reached-passes n d domains tables₀ (slotsIn n (length agenda)) (searchOf n agenda s) proper₀ reached₀) (ap numberOf (sym e) ∙ h)
 
 -- A run that returns a verdict was handed whole requests, and its verdict is that of what it leaves.
 pub run-verdict : (n d : ℕ) (domains tables before after requests : List ℕ) (s : State) (r : Ran) → Handed n d domains tables before s

@@ -262,7 +262,7 @@ says n d domains tables before after x r left gives =
       solved = λ k.
           let (P, S, top, all) = solved-top n stack (sym same ∙ is-solved (r .verdict) k) in
           let (values, solution) = shown (top-held (problemOf n d domains tables) _ P S (searchOf n after (r .state)) passes top) (all-instantiated n P all) in
-          (P, S, top, solution);
+          (P, S, top, values, solution);
       unsolvable = (
         λ k. sym long ∙ ap length (unsolvable-if n stack .0 (sym same ∙ is-unsolvable (r .verdict) k)),
         λ k. ap numberOf (same ∙ unsolvable-if n stack .1 (none-long stack (long ∙ k))),

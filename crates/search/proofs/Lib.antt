@@ -27,4 +27,5 @@ pub mod Opening
 pub mod Admitting
 pub mod Ending
 pub mod HandedOn
+pub mod Exactly
 pub mod Promises

@@ -22,8 +22,10 @@ use Rattle.search.specs.declared.state.Verdict.the-variants.{Running}
 pub record Says (after : List ℕ) (r : Ran) : Type 0 where
   pub verdict : r .verdict ≡ Running
   pub refusal : r .refusal ≡ 0
+  pub taken : r .taken ≡ 2
   pub steps : r .state .counts .steps .0 ≡ 2
   pub checks : r .state .counts .checks .0 ≡ 1
+  pub subproblems : r .state .subproblems ≡ 1
   pub agenda : after ≡ 1 ∷ 2 ∷ 0 ∷ 1 ∷ 0 ∷ 0 ∷ 0 ∷ 0 ∷ []
 
 pub says : (after : List ℕ) (r : Ran) → Right after r → Says after r
@@ -33,4 +35,4 @@ unfolding runRefusal refusalOfNumbers refusalOfLengths wholeSlots refusalOfReque
     step splitTop pieces named keep below backtracking forwardChecking idc halving extraction instantiate without cut cutBeside atTargets forbids
     instantiatedOther forbidden precluded disjunct extract changed empty some every instantiated smallest smallerHalf minus bit ones onesIn trailingZeros
     checks lookedAt others tried valuesIn total verdictOf
-says after r h = record { verdict = h .verdict; refusal = h .refusal; steps = h .steps; checks = h .checks; agenda = h .agenda }
+says after r h = record { verdict = h .verdict; refusal = h .refusal; taken = h .taken; steps = h .steps; checks = h .checks; subproblems = h .subproblems; agenda = h .agenda }

@@ -13,7 +13,7 @@ use Rattle.search.specs.Calls.{Ends}
 use Rattle.search.specs.declared.state.State.{State}
 use Rattle.search.specs.declared.state.Ran.{Ran}
 use Rattle.search.specs.Cases.{cases}
-use Rattle.search.specs.Promises.{Open-one, Run-one, Choose-one, Unsolvable-if, Solved-if, Running-if, Solved-shows, Refusal-11, Refusal-7, Refusal-8, Refusal-9, Refusal-10, Refusal-12, Refusal-none, Stops, Taken, Takes-none, Two-lists, Picks, Chosen-so, Chosen-accepted, Chooser-refusals, Step-passes, Run-passes, Chooser-passes, Reached-passes, Reached-checks, Reached-solvable, Reached-unsolvable, Reached-steps, Open-leaves, Run-leaves, Chooser-leaves, Handed-passes, Run-says, Chooser-says, Called-reached, Ends-so, Marked-cases, Not-only-refuses, Not-always-unsolvable, Not-idle, Not-solved-at-once, Not-invented, Open-refusal-1, Open-refusal-2, Open-refusal-3, Open-refusal-4, Open-refusal-5, Open-refusal-none, Search-refusal-1, Search-refusal-2, Search-refusal-3, Search-refusal-4, Search-refusal-5, Search-refusal-6, Search-refusal-none, Run-refusal-1, Run-refusal-2, Run-refusal-3, Run-refusal-4, Run-refusal-5, Run-refusal-6, Run-refusal-none, Numbers-pass, Lengths-pass, Requests-pass, Problem-pass, Search-pass, Proper-passed, Open-passed, Search-passed, Run-passed, Open-apart, Search-apart, Run-apart, Open-refusal-one, Search-refusal-one, Run-refusal-one}
+use Rattle.search.specs.Promises.{Open-one, Run-one, Choose-one, Unsolvable-if, Solved-if, Running-if, Solved-shows, Refusal-11, Refusal-7, Refusal-8, Refusal-9, Refusal-10, Refusal-12, Refusal-none, Stops, Taken, Takes-none, Two-lists, Picks, Chosen-so, Chosen-accepted, Chooser-refusals, Step-passes, Run-passes, Chooser-passes, Reached-passes, Reached-checks, Reached-solvable, Reached-unsolvable, Reached-steps, Open-leaves, Run-leaves, Chooser-leaves, Handed-passes, Run-says, Chooser-says, Called-reached, Ends-so, Marked-cases, None-if-run, None-if-choose, Run-exact, Choose-exact, Right-only, Not-only-refuses, Not-always-unsolvable, Not-idle, Not-solved-at-once, Not-invented, Open-refusal-1, Open-refusal-2, Open-refusal-3, Open-refusal-4, Open-refusal-5, Open-refusal-none, Search-refusal-1, Search-refusal-2, Search-refusal-3, Search-refusal-4, Search-refusal-5, Search-refusal-6, Search-refusal-none, Run-refusal-1, Run-refusal-2, Run-refusal-3, Run-refusal-4, Run-refusal-5, Run-refusal-6, Run-refusal-none, Numbers-pass, Lengths-pass, Requests-pass, Problem-pass, Search-pass, Proper-passed, Open-passed, Search-passed, Run-passed, Open-apart, Search-apart, Run-apart, Open-refusal-one, Search-refusal-one, Run-refusal-one}
 use Rattle.splits.proofs.Refusals.{one}
 use Rattle.search.proofs.Verdicts
 use Rattle.search.proofs.Refusals
@@ -24,6 +24,7 @@ use Rattle.search.proofs.Reaching
 use Rattle.search.proofs.Cases
 use Rattle.search.proofs.Planners
 use Rattle.search.proofs.HandedOn
+use Rattle.search.proofs.Exactly
 use Rattle.search.specs.FirstChecks.{Deserves-1, Deserves-2, Deserves-3, Deserves-3-run, Deserves-4, Deserves-5, Deserves-6, openRefusal, searchRefusal, runRefusal}
 use Rattle.search.proofs.FirstOrder.{is-0, is-1, is-2, is-3, is-4, is-5, is-6, open-ordered, search-ordered, run-ordered}
 use Rattle.search.proofs.FirstPassing.{numbers-none, lengths-none, requests-none, problem-none, search-none, proper-is-passed, open-is-passed, search-is-passed, run-is-passed}
@@ -49,7 +50,7 @@ running-if n S =
 
 pub solved-shows : Solved-shows
 solved-shows p room s h e =
-    let (P, S, top, all) = Verdicts.solved-top (p .n) (s .stack) e in
+    let (P, S, top, all) = Verdicts.solved-top (p .n) (s .stack) (Verdicts.is-solved (verdictOf (p .n) (s .stack)) e) in
     let (values, solution) = Verdicts.shown (Passing.top-held p room P S s h top) (Verdicts.all-instantiated (p .n) P all) in
     (P, S, top, values, solution)
 
@@ -81,7 +82,7 @@ pub taken : Taken
 taken = Runs.taken-alone
 
 pub takes-none : Takes-none
-takes-none p room rs s h = Runs.run-finished p room rs s (Verdicts.not-running (p .n) (s .stack) h)
+takes-none p room rs s h = Runs.run-finished p room rs s (Verdicts.not-running (p .n) (s .stack) (λ e. h (ap numberOf e)))
 
 pub two-lists : Two-lists
 two-lists p room rs qs s = Runs.two-lists p room qs rs s
@@ -92,12 +93,12 @@ picks p room limit s = Picking.picked p room limit s 0
 pub chosen-so : Chosen-so
 unfolding finished
 chosen-so p room P S s h top e =
-    rw top (Picking.chosen-so p room P S (Passing.top-held p room P S s h top) (Verdicts.is-running (p .n) (P ∷ S) (rw top at e)) (rw top at (h .fits)))
+    rw top (Picking.chosen-so p room P S (Passing.top-held p room P S s h top) (Verdicts.is-running (p .n) (P ∷ S) (Verdicts.is-run-on (verdictOf (p .n) (P ∷ S)) (rw top at e))) (rw top at (h .fits)))
 
 pub chosen-accepted : Chosen-accepted
 unfolding finished
 chosen-accepted p room P S s h top e =
-    rw top (Picking.chosen-accepted p room P S (Passing.top-held p room P S s h top) (Verdicts.is-running (p .n) (P ∷ S) (rw top at e)) (rw top at (h .fits)))
+    rw top (Picking.chosen-accepted p room P S (Passing.top-held p room P S s h top) (Verdicts.is-running (p .n) (P ∷ S) (Verdicts.is-run-on (verdictOf (p .n) (P ∷ S)) (rw top at e))) (rw top at (h .fits)))
 
 pub chooser-refusals : Chooser-refusals
 chooser-refusals p room limit s h = Picking.choose-refusals p room limit s 0 h
@@ -122,7 +123,7 @@ reached-solvable n d domains tables room s proper h = Reaching.reached-holds n d
 
 pub reached-unsolvable : Reached-unsolvable
 reached-unsolvable n d domains tables room s proper h e f =
-    Reaching.none-solvable (problemOf n d domains tables) (s .stack) (Verdicts.unsolvable-if n (s .stack) .0 e)
+    Reaching.none-solvable (problemOf n d domains tables) (s .stack) (Verdicts.unsolvable-if n (s .stack) .0 (Verdicts.is-unsolvable (verdictOf n (s .stack)) e))
     (Reaching.reached-holds n d domains tables proper h .solvable .0 f)
 
 pub reached-steps : Reached-steps
@@ -146,23 +147,41 @@ run-says = HandedOn.run-says-so
 pub chooser-says : Chooser-says
 chooser-says = HandedOn.chooser-says-so
 
+pub none-if-run : None-if-run
+none-if-run n d domains tables before after requests s r ends = Exactly.none-if _ n before after s _ r ends
+
+pub none-if-choose : None-if-choose
+none-if-choose n d domains tables before after limit s r ends = Exactly.none-if _ n before after s _ r ends
+
+pub run-exact : Run-exact
+run-exact = Exactly.run-exact
+
+pub choose-exact : Choose-exact
+choose-exact = Exactly.choose-exact
+
 pub called-reached : Called-reached
 called-reached = HandedOn.called-so
 
 pub marked-cases : Marked-cases
 marked-cases = Cases.each Ends-so cases Cases.computed
 
+pub right-only : Right-only
+right-only after r w =
+    let x = Planners.says after r w in (x .agenda, ap numberOf (x .verdict), x .refusal, x .taken, x .steps, x .checks, x .subproblems)
+
 pub not-only-refuses : Not-only-refuses
 not-only-refuses after r h w = h (Planners.says after r w .refusal)
 
 pub not-always-unsolvable : Not-always-unsolvable
-not-always-unsolvable after r e w = Verdicts.unsolvable-running (sym e ∙ Planners.says after r w .verdict)
+not-always-unsolvable after r e w = let one = ap numberOf (Planners.says after r w .verdict) in omega (arith, e, one)
 
 pub not-idle : Not-idle
 not-idle r w = omega (arith, ap (λ (l : List ℕ). getD l 1 0) (Planners.says _ r w .agenda))
 
 pub not-solved-at-once : Not-solved-at-once
-not-solved-at-once after r e w = Verdicts.solved-running (sym e ∙ Planners.says after r w .verdict)
+not-solved-at-once after r h w =
+    ⊎-elim (λ e. let one = ap numberOf (Planners.says after r w .verdict) in omega (arith, e, one))
+    (λ e. let third = ap (λ (l : List ℕ). getD l 3 0) (Planners.says after r w .agenda) in omega (arith, e, third)) h
 
 pub not-invented : Not-invented
 not-invented after r h w = ⊎-elim (λ k. k (Planners.says after r w .steps)) (λ k. k (Planners.says after r w .checks)) h

@@ -24,7 +24,6 @@ use Rattle.search.specs.declared.state.State.{State}
 use Rattle.search.specs.declared.state.Opened.{Opened}
 use Rattle.search.specs.Cases.{Case, problemIn, openingOf, expected, cases}
 use Rattle.search.specs.declared.state.Ran.{Ran}
-use Rattle.search.specs.declared.state.Verdict.the-variants.{Running, Solved, Unsolvable}
 
 -- A search of p with so many slots passes what 6 asks: each subproblem obeys the rules, there are no more of them than slots, and no more than
 -- 496 × steps checks. p is proper, and the steps fit their counter.
@@ -54,7 +53,7 @@ Running-if =
 -- A solved search shows a solution of the problem: its top has one value for each variable, and these are one.
 abbrev pub Solved-shows : Type 0
 Solved-shows =
-    (p : Problem) (room : ℕ) (s : Search) → Passes p room s → verdictOf (p .n) (s .stack) ≡ Solved
+    (p : Problem) (room : ℕ) (s : Search) → Passes p room s → numberOf (verdictOf (p .n) (s .stack)) ≡ 2
     → (P : Subproblem) × (S : List Subproblem) × (s .stack ≡ P ∷ S)
     × ((i : ℕ) → i < p .n → domain P i ≡ single (lowest (domain P i)))
     × Solution (p .n) (p .allowed) (p .domain) (λ i. lowest (domain P i))
@@ -109,11 +108,11 @@ Refusal-none =
 
 -- Where a run of the requests rs stopped, x: at a verdict other than running, at the first refused request, or at the list's end.
 pub record Finished (p : Problem) (x : Stopped) : Type 0 where
-  pub verdict : verdictOf (p .n) (x .search .stack) ≡ Running → ⊥
+  pub verdict : numberOf (verdictOf (p .n) (x .search .stack)) ≡ 1 → ⊥
   pub refusal : x .refusal ≡ 0
 
 pub record Refused (p : Problem) (room : ℕ) (rs : List (List ℕ)) (x : Stopped) : Type 0 where
-  pub verdict : verdictOf (p .n) (x .search .stack) ≡ Running
+  pub verdict : numberOf (verdictOf (p .n) (x .search .stack)) ≡ 1
   pub request : x .taken < length rs
   pub refusal : x .refusal ≡ refusalOfRequest p room (getD rs (x .taken) []) (x .search)
   pub refused : x .refusal ≡ 0 → ⊥
@@ -139,7 +138,7 @@ Taken =
 -- On a finished search a run takes none and returns refusal 0.
 abbrev pub Takes-none : Type 0
 Takes-none =
-    (p : Problem) (room : ℕ) (rs : List (List ℕ)) (s : Search) → (verdictOf (p .n) (s .stack) ≡ Running → ⊥)
+    (p : Problem) (room : ℕ) (rs : List (List ℕ)) (s : Search) → (numberOf (verdictOf (p .n) (s .stack)) ≡ 1 → ⊥)
     → run p room rs s ≡ record { search = s; refusal = 0; taken = 0 }
 
 -- A run of two lists is the run of the first, then of what it did not take, at every way it can stop.
@@ -189,7 +188,7 @@ pub record Chosen (p : Problem) (room : ℕ) (P : Subproblem) (S : List Subprobl
 abbrev pub Chooses-always : (Problem → ℕ → Subproblem → List Subproblem → List ℕ → Type 0) → Type 0
 Chooses-always Said =
     (p : Problem) (room : ℕ) (P : Subproblem) (S : List Subproblem) (s : Search) → Passes p room s → s .stack ≡ P ∷ S
-    → verdictOf (p .n) (s .stack) ≡ Running → Said p room P S (chosen p room (s .stack))
+    → numberOf (verdictOf (p .n) (s .stack)) ≡ 1 → Said p room P S (chosen p room (s .stack))
 
 -- It is the one that 01 chooses.
 abbrev pub Chosen-so : Type 0
@@ -256,7 +255,7 @@ Reached-solvable =
 
 -- Unsolvable means that the problem has no solution.
 abbrev pub Reached-unsolvable : Type 0
-Reached-unsolvable = Reaches (λ p room s. verdictOf (p .n) (s .stack) ≡ Unsolvable → Has-solution p → ⊥)
+Reached-unsolvable = Reaches (λ p room s. numberOf (verdictOf (p .n) (s .stack)) ≡ 3 → Has-solution p → ⊥)
 
 -- With S possibilities at most S × (n + 1) − 1 steps were taken, none where S is 0; hence at most S × (n + 2).
 abbrev pub Reached-steps : Type 0
@@ -309,12 +308,13 @@ Handed-passes =
     (n d : ℕ) (domains tables agenda : List ℕ) (s : State) → Handed n d domains tables agenda s
     → Passes (problemOf n d domains tables) (slotsIn n (length agenda)) (searchOf n agenda s)
 
--- What the verdict of a call says of the agenda it leaves: solved, that the top slot shows a solution of the problem; unsolvable, exactly that
--- no subproblem is left.
+-- What the verdict of a call says of the agenda it leaves: solved, that the top slot shows a solution of the problem, one value for each variable;
+-- unsolvable, exactly that no subproblem is left.
 pub record Verdict-says (n d : ℕ) (domains tables after : List ℕ) (r : Ran) : Type 0 where
   pub verdict : r .verdict ≡ verdictOf n (stackOf n after (r .state .subproblems))
   pub solved : numberOf (r .verdict) ≡ 2
       → (P : Subproblem) × (S : List Subproblem) × (stackOf n after (r .state .subproblems) ≡ P ∷ S)
+      × ((i : ℕ) → i < n → domain P i ≡ single (lowest (domain P i)))
       × Solution n (tableOf n d tables) (λ i. getD domains i 0) (λ i. lowest (domain P i))
   pub unsolvable : (numberOf (r .verdict) ≡ 3) ↔ (r .state .subproblems ≡ 0)
 
@@ -328,6 +328,49 @@ abbrev pub Chooser-says : Type 0
 Chooser-says =
     (n d : ℕ) (domains tables before after : List ℕ) (limit : ℕ) (s : State) (r : Ran) → Handed n d domains tables before s
     → Chooses n d domains tables before after limit s r → Verdict-says n d domains tables after r
+
+-- ---- what run and chooser return
+
+-- The verdict is none, number 0, exactly where the first checks refuse.
+abbrev pub None-if : ℕ → Ran → Type 0
+None-if first r = (numberOf (r .verdict) ≡ 0) ↔ (first ≡ 0 → ⊥)
+
+abbrev pub None-if-run : Type 0
+None-if-run =
+    (n d : ℕ) (domains tables before after requests : List ℕ) (s : State) (r : Ran) → Runs n d domains tables before after requests s r
+    → None-if (runRefusal n d domains tables before requests (s .counts .steps .0) (s .counts .checks .0) (s .subproblems)) r
+
+abbrev pub None-if-choose : Type 0
+None-if-choose =
+    (n d : ℕ) (domains tables before after : List ℕ) (limit : ℕ) (s : State) (r : Ran) → Chooses n d domains tables before after limit s r
+    → None-if (searchRefusal n d domains tables before (s .counts .steps .0) (s .counts .checks .0) (s .subproblems)) r
+
+-- The refusal returned, exactly: 1 to 6 are those of the first checks. A later number is given exactly if they pass, the search that is left runs, fewer
+-- than `most` requests were taken, and it is the refusal of the request that is next, by that search.
+abbrev pub Exact-refusal : (first most : ℕ) → (Ran → ℕ) → Ran → Type 0
+Exact-refusal first most next r =
+    ((k : ℕ) → 1 ≤ k → k ≤ 6 → (r .refusal ≡ k) ↔ (first ≡ k))
+    × ((k : ℕ) → 7 ≤ k → (r .refusal ≡ k) ↔ ((first ≡ 0) × (numberOf (r .verdict) ≡ 1) × (r .taken < most) × (next r ≡ k)))
+
+-- Of a run the next is the first request not taken.
+abbrev pub Run-exact : Type 0
+Run-exact =
+    (n d : ℕ) (domains tables before after requests : List ℕ) (s : State) (r : Ran) → Runs n d domains tables before after requests s r →
+    let p : Problem = problemOf n d domains tables in
+    let room : ℕ = slotsIn n (length before) in
+    let rs : List (List ℕ) = requestsIn n requests in
+    Exact-refusal (runRefusal n d domains tables before requests (s .counts .steps .0) (s .counts .checks .0) (s .subproblems)) (length rs)
+    (λ x. refusalOfRequest p room (getD rs (x .taken) []) (run p room rs (searchOf n before s) .search)) r
+
+-- Of the chooser the next is what it chooses for the search that is left.
+abbrev pub Choose-exact : Type 0
+Choose-exact =
+    (n d : ℕ) (domains tables before after : List ℕ) (limit : ℕ) (s : State) (r : Ran) → Chooses n d domains tables before after limit s r →
+    let p : Problem = problemOf n d domains tables in
+    let room : ℕ = slotsIn n (length before) in
+    let left : Search = choose p room limit (searchOf n before s) .search in
+    Exact-refusal (searchRefusal n d domains tables before (s .counts .steps .0) (s .counts .checks .0) (s .subproblems)) limit
+    (λ x. refusalOfRequest p room (chosen p room (left .stack)) left) r
 
 -- The words and states that opening and any number of calls lead to, each call handed what the one before it left.
 pub data Called (n d : ℕ) (domains tables : List ℕ) : List ℕ → State → Type 0 where
@@ -367,21 +410,28 @@ Right after r =
     Runs 2 2 (1 ∷ 3 ∷ []) (0 ∷ 0 ∷ 2 ∷ 1 ∷ 2 ∷ 1 ∷ 0 ∷ 0 ∷ []) (1 ∷ 3 ∷ 0 ∷ 0 ∷ 0 ∷ 0 ∷ 0 ∷ 0 ∷ []) after
     (1 ∷ 0 ∷ 0 ∷ 0 ∷ 0 ∷ 3 ∷ 1 ∷ 0 ∷ 0 ∷ 0 ∷ []) (record { counts = record { steps = record { 0 = 0 }; checks = record { 0 = 0 } }; subproblems = 1 }) r
 
+-- What is left and returned there, exactly: both requests are taken, and 1,2 with 0 marked is left, after 2 steps and 1 check.
+abbrev pub Right-only : Type 0
+Right-only =
+    (after : List ℕ) (r : Ran) → Right after r
+    → (after ≡ 1 ∷ 2 ∷ 0 ∷ 1 ∷ 0 ∷ 0 ∷ 0 ∷ 0 ∷ []) × (numberOf (r .verdict) ≡ 1) × (r .refusal ≡ 0) × (r .taken ≡ 2) × (r .state .counts .steps .0 ≡ 2)
+    × (r .state .counts .checks .0 ≡ 1) × (r .state .subproblems ≡ 1)
+
 -- One that only refuses does not satisfy it.
 abbrev pub Not-only-refuses : Type 0
 Not-only-refuses = (after : List ℕ) (r : Ran) → (r .refusal ≡ 0 → ⊥) → Right after r → ⊥
 
 -- One that always says unsolvable.
 abbrev pub Not-always-unsolvable : Type 0
-Not-always-unsolvable = (after : List ℕ) (r : Ran) → r .verdict ≡ Unsolvable → Right after r → ⊥
+Not-always-unsolvable = (after : List ℕ) (r : Ran) → numberOf (r .verdict) ≡ 3 → Right after r → ⊥
 
 -- One that takes requests and changes nothing.
 abbrev pub Not-idle : Type 0
 Not-idle = (r : Ran) → Right (1 ∷ 3 ∷ 0 ∷ 0 ∷ 0 ∷ 0 ∷ 0 ∷ 0 ∷ []) r → ⊥
 
--- One that solves wholly in its first step and then idles.
+-- One that solves wholly in its first step and then idles: it says solved, or leaves both variables of its top instantiated, whatever it says.
 abbrev pub Not-solved-at-once : Type 0
-Not-solved-at-once = (after : List ℕ) (r : Ran) → r .verdict ≡ Solved → Right after r → ⊥
+Not-solved-at-once = (after : List ℕ) (r : Ran) → (numberOf (r .verdict) ≡ 2) ⊎ (getD after 3 0 ≡ 3) → Right after r → ⊥
 
 -- One with invented counts: other than 2 steps, or other than 1 check.
 abbrev pub Not-invented : Type 0

@@ -1,21 +1,22 @@
 -- What follows of any split into pieces that are not empty: the six promises.
 -- Assumes nothing.
-use mathlib.Core.Path.{_≡_, sym}
+use mathlib.Core.Path.{_≡_, sym, _∙_}
 use mathlib.Core.Logic.{inl, inr, ⊎-elim}
 use mathlib.Core.List.{List, List·Memᴰ}
 use Prim.Native.Nat.{ℕ, _≤_, _<_}
 use native.Mathlib.Omega.{arith}
+use lib.ListN.{getD}
 use native.Mathlib.Nat.{le-of-eq}
 use Rattle.splits.specs.Problem.{Problem, Consistent, possibilities}
 use Rattle.splits.specs.Subproblems.{domain, sizeOf}
 use Rattle.splits.specs.Measure.{unmarked, measure}
-use Rattle.splits.specs.Promises.{Solvable, Sound-at, Cover-at, Exact-at, Obeys-at, Sizes-at, Falls-at}
+use Rattle.splits.specs.Promises.{Solvable, Sound-at, Cover-at, Exact-at, Apart-at, Obeys-at, Sizes-at, Falls-at}
 use Rattle.splits.specs.declared.subproblem.Subproblem.{Subproblem}
 use Rattle.splits.proofs.Masks.{bit-le}
-use Rattle.splits.proofs.Lists.{sum-some, sum-one}
-use Rattle.splits.proofs.Weights.{weigh, fits, fits-one, one-fits}
+use Rattle.splits.proofs.Lists.{sum-some, sum-one, sum-member}
+use Rattle.splits.proofs.Weights.{weigh, fits, fits-le, fits-one, one-fits}
 use Rattle.splits.proofs.Pieces.{Held, filled-size, free-unmarked, piece-sound, piece-marks, piece-rules, piece-unmarked, piece-less}
-use Rattle.splits.proofs.Splitting.{weights, SizeSum, FitSum, Split}
+use Rattle.splits.proofs.Splitting.{weight, weights, SizeSum, FitSum, Split}
 use Rattle.splits.proofs.Measures.{measure-falls}
 
 module _ {p : Problem} {P : Subproblem} {kind : ℕ} {l : List Subproblem} (split : Split p P kind l) where
@@ -43,6 +44,18 @@ module _ {p : Problem} {P : Subproblem} {kind : ℕ} {l : List Subproblem} (spli
         record { possible = one-fits f (p .n) _ (le-of-eq (sym fit)); consistent = h .consistent },
         λ j a q. only j a (fits-one f (p .n) _ (q .possible)),
       )
+
+  -- Where a possibility lies in two pieces, they are one.
+  pub apart : Apart-at p P kind l
+  apart f j k a b here there =
+      let one : weight (fits f) (p .n) (getD l j P) ≡ 1 = fits-one f (p .n) (getD l j P .domains) here in
+      let other : weight (fits f) (p .n) (getD l k P) ≡ 1 = fits-one f (p .n) (getD l k P .domains) there in
+      let some : weight (fits f) (p .n) (getD l j P) ≤ weights (fits f) (p .n) l = sum-member (weight (fits f) (p .n)) l P j a in
+      let few : weights (fits f) (p .n) l ≤ weight (fits f) (p .n) P = split .most (fits f) in
+      let most : weight (fits f) (p .n) P ≤ 1 = fits-le f (p .n) (P .domains) in
+      let all : weights (fits f) (p .n) l ≡ 1 = omega (arith, one, some, few, most) in
+      let (i, at, fit, only) = sum-one (weight (fits f) (p .n)) l P all in
+      only j a one ∙ sym (only k b other)
 
   -- Sizes.
   pub sums : Sizes-at p P kind l

@@ -42,6 +42,13 @@ module _ {A : Type 0} (g : A → ℕ) where
   sum-none (x ∷ xs) d e zero h = omega arith
   sum-none (x ∷ xs) d e (suc k) h = sum-none xs d (omega arith) k (le-of-suc-le-suc h)
 
+  -- No summand is more than the sum.
+  pub sum-member : (l : List A) (d : A) (k : ℕ) → k < length l → g (getD l k d) ≤ sum g l
+  unfolding sum
+  sum-member [] d k h = absurd (omega (arith, h))
+  sum-member (x ∷ xs) d zero h = omega arith
+  sum-member (x ∷ xs) d (suc k) h = let rest = sum-member xs d k (le-of-suc-le-suc h) in omega (arith, rest)
+
   -- Of a sum that is 1 one summand is 1 and no other.
   pub sum-one : (l : List A) (d : A) → sum g l ≡ 1
       → (k : ℕ) × (k < length l) × (g (getD l k d) ≡ 1) × ((j : ℕ) → j < length l → g (getD l j d) ≡ 1 → j ≡ k)

@@ -4,17 +4,17 @@ use mathlib.Core.Path.{_≡_, refl}
 use mathlib.Core.Logic.{_⊎_, inl, inr, ⊎-elim}
 use mathlib.Core.Bool.{not}
 use mathlib.Core.List.{List, [], List·Memᴰ}
-use Prim.Native.Nat.{ℕ, zero, suc, _≤_, _<_}
+use Prim.Native.Nat.{ℕ, zero, suc, _≤_, _<_, _+_}
 use native.Mathlib.Omega.{arith}
 use native.Mathlib.Nat.{le-refl}
 use native.Mathlib.Decide.{ℕ-discrete}
 use lib.Dec.{eqb}
 use borrow.Author.Tests.{eqb-true, eqb-false, not-true, not-false}
-use Rattle.splits.specs.Masks.{bit, minus}
+use Rattle.splits.specs.Masks.{bit, single, minus}
 use Rattle.splits.specs.Problem.{Problem}
 use Rattle.splits.specs.Subproblems.{domain, empty}
 use Rattle.splits.specs.Requests.{kindOf, variableOf, valueOf, targetOf}
-use Rattle.splits.specs.Splits.{backtracking, forwardChecking, idc, halving, extraction, byKind, named, pieces}
+use Rattle.splits.specs.Splits.{backtracking, forwardChecking, idc, halving, extraction, without, cutBeside, precluded, byKind, named, pieces}
 use Rattle.splits.specs.Promises.{Splits}
 use Rattle.splits.specs.declared.subproblem.Subproblem.{Subproblem}
 use Rattle.splits.proofs.ByKind.{five}
@@ -25,7 +25,7 @@ use Rattle.splits.proofs.Lists.{sum-keep, member-keep}
 use Rattle.splits.proofs.Weights.{Weight, weigh-none, bySize}
 use Rattle.splits.proofs.Pieces.{Held, Piece}
 use Rattle.splits.proofs.Splitting.{weight, weights, Split}
-use Rattle.splits.proofs.Valued.{Valued, kind-1, kind-2, kind-3}
+use Rattle.splits.proofs.Valued.{Valued, kind-1, kind-2, kind-3, peel-3}
 use Rattle.splits.proofs.Divided.{Divisible, Targeted, kind-4, kind-5}
 
 -- Where not all are equal, two differ.
@@ -114,6 +114,17 @@ module _ {p : Problem} {P : Subproblem} {r : List ℕ} (s : Splits p P r) where
   placed = record {
     free = split .free;
     each = placed-piece;
+    most = λ w. rw (placed-weights w) (split .most w);
     size-sum = rw (placed-weights bySize) (split .size-sum);
     fit-sum = λ f h. simp placed-weights (split .fit-sum f h);
   }
+
+  -- What kind 3's peel takes off.
+  pub placed-peel : (w : Weight) → kindOf r ≡ 3
+      → weights w (p .n) (pieces (p .n) (p .allowed) P r)
+      + weight w (p .n) (without (cutBeside (p .allowed) P (variableOf r) (valueOf r) (p .n)) (variableOf r) (single (valueOf r)))
+      ≡ weight w (p .n) (precluded (p .n) (p .allowed) P (variableOf r) (valueOf r)) + weight w (p .n) (without P (variableOf r) (single (valueOf r)))
+  unfolding named
+  placed-peel w e =
+      let is : named (p .n) (p .allowed) P r ≡ idc (p .n) (p .allowed) P (variableOf r) (valueOf r) = rw e refl in
+      rw (placed-weights w, is) (peel-3 held (valued (omega (arith, e)) (omega (arith, e))) w)

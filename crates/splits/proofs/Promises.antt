@@ -12,14 +12,15 @@ use Rattle.splits.specs.Subproblems.{domain, empty, some}
 use Rattle.splits.specs.Splits.{filled, keep, below, precluded, disjunct, without, cutBeside, changed, instantiate, extract, atTargets}
 use Rattle.splits.specs.Shortcuts.{skipping, weak, weakDisjunct, untargeted, pair-top}
 use Rattle.splits.specs.Measure.{sum, unmarked, measure}
-use Rattle.splits.specs.Promises.{Sound, Cover, Exact, Obeys, Sizes, Falls, Solved, Skipping-loses, Weak-overlaps, One-value-lies, Dropping-loses, Lowest, Smaller-half-of, One-by-one, At-most-496, Refusal-7, Refusal-8, Refusal-9, Refusal-10, Refusal-none, Reads-refusal, Reads-pieces, Reads-checks, Count-one, First-one, Smaller-half-one, Domain-one, Is-instantiated-one, All-instantiated-one, Is-empty-one, Instantiate-one, Without-one, Cut-one, Precluded-one, Precluded-empty-one, Candidates-one, Piece-one, Checks-one, Refusal-one}
+use Rattle.splits.specs.Promises.{Sound, Cover, Exact, Obeys, Sizes, Apart, Falls, Peel, Solved, Skipping-loses, Weak-overlaps, One-value-lies, Dropping-loses, Lowest, Smaller-half-of, One-by-one, At-most-496, Refusal-7, Refusal-8, Refusal-9, Refusal-10, Refusal-none, Reads-refusal, Reads-pieces, Reads-checks, Count-one, First-one, Smaller-half-one, Domain-one, Is-instantiated-one, All-instantiated-one, Is-empty-one, Instantiate-one, Without-one, Cut-one, Precluded-one, Precluded-empty-one, Candidates-one, Piece-one, Checks-one, Refusal-one}
 use Rattle.splits.specs.declared.subproblem.Subproblem.{Subproblem}
 use Rattle.splits.proofs.Masks.{size-single, lowest-member, lowest-least, half-part, half-size, half-below}
 use Rattle.splits.proofs.Splitting.{lowest-in}
-use Rattle.splits.proofs.Consequences.{sounds, covers, exactly, keeps, sums, descends}
+use Rattle.splits.proofs.Consequences.{sounds, covers, exactly, apart as apart-so, keeps, sums, descends}
+use Rattle.splits.proofs.Weights.{weigh, bySize}
 use Rattle.splits.proofs.OneByOne.{all-one-by-one}
 use Rattle.splits.proofs.CheckLimit.{at-most-496 as limit}
-use Rattle.splits.proofs.Placed.{held, placed, placed-filled}
+use Rattle.splits.proofs.Placed.{held, placed, placed-filled, placed-peel}
 use Rattle.splits.proofs.Shortcuts.{both-zero, pair-domains, two-idc, two-extraction, three-idc, pair-proper, pair-rules, two-solvable}
 use Rattle.splits.proofs.Refusals.{is-7, is-8, is-9, is-10, is-none, same-refusal, same-pieces, same-checks, one}
 
@@ -38,8 +39,15 @@ obeys p P r s = keeps (placed s) (held s) (placed-filled s)
 pub sizes : Sizes
 sizes p P r s = sums (placed s)
 
+pub apart : Apart
+apart p P r s = apart-so (placed s)
+
 pub falls : Falls
 falls p P r s = descends (placed s) (held s) (placed-filled s)
+
+pub peel : Peel
+unfolding possibilities weigh
+peel p P r s e = placed-peel s bySize e
 
 pub solved : Solved
 solved p P proper rules all =
@@ -50,7 +58,7 @@ solved p P proper rules all =
 
 pub skipping-loses : Skipping-loses
 unfolding skipping filled keep below precluded disjunct without cutBeside changed instantiate empty some minus bit
-skipping-loses = (two-idc, λ h. let (Q, m, q) = h two-solvable in List·Memᴰ·not-nil m)
+skipping-loses = (two-idc, two-solvable, refl, λ h. let (Q, m, q) = h two-solvable in List·Memᴰ·not-nil m)
 
 pub weak-overlaps : Weak-overlaps
 unfolding weak filled weakDisjunct keep below precluded without cutBeside changed instantiate empty some minus bit ones onesIn

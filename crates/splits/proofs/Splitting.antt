@@ -5,7 +5,7 @@ use mathlib.Core.Logic.{_⊎_, inl}
 use mathlib.Core.List.{List, List·Memᴰ}
 use Prim.Native.Nat.{ℕ, _^_, _≤_, _<_}
 use native.Mathlib.Omega.{arith}
-use native.Mathlib.Nat.{le-refl, lt-of-lt-of-le}
+use native.Mathlib.Nat.{le-of-eq, le-refl, lt-of-lt-of-le}
 use native.Mathlib.Decide.{decLe}
 use lib.Pow.{pow-mono}
 use lib.ListN.{length, List·getD-eq-default}
@@ -42,6 +42,7 @@ FitSum p P kind l f =
 pub record Split (p : Problem) (P : Subproblem) (kind : ℕ) (l : List Subproblem) : Type 0 where
   pub free : (i : ℕ) × (i < p .n) × (Instantiated P i → ⊥)
   pub each : (Q : Subproblem) → List·Memᴰ Q l → Piece p P Q
+  pub most : (w : Weight) → weights w (p .n) l ≤ weight w (p .n) P
   pub size-sum : SizeSum p P kind l
   pub fit-sum : (f : ℕ → ℕ) → SolutionOf p P f → FitSum p P kind l f
 
@@ -55,7 +56,7 @@ module _ {p : Problem} {P : Subproblem} where
       → ((Q : Subproblem) → List·Memᴰ Q l → Piece p P Q)
       → ((w : Weight) → weights w (p .n) l ≡ weight w (p .n) P) → Split p P kind l
   even kind l free each same =
-      record { free = free; each = each; size-sum = inl (same bySize); fit-sum = λ f s. inl (same (fits f) ∙ fits-whole p P f s) }
+      record { free = free; each = each; most = λ w. le-of-eq (same w); size-sum = inl (same bySize); fit-sum = λ f s. inl (same (fits f) ∙ fits-whole p P f s) }
 
   -- A piece that marks nothing and has a smaller domain.
   pub shrunk : (Q : Subproblem) (i : ℕ) → Q .marked ≡ P .marked → Within (Q .domains) (P .domains) → i < p .n

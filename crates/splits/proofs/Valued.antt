@@ -22,6 +22,7 @@ use Rattle.splits.proofs.Masks.{bit-le, bit-common, bit-single-same, si
 use Rattle.splits.proofs.Tests.{some-found, some-none}
 use Rattle.splits.proofs.Lists.{sum-below, each-none, each-more, each-of}
 use Rattle.splits.proofs.Domains.{Within, length-changed, changed-before, within-changed, within-set, within-sets, row-within}
+use Rattle.splits.proofs.Products.{product-same}
 use Rattle.splits.proofs.Weights.{Weight, weigh, bySize, fits, weigh-le, weigh-two, weigh-peel, fits-le, fits-one, one-fits}
 use Rattle.splits.proofs.Pieces.{Held, Piece, mirror}
 use Rattle.splits.proofs.Splitting.{weight, weights, Split, fits-whole, even, shrunk, long, lowest-only}
@@ -212,6 +213,7 @@ module _ {p : Problem} {P : Subproblem} {x v : ℕ} (held : Held p P) (at : Valu
       go true e = record {
         free = free;
         each = rest-alone;
+        most = λ w. omega (arith, inst-rest w);
         size-sum = inr (omega arith, omega (arith, inst-rest bySize));
         fit-sum = λ f s. inl (omega (arith, inst-rest (fits f), fits-whole p P f s, inst-none f s e));
       }
@@ -226,6 +228,7 @@ module _ {p : Problem} {P : Subproblem} {x v : ℕ} (held : Held p P) (at : Valu
   kind-2 = record {
     free = free;
     each = each-more (Piece p P) precl (rest ∷ []) precl-piece rest-alone;
+    most = λ w. omega (arith, inst-rest w, precl-le w);
     size-sum = inr (omega arith, omega (arith, inst-rest bySize, precl-le bySize));
     fit-sum = λ f s. inl (omega (arith, precl-exact f s, inst-rest (fits f), fits-whole p P f s));
   }
@@ -302,6 +305,37 @@ module _ {p : Problem} {P : Subproblem} {x v : ℕ} (held : Held p P) (at : Valu
   kind-3 = record {
     free = free;
     each = each-more (Piece p P) precl rows precl-piece (each-of (Piece p P) (disjunct (p .allowed) P x v) others (p .n) (λ j k e. row-piece j));
+    most = λ w. omega (arith, rest-peel w, inst-rest w, precl-le w);
     size-sum = inr (omega arith, omega (arith, rest-peel bySize, inst-rest bySize, precl-le bySize));
     fit-sum = λ f s. inr (refl, rows-cover f s);
   }
+
+  -- All cut, then V without v, is V without v, then all cut.
+  cut-rest : (i : ℕ) → i < p .n
+      → getD (without (cutBeside (p .allowed) P x v (p .n)) x (single v) .domains) i 0 ≡ getD (changed (p .n) beside (rest .domains)) i 0
+  unfolding without cutBeside
+  cut-rest i k =
+      let cut-at : (j : ℕ) → j < p .n → getD (changed (p .n) beside (P .domains)) j 0 ≡ beside j (domain P j) =
+      λ j h. changed-before (p .n) beside (P .domains) j h (omega (arith, long held)) in
+      let rest-at : getD (changed (p .n) beside (rest .domains)) i 0 ≡ beside i (getD (rest .domains) i 0) =
+      changed-before (p .n) beside (rest .domains) i k (omega (arith, rest-long)) in
+      elim (ℕ-discrete i x) [
+        | yes e ↦
+            let same : (m : ℕ) → beside x m ≡ m = λ m. beside-same x m (eq-eqb x x refl) in
+            rw e (getD-set-same (changed (p .n) beside (P .domains)) x _ 0 (rw length-changed in-x)
+            ∙ ap (λ m. minus m (single v)) (cut-at x (at .below) ∙ same (domain P x))
+            ∙ sym (getD-set-same (P .domains) x (minus (domain P x) (single v)) 0 in-x)
+            ∙ sym (same (getD (rest .domains) x 0))) ∙ sym rest-at
+        | no d ↦
+            getD-set-other (changed (p .n) beside (P .domains)) x i _ 0 d ∙ cut-at i k
+            ∙ ap (beside i) (sym (getD-set-other (P .domains) x i (minus (domain P x) (single v)) 0 d)) ∙ sym rest-at
+      ]
+
+  -- What the peel takes off is the consistent subproblem.
+  pub peel-3 : (w : Weight) → weights w (p .n) (idc (p .n) (p .allowed) P x v) + weight w (p .n) (without (cutBeside (p .allowed) P x v (p .n)) x (single v))
+      ≡ weight w (p .n) precl + weight w (p .n) rest
+  unfolding idc sum rows others weigh
+  peel-3 w =
+      let same : weight w (p .n) (without (cutBeside (p .allowed) P x v (p .n)) x (single v)) ≡ weigh w (p .n) (changed (p .n) beside (rest .domains)) =
+      product-same (p .n) _ _ (λ i k. ap (w .of i) (cut-rest i k)) in
+      omega (arith, same, rest-peel w)

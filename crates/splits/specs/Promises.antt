@@ -4,11 +4,11 @@ use mathlib.Core.Logic.{_⊎_, _↔_}
 use mathlib.Core.List.{List, [], _∷_, map, List·Memᴰ}
 use Prim.Native.Nat.{ℕ, _+_, _/_, _^_, _≤_, _<_}
 use lib.ListN.{length, getD}
-use Rattle.splits.specs.Masks.{_∈_, Part, size, lowest, smallerHalf}
-use Rattle.splits.specs.Problem.{Table, Problem, Proper}
+use Rattle.splits.specs.Masks.{_∈_, Part, single, size, lowest, smallerHalf}
+use Rattle.splits.specs.Problem.{Table, Problem, Proper, Possibility}
 use Rattle.splits.specs.Subproblems.{domain, Instantiated, Rules, SolutionOf, sizeOf}
 use Rattle.splits.specs.Requests.{kindOf, variableOf, valueOf, targetOf}
-use Rattle.splits.specs.Splits.{below, filled, pieces, candidates, candidate}
+use Rattle.splits.specs.Splits.{below, without, cutBeside, precluded, filled, pieces, candidates, candidate}
 use Rattle.splits.specs.Checks.{checks}
 use Rattle.splits.specs.Refusals.{Accepted, Deserves-7, Deserves-8, Deserves-9, Deserves-10, refusalOf}
 use Rattle.splits.specs.Measure.{sum, measure}
@@ -56,11 +56,16 @@ Sizes-at p P kind l =
     (sum (sizeOf (p .n)) l ≤ sizeOf (p .n) P)
     × ((kind ≡ 4) ⊎ (kind ≡ 5) → sum (sizeOf (p .n)) l ≡ sizeOf (p .n) P)
 
+-- No possibility lies in two pieces.
+abbrev pub Apart-at : Problem → Subproblem → ℕ → List Subproblem → Type 0
+Apart-at p P kind l =
+    (f : ℕ → ℕ) (j k : ℕ) → j < length l → k < length l → Possibility (p .n) (domain (getD l j P)) f → Possibility (p .n) (domain (getD l k P)) f → j ≡ k
+
 -- The measures of the pieces, with 1 for the step, sum to at most P's: the step limit rests on it.
 abbrev pub Falls-at : Problem → Subproblem → ℕ → List Subproblem → Type 0
 Falls-at p P kind l = sum (measure (p .n)) l + 1 ≤ measure (p .n) P
 
--- The six promises of an accepted split, and what "solved" promises.
+-- The seven promises of an accepted split, and what "solved" promises.
 abbrev pub Sound : Type 0
 Sound = Always Sound-at
 
@@ -76,8 +81,21 @@ Obeys = Always Obeys-at
 abbrev pub Sizes : Type 0
 Sizes = Always Sizes-at
 
+abbrev pub Apart : Type 0
+Apart = Always Apart-at
+
 abbrev pub Falls : Type 0
 Falls = Always Falls-at
+
+-- Kind 3: of "V without v" the further pieces leave out just the part whose other domains are all cut to the values allowed beside v, the
+-- consistent subproblem of 000.
+abbrev pub Peel : Type 0
+Peel =
+    (p : Problem) (P : Subproblem) (r : List ℕ) → Splits p P r → kindOf r ≡ 3 →
+    let V′ : ℕ = variableOf r in
+    let v : ℕ = valueOf r in
+    sum (sizeOf (p .n)) (pieces (p .n) (p .allowed) P r) + sizeOf (p .n) (without (cutBeside (p .allowed) P V′ v (p .n)) V′ (single v))
+    ≡ sizeOf (p .n) (precluded (p .n) (p .allowed) P V′ v) + sizeOf (p .n) (without P V′ (single v))
 
 -- A subproblem on the agenda with every variable instantiated has a solution.
 abbrev pub Solved : Type 0
@@ -105,11 +123,11 @@ abbrev pub At-most-496 : Type 0
 At-most-496 =
     (p : Problem) (P : Subproblem) (r : List ℕ) → Splits p P r → checks (p .n) (p .allowed) P r ≤ 496
 
--- Skipping instantiated variables in kind 3's further pieces loses the solution of `two`, split around V 1, v 0.
+-- Skipping instantiated variables in kind 3's further pieces leaves nothing of `two`, split around V 1, v 0, which has a solution.
 abbrev pub Skipping-loses : Type 0
 Skipping-loses =
     let r : List ℕ = 3 ∷ 1 ∷ 0 ∷ [] in
-    Splits two two-top r × (Cover-at two two-top 3 (skipping two two-top r) → ⊥)
+    Splits two two-top r × Solvable two two-top × (skipping two two-top r ≡ []) × (Cover-at two two-top 3 (skipping two two-top r) → ⊥)
 
 -- The weak IDC pieces overlap: those of `three`, split around V 0, v 0, have more possibilities than P, and the measure does not fall.
 abbrev pub Weak-overlaps : Type 0
