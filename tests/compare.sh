@@ -15,4 +15,6 @@ if [ "$(uname -m)" != x86_64 ]; then
 fi
 # shellcheck disable=SC2086 # words
 $compiler -std=c99 -O2 -Wall -Wextra -pedantic -Werror -Iinclude tests/driver.c target/staticlib/libconsole.a -o "$room/driver"
+# On x86-64 all of it runs with 256 KB of stack: neither the program nor a call takes more.
+[ "$(uname -m)" != x86_64 ] || ulimit -s 256
 python3 -B tests/differential.py "$program" "$driver" "$@"
