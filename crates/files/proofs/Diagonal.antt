@@ -23,7 +23,7 @@ use Rattle.search.specs.declared.state.Opened.{Opened}
 use Rattle.search.specs.declared.state.Ran.{Ran}
 use Rattle.files.specs.Content.{contentOf}
 use Rattle.files.specs.Calls.{handedContent, saveRefusal, Saves}
-use Rattle.files.specs.Promises.{Same-away}
+use Rattle.search.specs.Promises.{AgreeApart}
 use Rattle.files.specs.declared.saved.Saved.{Saved}
 use Rattle.files.proofs.Tests.{else-pass}
 use Rattle.files.proofs.Stacks.{of-length}
@@ -70,9 +70,9 @@ ends-swap first n before after s x y r h e = elim (ℕ-discrete first 0) [
       }
 ]
 
-module _ (n d : ℕ) (domains tables tables′ : List ℕ) (same : Same-away n d tables tables′) where
+module _ (n d : ℕ) (domains tables tables′ : List ℕ) (same : AgreeApart n d tables tables′) where
   four-same : refusalOfProblem (problemOf n d domains tables) ≡ refusalOfProblem (problemOf n d domains tables′)
-  four-same = problem-agree (problemOf n d domains tables) (tableOf n d tables′) (same .agree)
+  four-same = problem-agree (problemOf n d domains tables) (tableOf n d tables′) (same .masks)
 
   three-same : (agenda : ℕ) → refusalOfLengths n d (length domains) (length tables) agenda ≡ refusalOfLengths n d (length domains) (length tables′) agenda
   three-same agenda = ap (λ (x : ℕ). refusalOfLengths n d (length domains) x agenda) (same .words)
@@ -83,9 +83,9 @@ module _ (n d : ℕ) (domains tables tables′ : List ℕ) (same : Same-away n d
       let small = proper-small (problemOf n d domains tables) proper in
       same-test (allObey (problemOf n d domains tables) S) (allObey (problemOf n d domains tables′) S)
       (λ e. rules-all (problemOf n d domains tables′) small S (λ P m.
-      rules-agree n d whole (tableOf n d tables) (tableOf n d tables′) (same .agree) (proper .domains) P (all-rules (problemOf n d domains tables) small S e P m)))
+      rules-agree n d whole (tableOf n d tables) (tableOf n d tables′) (same .masks) (proper .domains) P (all-rules (problemOf n d domains tables) small S e P m)))
       (λ e. rules-all (problemOf n d domains tables) small S (λ P m.
-      rules-agree n d whole (tableOf n d tables′) (tableOf n d tables) (agree-back (tableOf n d tables) (tableOf n d tables′) (same .agree)) (proper .domains) P
+      rules-agree n d whole (tableOf n d tables′) (tableOf n d tables) (agree-back (tableOf n d tables) (tableOf n d tables′) (same .masks)) (proper .domains) P
       (all-rules (problemOf n d domains tables′) small S e P m)))
 
   six-same : Proper (problemOf n d domains tables) → (agenda : List ℕ) (steps checks subproblems : ℕ)
@@ -136,7 +136,7 @@ module _ (n d : ℕ) (domains tables tables′ : List ℕ) (same : Same-away n d
   pub content-same : (agenda : List ℕ) (s : State) → handedContent n d domains tables agenda s ≡ handedContent n d domains tables′ agenda s
   unfolding contentOf
   content-same agenda s =
-      rw (triangle-same n d (tableOf n d tables) (tableOf n d tables′) (λ i j a l k m. same .agree i j a (omega arith) k (λ e. absurd (omega arith)) m)) refl
+      rw (triangle-same n d (tableOf n d tables) (tableOf n d tables′) (λ i j a l k m. same .masks i j a (omega arith) k (λ e. absurd (omega arith)) m)) refl
 
   -- ---- the four calls
 
@@ -158,7 +158,7 @@ module _ (n d : ℕ) (domains tables tables′ : List ℕ) (same : Same-away n d
       (runRefusal n d domains tables before requests (s .counts .steps .0) (s .counts .checks .0) (s .subproblems)) n before after s
       (run (problemOf n d domains tables) (slotsIn n (length before)) (requestsIn n requests) (searchOf n before s))
       (run (problemOf n d domains tables′) (slotsIn n (length before)) (requestsIn n requests) (searchOf n before s)) r
-      (λ e. run-same (problemOf n d domains tables) (tableOf n d tables′) (same .agree) (slotsIn n (length before)) (requestsIn n requests) (searchOf n before s)
+      (λ e. run-same (problemOf n d domains tables) (tableOf n d tables′) (same .masks) (slotsIn n (length before)) (requestsIn n requests) (searchOf n before s)
       (passing-passes n d domains tables before s l
       (search-passing n d domains tables before (s .counts .steps .0) (s .counts .checks .0) (s .subproblems)
       (run-search n d domains tables before requests (s .counts .steps .0) (s .counts .checks .0) (s .subproblems) e)))) h)
@@ -171,7 +171,7 @@ module _ (n d : ℕ) (domains tables tables′ : List ℕ) (same : Same-away n d
       (searchRefusal n d domains tables before (s .counts .steps .0) (s .counts .checks .0) (s .subproblems)) n before after s
       (choose (problemOf n d domains tables) (slotsIn n (length before)) limit (searchOf n before s))
       (choose (problemOf n d domains tables′) (slotsIn n (length before)) limit (searchOf n before s)) r
-      (λ e. choose-same (problemOf n d domains tables) (tableOf n d tables′) (same .agree) (slotsIn n (length before)) limit (searchOf n before s)
+      (λ e. choose-same (problemOf n d domains tables) (tableOf n d tables′) (same .masks) (slotsIn n (length before)) limit (searchOf n before s)
       (passing-passes n d domains tables before s l
       (search-passing n d domains tables before (s .counts .steps .0) (s .counts .checks .0) (s .subproblems) e))) h)
 

@@ -15,7 +15,7 @@ use Rattle.search.specs.Runs.{requestsIn}
 use Rattle.search.specs.FirstChecks.{runRefusal}
 use Rattle.search.specs.Verdicts.{numberOf, verdictOf}
 use Rattle.search.specs.Calls.{searchOf, Runs}
-use Rattle.search.specs.Promises.{Passed, Handed, Leaves, Reached, Has-solution}
+use Rattle.search.specs.Promises.{Passed, Handed, Leaves, Reached, Has-solution, AgreeApart}
 use Rattle.search.specs.declared.state.State.{State}
 use Rattle.search.specs.declared.state.Ran.{Ran}
 use Rattle.search.specs.declared.state.Verdict.{Verdict}
@@ -25,7 +25,7 @@ use Rattle.search.proofs.Promises.{open-leaves, run-leaves, chooser-leaves, run
 use Rattle.files.specs.Blocks.{fileOf}
 use Rattle.files.specs.Reading.{saidN, saidD, saidAllowed, tableWords}
 use Rattle.files.specs.Calls.{handedContent, saveRefusal, Saves, loadRefusal, Loads}
-use Rattle.files.specs.Promises.{Agree, Says, Same-away, Shown, Lived, opened, ran, chose, loaded}
+use Rattle.files.specs.Promises.{Agree, Says, Shown, Lived, opened, ran, chose, loaded}
 use Rattle.files.specs.declared.saved.Saved.{Saved}
 use Rattle.files.specs.declared.saved.Loaded.{Loaded}
 use Rattle.files.proofs.Triangle.{table-other, table-length}
@@ -41,7 +41,7 @@ use Rattle.files.proofs.Back.{stateOf, lent, lent-agree, written-blocks
 -- What is known of each: it is a reached search of the problem in memory, which agrees with the one that was opened.
 pub record Life (n d : ℕ) (domains tables₀ tables agenda : List ℕ) (s : State) : Type 0 where
   pub handed : Handed n d domains tables agenda s
-  pub same : Same-away n d tables₀ tables
+  pub same : AgreeApart n d tables₀ tables
   pub proper : Proper (problemOf n d domains tables)
   pub words : length domains ≡ n
   pub reached : Reached n d domains tables (slotsIn n (length agenda)) (searchOf n agenda s)
@@ -91,7 +91,7 @@ module _ (n d : ℕ) (domains tables₀ tables agenda : List ℕ) (s : State) (l
         handed = l .handed;
         same = record {
           words = life .same .words ∙ p .table-words ∙ sym long;
-          agree = λ i j a h k f m. life .same .agree i j a h k f m ∙ agree i j a h k f m;
+          masks = λ i j a h k f m. life .same .masks i j a h k f m ∙ agree i j a h k f m;
         };
         proper = proper;
         words = life .words;
@@ -105,7 +105,7 @@ lived {n} {d} {domains} {tables₀} (opened {before} {after} {r} opens none) =
     let passed = known n d domains tables₀ after (r .state) (l .handed) .passed .passed in
     record {
       handed = l .handed;
-      same = record { words = refl; agree = λ i j a h k f m. refl };
+      same = record { words = refl; masks = λ i j a h k f m. refl };
       proper = passed .proper;
       words = passed .domains-words;
       reached = rw (l .search) (Reached.opened (some-slots n (length after) (passed .slots)));
@@ -127,7 +127,7 @@ lived {n} {d} {domains} {tables₀} (loaded {tables} {agenda} {before} {after} {
 -- Of the problem that was opened.
 module _ {n d : ℕ} {domains tables₀ tables agenda : List ℕ} {s : State} (life : Life n d domains tables₀ tables agenda s) where
   back : Agree n d (tableOf n d tables) (tableOf n d tables₀)
-  back = agree-back (tableOf n d tables₀) (tableOf n d tables) (life .same .agree)
+  back = agree-back (tableOf n d tables₀) (tableOf n d tables) (life .same .masks)
 
   pub proper₀ : Proper (problemOf n d domains tables₀)
   proper₀ = proper-agree n d (λ i. getD domains i 0) (tableOf n d tables) (tableOf n d tables₀) back (life .proper)

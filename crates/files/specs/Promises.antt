@@ -14,7 +14,7 @@ use Rattle.search.specs.Agenda.{problemOf, stackOf, slotsIn, agendaOf}
 use Rattle.search.specs.FirstChecks.{WholeSlots, WholeRequests, Deserves-3, searchRefusal}
 use Rattle.search.specs.Runs.{Search}
 use Rattle.search.specs.Calls.{searchOf, Opens, Runs, Chooses}
-use Rattle.search.specs.Promises.{Handed, Reached, Has-solution}
+use Rattle.search.specs.Promises.{Handed, Reached, Has-solution, AgreeApart}
 use Rattle.search.specs.Verdicts.{numberOf}
 use Rattle.search.specs.declared.state.State.{State}
 use Rattle.search.specs.declared.state.Opened.{Opened}
@@ -234,31 +234,26 @@ Load-one =
 
 -- ---- a variable with itself
 
--- Two lists of tables, as long as each other, that agree at every place of two different variables.
-pub record Same-away (n d : ℕ) (tables tables′ : List ℕ) : Type 0 where
-  pub words : length tables ≡ length tables′
-  pub agree : Agree n d (tableOf n d tables) (tableOf n d tables′)
-
 -- No result of opening, run, chooser or save depends on what stands at i with itself: whatever satisfies the statement with one list of tables
 -- satisfies it with the other. The steps are a word of 32 bits.
 abbrev pub Diagonal-open : Type 0
 Diagonal-open =
-    (n d : ℕ) (domains tables tables′ before after : List ℕ) (r : Opened) → Same-away n d tables tables′ → Opens n d domains tables before after r
+    (n d : ℕ) (domains tables tables′ before after : List ℕ) (r : Opened) → AgreeApart n d tables tables′ → Opens n d domains tables before after r
     → Opens n d domains tables′ before after r
 
 abbrev pub Diagonal-run : Type 0
 Diagonal-run =
-    (n d : ℕ) (domains tables tables′ before after requests : List ℕ) (s : State) (r : Ran) → Same-away n d tables tables′
+    (n d : ℕ) (domains tables tables′ before after requests : List ℕ) (s : State) (r : Ran) → AgreeApart n d tables tables′
     → s .counts .steps .0 < 2 ^ 32 → Runs n d domains tables before after requests s r → Runs n d domains tables′ before after requests s r
 
 abbrev pub Diagonal-choose : Type 0
 Diagonal-choose =
-    (n d : ℕ) (domains tables tables′ before after : List ℕ) (limit : ℕ) (s : State) (r : Ran) → Same-away n d tables tables′
+    (n d : ℕ) (domains tables tables′ before after : List ℕ) (limit : ℕ) (s : State) (r : Ran) → AgreeApart n d tables tables′
     → s .counts .steps .0 < 2 ^ 32 → Chooses n d domains tables before after limit s r → Chooses n d domains tables′ before after limit s r
 
 abbrev pub Diagonal-save : Type 0
 Diagonal-save =
-    (n d : ℕ) (domains tables tables′ agenda : List ℕ) (s : State) (before after : List ℕ) (r : Saved) → Same-away n d tables tables′
+    (n d : ℕ) (domains tables tables′ agenda : List ℕ) (s : State) (before after : List ℕ) (r : Saved) → AgreeApart n d tables tables′
     → Saves n d domains tables agenda s before after r → Saves n d domains tables′ agenda s before after r
 
 -- ---- searches begun by opening, saved and loaded
@@ -281,7 +276,7 @@ pub data Lived (n d : ℕ) (domains tables₀ : List ℕ) : List ℕ → List �
 abbrev pub Lived-reached : Type 0
 Lived-reached =
     (n d : ℕ) (domains tables₀ tables agenda : List ℕ) (s : State) → Lived n d domains tables₀ tables agenda s
-    → Handed n d domains tables agenda s × Same-away n d tables₀ tables × Proper (problemOf n d domains tables₀)
+    → Handed n d domains tables agenda s × AgreeApart n d tables₀ tables × Proper (problemOf n d domains tables₀)
     × Reached n d domains tables₀ (slotsIn n (length agenda)) (searchOf n agenda s)
 
 -- Of each, something said of the problem that was opened, the slots and the search.
