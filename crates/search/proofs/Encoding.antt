@@ -60,6 +60,16 @@ slot-made n P slot ys e s h =
     (rw (← append-snoc (take n (P .domains)) (P .marked / 65536) (getD slot (suc n) 0 ∷ []))
     (set-at high (getD slot (suc n) 0) [] (P .marked % 65536) (n + 1) longer ∙ append-snoc (take n (P .domains)) (P .marked / 65536) ((P .marked % 65536) ∷ [])))
 
+-- The domains in front of what stood there.
+pub front-made : (n m : ℕ) (D slot ys : List ℕ) → n ≡ m → ys ≡ take (length (take m slot)) D → m ≤ length slot → ys ++ drop m slot ≡ take n D ++ drop n slot
+front-made n m D slot ys s e h = rw (s, e, length-take-le m slot h) refl
+
+-- The words of a slot, its front written.
+pub slot-filled : (n : ℕ) (P : Subproblem) (slot front : List ℕ) → front ≡ take n (P .domains) ++ drop n slot → length slot ≡ n + 2
+    → n ≤ length (P .domains) → set (set front n (P .marked / 65536)) (n + 1) (P .marked % 65536) ≡ slotWords n P
+slot-filled n P slot front e s h =
+    rw e (slot-made n P slot (take n (P .domains)) (rw (length-take-le n slot (omega arith)) refl) s h)
+
 -- ---- a slot read back
 
 -- The last two words of n + 2.

@@ -2,14 +2,11 @@
 -- Assumes nothing.
 use mathlib.Core.Path.{_≡_, refl, sym, ap, _∙_}
 use mathlib.Core.Bool.{Bool, true, false, not}
-use Prim.Native.Nat.{ℕ, _+_, _^_, _≤_, _<_}
+use Prim.Native.Nat.{ℕ, _+_, _≤_, _<_}
 use native.Mathlib.Nat.{le-antisymm}
-use lib.Dec.{ltb}
 use borrow.Author.Tests.{not-true, not-false}
-use Rattle.splits.specs.Problem.{Table}
 use Rattle.splits.specs.Subproblems.{every}
 use Rattle.splits.proofs.Tests.{every-more, every-not}
-use Rattle.search.specs.Work.FirstTests.{maskBelow}
 
 module _ (f : ℕ → Bool) where
   -- before the first turn
@@ -28,8 +25,3 @@ module _ (f : ℕ → Bool) where
   -- after the last
   pub every-end : (n i : ℕ) → i ≤ n → n ≤ i → every i f ≡ true → true ≡ every n f
   every-end n i h k inv = sym inv ∙ ap (λ (x : ℕ). every x f) (le-antisymm h k)
-
--- what is found of a mask read before is found of the table's
-pub mask-below : (d : ℕ) (allowed : Table) (i j a m : ℕ) (b : Bool) → m ≡ allowed i j a → b ≡ ltb m (2 ^ d) → b ≡ maskBelow d allowed i j a
-unfolding maskBelow
-mask-below d allowed i j a m b e h = h ∙ ap (λ (x : ℕ). ltb x (2 ^ d)) e

@@ -18,7 +18,7 @@ use Rattle.splits.specs.declared.subproblem.Subproblem.{Subproblem}
 use Rattle.splits.proofs.Tests.{and-left, and-right, or-left, or-right, or-cases, every-at, every-all, same-test}
 use Rattle.search.specs.Agenda.{problemOf, stackOf, slotsIn, slotAt, subproblemOf}
 use Rattle.search.specs.FirstChecks.{refusalOfNumbers, wholeSlots, refusalOfLengths, masksBelow, symmetric, refusalOfProblem, domainObeys, valuesAgree, obeys, allObey, zerosFrom, refusalOfSearch, orElse, openRefusal}
-use Rattle.search.specs.Work.FirstTests.{Fitting, domainBelow, maskBelow, pairBelow, rowBelow, bothWays, valueBothWays, pairBothWays, rowBothWays, partObeys, domainsObey, pairAgrees, rowAgrees, slotObeys}
+use Rattle.search.specs.Work.FirstTests.{Fitting, domainBelow, maskBelow, pairBelow, rowBelow, bothWays, valueBothWays, pairBothWays, rowBothWays, slotObeys}
 
 -- ---- symmetry
 
@@ -100,24 +100,6 @@ module _ (n d : ℕ) (domains tables : List ℕ) where
   problem-last b c s e y f z h =
       let once : s ≡ symmetric (problemOf n d domains tables) = h ∙ both-ways-once (problemOf n d domains tables) in
       simp (sym e ∙ not-false b y, sym f ∙ not-false c z, sym once)
-
-  -- ---- whether a subproblem obeys the rules
-
-  -- A mark stands at n or above.
-  pub obeys-marks : (P : Subproblem) → 2 ^ n ≤ P .marked → false ≡ obeys (problemOf n d domains tables) P
-  unfolding obeys
-  obeys-marks P h = simp (le-ltb (P .marked) (2 ^ n) h, and-false)
-
-  -- A domain breaks the rules.
-  pub obeys-domains : (P : Subproblem) (b : Bool) → b ≡ every n (domainsObey domains P) → not b ≡ true → false ≡ obeys (problemOf n d domains tables) P
-  unfolding obeys domainObeys domainsObey partObeys
-  obeys-domains P b e y = rw (sym e ∙ not-true b y)
-
-  -- None does; the instantiated values decide.
-  pub obeys-values : (P : Subproblem) (b r : Bool) → P .marked < 2 ^ n → b ≡ every n (domainsObey domains P) → not b ≡ false
-      → r ≡ every n (rowAgrees n (tableOf n d tables) P) → r ≡ obeys (problemOf n d domains tables) P
-  unfolding obeys domainObeys domainsObey partObeys valuesAgree rowAgrees pairAgrees
-  obeys-values P b r h e y s = simp (sym e ∙ not-false b y, lt-ltb (P .marked) (2 ^ n) h, and-true) s
 
 -- ---- 6
 

@@ -2,6 +2,9 @@ pub mod Copies
 pub mod Encoding
 pub mod FirstLoops
 pub mod Obeying
+pub mod Joining
+pub mod Marked
+pub mod Turning
 pub mod FirstParts
 pub mod Decisions
 pub mod Deserved
@@ -22,7 +25,12 @@ pub mod Accepting
 pub mod Shapes
 pub mod Stepping
 pub mod Choosing
+pub mod AtOnce
+pub mod Beside
+pub mod Lone
 pub mod Running
+pub mod Settling
+pub mod Spreading
 pub mod Opening
 pub mod Admitting
 pub mod Ending

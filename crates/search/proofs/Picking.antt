@@ -112,7 +112,7 @@ module _ (n : ℕ) (P : Subproblem) where
 -- ---- the request
 
 -- A request of kind 2 or 3 on a variable not instantiated, with a value of its domain, is accepted.
-accepted : (n d : ℕ) (P : Subproblem) (r : List ℕ) → (kindOf r ≡ 2) ⊎ (kindOf r ≡ 3) → variableOf r < n → (Instantiated P (variableOf r) → ⊥)
+pub accepted : (n d : ℕ) (P : Subproblem) (r : List ℕ) → (kindOf r ≡ 2) ⊎ (kindOf r ≡ 3) → variableOf r < n → (Instantiated P (variableOf r) → ⊥)
     → valueOf r < d → valueOf r ∈ domain P (variableOf r) → Accepted n d P r
 accepted n d P r e k new l m =
     let two : 2 ≤ kindOf r = ⊎-elim (λ (q : kindOf r ≡ 2). omega arith) (λ (q : kindOf r ≡ 3). omega arith) e in

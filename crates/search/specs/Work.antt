@@ -5,3 +5,5 @@ pub mod Kept
 pub mod Steps
 pub mod Choices
 pub mod Ends
+pub mod Lanes
+pub mod Found

@@ -2,7 +2,8 @@
 use splits::subproblem::Subproblem;
 ghost use mathlib.Core.Path.{_≡_};
 ghost use Prim.Native.Nat.{ℕ, _+_, _*_, _≤_, _<_};
-ghost use lib.ListN.{length, take, replicate};
+ghost use mathlib.Core.List.{_++_};
+ghost use lib.ListN.{length, take, drop, replicate};
 ghost use Rattle.search.specs.Agenda.{holding, slotWords, subproblemOf, slotAt, slotsIn};
 ghost use Rattle.search.specs.Work.Slots.{splice, SlotIn};
 
@@ -46,15 +47,27 @@ pub(crate) fn read_slot(n: usize, agenda: &[u16], k: usize) -> Subproblem
 }
 
 // A domain for each word.
-fn put_domains(words: &mut [u16], p: Subproblem)
+fn put_domains(words: &mut [u16], domains: [u16; 32])
     requires { ⌜ length (now words) ≤ 32 ⌝ }
-    ensures { λ r. ⌜ now (words .exit) ≡ take (length (now (words .entry))) (p .domains) ⌝ }
+    ensures { λ r. ⌜ now (words .exit) ≡ take (length (now (words .entry))) domains ⌝ }
 {
     let mut i = 0;
     while i < words.len() {
-        words[i] = p.domain(i);
+        words[i] = domains[i];
         i += 1;
     }
+}
+
+// The first `n` words are the domains. All 32 are written at once.
+fn put_front(n: usize, slot: &mut [u16], domains: [u16; 32])
+    requires { ⌜ (n ≤ 32) × (n ≤ length (now slot)) ⌝ }
+    ensures { λ r. ⌜ now (slot .exit) ≡ take n domains ++ drop n (now (slot .entry)) ⌝ }
+{
+    if n == 32 {
+        put_domains(&mut slot[..32], domains);
+        return;
+    }
+    put_domains(&mut slot[..n], domains);
 }
 
 // The words of a slot.
@@ -62,7 +75,8 @@ fn put_words(n: usize, slot: &mut [u16], p: Subproblem)
     requires { ⌜ (n ≤ 32) × (length (now slot) ≡ n + 2) ⌝ }
     ensures { λ r. ⌜ now (slot .exit) ≡ slotWords n p ⌝ }
 {
-    put_domains(&mut slot[..n], p);
+    let domains = p.domains;
+    put_front(n, slot, domains);
     slot[n] = (p.marked / 65536) as u16;
     slot[n + 1] = (p.marked % 65536) as u16;
 }

@@ -1,19 +1,26 @@
 // The first checks: the refusals 1 to 6 that the words handed to a call deserve, before anything is changed.
-use crate::agenda;
 use crate::state::State;
 use splits::mask;
-use splits::subproblem::Subproblem;
 ghost use mathlib.Core.Path.{_≡_};
-ghost use Prim.Native.Nat.{_+_, _*_, _^_, _≤_, _<_};
+ghost use Prim.Native.Nat.{_+_, _-_, _*_, _/_, _^_, _≤_, _<_};
 ghost use lib.Dec.{eqb, ltb};
-ghost use lib.ListN.{length};
-ghost use Rattle.splits.specs.Masks.{bit};
+ghost use mathlib.Core.List.{_++_};
+ghost use lib.ListN.{length, replicate};
+ghost use Rattle.splits.specs.Masks.{bit, size};
 ghost use Rattle.splits.specs.Problem.{tableOf};
 ghost use Rattle.splits.specs.Subproblems.{every};
 ghost use Rattle.splits.specs.Work.Ranges.{Sized, Place};
-ghost use Rattle.search.specs.Agenda.{problemOf, stackOf};
+ghost use Rattle.search.specs.Agenda.{problemOf, subproblemOf, stackOf};
 ghost use Rattle.search.specs.FirstChecks.{refusalOfNumbers, wholeSlots, refusalOfLengths, refusalOfRequests, refusalOfProblem, obeys, allObey, zerosFrom, refusalOfSearch, openRefusal, searchRefusal, runRefusal};
-ghost use Rattle.search.specs.Work.FirstTests.{Fitting, domainBelow, pairBelow, rowBelow, bothWays, valueBothWays, pairBothWays, rowBothWays, partObeys, domainsObey, pairAgrees, rowAgrees};
+ghost use Rattle.search.specs.Work.FirstTests.{Fitting, Narrow, SlotFits, Next, joined, domainBelow, spanBelow, rowBelow, rowBothWays, rowIn, four, matrixOf, padded, risen, sunk, byOne, byTwo, within, byFour, byEight, turned, difference, oneWay, partWrong, wrongIn, pairAgrees, rowAgrees, markObeys};
+
+// The mask of the values of `j` allowed beside value `a` of `i`.
+pub(crate) fn allowed(n: usize, d: usize, tables: &[u16], i: usize, j: usize, a: usize) -> u16
+    requires { ⌜ Sized n d (now tables) × Place n d i j a ⌝ }
+    ensures { λ r. ⌜ r ≡ tableOf n d (now (tables .entry)) i j a ⌝ }
+{
+    tables[(i * n + j) * d + a]
+}
 
 // 1 or 2, or none.
 pub(crate) fn refusal_of_numbers(n: usize, d: usize) -> u32
@@ -91,60 +98,46 @@ fn is_below(mask: u16, d: usize) -> bool
     (mask as u64) < (1 << d)
 }
 
+// The bits of all words together.
+fn bits_of(words: &[u16]) -> u16
+    ensures { λ r. ⌜ r ≡ joined (length (now (words .entry))) (rowIn (now (words .entry))) ⌝ }
+{
+    let mut bits: u16 = 0;
+    let mut k = 0;
+    while k < words.len() {
+        bits = bits | words[k];
+        k += 1;
+    }
+    bits
+}
+
 // Whether no domain has a bit at `d` or above.
 fn domains_below(n: usize, d: usize, domains: &[u16]) -> bool
     requires { ⌜ (d ≤ 16) × (length (now domains) ≡ n) ⌝ }
     ensures { λ r. ⌜ r ≡ every n (domainBelow d (now (domains .entry))) ⌝ }
 {
-    let mut i = 0;
-    while i < n {
-        if !is_below(domains[i], d) {
-            return false;
-        }
-        i += 1;
-    }
-    true
+    is_below(bits_of(domains), d)
 }
 
-// The mask of the values of `j` allowed beside value `a` of `i`.
-fn allowed(n: usize, d: usize, tables: &[u16], i: usize, j: usize, a: usize) -> u16
-    requires { ⌜ Sized n d (now tables) × Place n d i j a ⌝ }
-    ensures { λ r. ⌜ r ≡ tableOf n d (now (tables .entry)) i j a ⌝ }
+// Whether no mask of the variable `i` with those from `from` to before `to` has.
+fn span_below(n: usize, d: usize, tables: &[u16], i: usize, from: usize, to: usize) -> bool
+    requires { ⌜ Sized n d (now tables) × ((i < n) × ((from ≤ to) × (to ≤ n))) ⌝ }
+    ensures { λ r. ⌜ r ≡ spanBelow d (tableOf n d (now (tables .entry))) i from (to - from) ⌝ }
 {
-    tables[(i * n + j) * d + a]
+    let start = (i * n + from) * d;
+    let end = (i * n + to) * d;
+    is_below(bits_of(&tables[start..end]), d)
 }
 
-// Whether no mask of two different variables has.
-fn pair_below(n: usize, d: usize, tables: &[u16], i: usize, j: usize) -> bool
-    requires { ⌜ Sized n d (now tables) × ((i < n) × (j < n)) ⌝ }
-    ensures { λ r. ⌜ r ≡ pairBelow d (tableOf n d (now (tables .entry))) i j ⌝ }
-{
-    if i == j {
-        return true;
-    }
-    let mut a = 0;
-    while a < d {
-        if !is_below(allowed(n, d, tables, i, j, a), d) {
-            return false;
-        }
-        a += 1;
-    }
-    true
-}
-
-// Whether no mask of the variable `i` with another has.
+// Whether no mask of the variable `i` with another has; its places with itself are not read.
 fn row_below(n: usize, d: usize, tables: &[u16], i: usize) -> bool
     requires { ⌜ Sized n d (now tables) × (i < n) ⌝ }
     ensures { λ r. ⌜ r ≡ rowBelow n d (tableOf n d (now (tables .entry))) i ⌝ }
 {
-    let mut j = 0;
-    while j < n {
-        if !pair_below(n, d, tables, i, j) {
-            return false;
-        }
-        j += 1;
+    if !span_below(n, d, tables, i, 0, i) {
+        return false;
     }
-    true
+    span_below(n, d, tables, i, i + 1, n)
 }
 
 // Whether no mask that is read has.
@@ -173,64 +166,191 @@ fn has(mask: u16, value: usize) -> bool
     }
 }
 
-// Whether `b` of `j` is allowed beside `a` of `i` exactly if `a` is beside `b`.
-fn both_ways(n: usize, d: usize, tables: &[u16], i: usize, j: usize, a: usize, b: usize) -> bool
-    requires { ⌜ Sized n d (now tables) × (Place n d i j a × Place n d j i b) ⌝ }
-    ensures { λ r. ⌜ r ≡ bothWays (tableOf n d (now (tables .entry))) i j a b ⌝ }
-{
-    let beside_a = allowed(n, d, tables, i, j, a);
-    let beside_b = allowed(n, d, tables, j, i, b);
-    (beside_a >> b) % 2 == (beside_b >> a) % 2
+// The masks of two variables: 16 rows of 16 bits, four rows to a word, zeros past the last mask.
+pub(crate) struct Matrix {
+    first: u64,
+    second: u64,
+    third: u64,
+    fourth: u64,
 }
 
-// Whether the value `a` of `i` and every value of `j` are allowed both ways or neither.
-fn value_both_ways(n: usize, d: usize, tables: &[u16], i: usize, j: usize, a: usize) -> bool
-    requires { ⌜ Sized n d (now tables) × Place n d i j a ⌝ }
-    ensures { λ r. ⌜ r ≡ valueBothWays d (tableOf n d (now (tables .entry))) i j a ⌝ }
+// Bits of `a` where `keep` has one, elsewhere those of `b` from so many places below.
+fn risen(a: u64, b: u64, keep: u64, places: usize) -> u64
+    requires { ⌜ places < 64 ⌝ }
+    ensures { λ r. ⌜ r ≡ risen a b keep places ⌝ }
 {
-    let mut b = 0;
-    while b < d {
-        if !both_ways(n, d, tables, i, j, a, b) {
-            return false;
-        }
-        b += 1;
+    (a & keep) | ((b << places) & !keep)
+}
+
+// The same from so many places above.
+fn sunk(a: u64, b: u64, keep: u64, places: usize) -> u64
+    requires { ⌜ places < 64 ⌝ }
+    ensures { λ r. ⌜ r ≡ sunk a b keep places ⌝ }
+{
+    (a & keep) | ((b >> places) & !keep)
+}
+
+// Four rows, the digit of weight 1 of row and column exchanged.
+fn by_one(x: u64) -> u64
+    ensures { λ r. ⌜ r ≡ byOne x ⌝ }
+{
+    risen(
+        sunk(x, x, 0xFFFF5555FFFF5555, 15),
+        x,
+        0xAAAAFFFFAAAAFFFF,
+        15,
+    )
+}
+
+// That of weight 2.
+fn by_two(x: u64) -> u64
+    ensures { λ r. ⌜ r ≡ byTwo x ⌝ }
+{
+    risen(
+        sunk(x, x, 0xFFFFFFFF33333333, 30),
+        x,
+        0xCCCCCCCCFFFFFFFF,
+        30,
+    )
+}
+
+// Both of these in all rows.
+fn within(m: Matrix) -> Matrix
+    ensures { λ r. ⌜ r ≡ within m ⌝ }
+{
+    Matrix {
+        first: by_two(by_one(m.first)),
+        second: by_two(by_one(m.second)),
+        third: by_two(by_one(m.third)),
+        fourth: by_two(by_one(m.fourth)),
     }
-    true
 }
 
-// Whether every value of `i` and every value of `j` are.
-fn pair_both_ways(n: usize, d: usize, tables: &[u16], i: usize, j: usize) -> bool
-    requires { ⌜ Sized n d (now tables) × ((i < n) × (j < n)) ⌝ }
-    ensures { λ r. ⌜ r ≡ pairBothWays d (tableOf n d (now (tables .entry))) i j ⌝ }
+// That of weight 4, between words.
+fn by_four(m: Matrix) -> Matrix
+    ensures { λ r. ⌜ r ≡ byFour m ⌝ }
 {
+    Matrix {
+        first: risen(m.first, m.second, 0x0F0F0F0F0F0F0F0F, 4),
+        second: sunk(m.second, m.first, 0xF0F0F0F0F0F0F0F0, 4),
+        third: risen(m.third, m.fourth, 0x0F0F0F0F0F0F0F0F, 4),
+        fourth: sunk(m.fourth, m.third, 0xF0F0F0F0F0F0F0F0, 4),
+    }
+}
+
+// That of weight 8.
+fn by_eight(m: Matrix) -> Matrix
+    ensures { λ r. ⌜ r ≡ byEight m ⌝ }
+{
+    Matrix {
+        first: risen(m.first, m.third, 0x00FF00FF00FF00FF, 8),
+        second: risen(m.second, m.fourth, 0x00FF00FF00FF00FF, 8),
+        third: sunk(m.third, m.first, 0xFF00FF00FF00FF00, 8),
+        fourth: sunk(m.fourth, m.second, 0xFF00FF00FF00FF00, 8),
+    }
+}
+
+// Rows for columns.
+fn turned(m: Matrix) -> Matrix
+    ensures { λ r. ⌜ r ≡ turned m ⌝ }
+{
+    by_eight(by_four(within(m)))
+}
+
+// The bits in which two differ, all rows together.
+fn difference(m: Matrix, o: Matrix) -> u64
+    ensures { λ r. ⌜ r ≡ difference m o ⌝ }
+{
+    ((m.first ^ o.first) | (m.second ^ o.second)) | ((m.third ^ o.third) | (m.fourth ^ o.fourth))
+}
+
+// A mask as a longer word.
+fn wide(mask: u16) -> u64
+    ensures { λ r. ⌜ (r ≡ mask) × (r < 65536) ⌝ }
+{
+    mask as u64
+}
+
+// Four rows in a word.
+fn four(rows: &[u16], k: usize) -> u64
+    requires { ⌜ k + 4 ≤ length (now rows) ⌝ }
+    ensures { λ r. ⌜ r ≡ four (rowIn (now (rows .entry))) k ⌝ }
+{
+    wide(rows[k])
+        + wide(rows[k + 1]) * 65536
+        + wide(rows[k + 2]) * 4294967296
+        + wide(rows[k + 3]) * 281474976710656
+}
+
+// 16 rows.
+fn matrix_of(rows: &[u16]) -> Matrix
+    requires { ⌜ length (now rows) ≡ 16 ⌝ }
+    ensures { λ r. ⌜ r ≡ matrixOf (rowIn (now (rows .entry))) ⌝ }
+{
+    Matrix {
+        first: four(rows, 0),
+        second: four(rows, 4),
+        third: four(rows, 8),
+        fourth: four(rows, 12),
+    }
+}
+
+// Up to 16 rows, zeros after them.
+fn padded(rows: &[u16]) -> [u16; 16]
+    requires { ⌜ length (now rows) ≤ 16 ⌝ }
+    ensures { λ r. ⌜ r ≡ now (rows .entry) ++ replicate (16 - length (now (rows .entry))) 0 ⌝ }
+{
+    let mut all = [0u16; 16];
     let mut a = 0;
-    while a < d {
-        if !value_both_ways(n, d, tables, i, j, a) {
-            return false;
-        }
+    while a < rows.len() {
+        all[a] = rows[a];
         a += 1;
     }
-    true
+    all
 }
 
-// Whether those of the variable `i` and every one before it are: so each two variables are looked at once.
+// The masks of the values of `j` allowed beside each value of `i`; 16 of them are read as they stand.
+fn matrix_at(n: usize, d: usize, tables: &[u16], i: usize, j: usize) -> Matrix
+    requires { ⌜ Sized n d (now tables) × ((i < n) × (j < n)) ⌝ }
+    ensures { λ r. ⌜ r ≡ matrixOf (padded d (tableOf n d (now (tables .entry)) i j)) ⌝ }
+{
+    let at = (i * n + j) * d;
+    let end = at + d;
+    if d == 16 {
+        return matrix_of(&tables[at..end]);
+    }
+    let rows = padded(&tables[at..end]);
+    matrix_of(&rows[..16])
+}
+
+// Bits for the values of `i` and `j` that are allowed one way only; 0 for none.
+fn one_way(n: usize, d: usize, tables: &[u16], i: usize, j: usize) -> u64
+    requires { ⌜ Sized n d (now tables) × ((i < n) × (j < n)) ⌝ }
+    ensures { λ r. ⌜ r ≡ oneWay d (tableOf n d (now (tables .entry))) i j ⌝ }
+{
+    difference(
+        turned(matrix_at(n, d, tables, i, j)),
+        matrix_at(n, d, tables, j, i),
+    )
+}
+
+// Whether no value of `i` is with one of a variable before it: so each two variables are looked at once.
 fn row_both_ways(n: usize, d: usize, tables: &[u16], i: usize) -> bool
-    requires { ⌜ Sized n d (now tables) × (i < n) ⌝ }
+    requires { ⌜ Narrow n d (now tables) × (i < n) ⌝ }
     ensures { λ r. ⌜ r ≡ rowBothWays d (tableOf n d (now (tables .entry))) i ⌝ }
 {
+    let mut bits: u64 = 0;
     let mut j = 0;
     while j < i {
-        if !pair_both_ways(n, d, tables, i, j) {
-            return false;
-        }
+        bits = bits | one_way(n, d, tables, i, j);
         j += 1;
     }
-    true
+    bits == 0
 }
 
-// Whether those of every two variables are.
+// Whether those of every two variables are allowed both ways or neither.
 fn tables_both_ways(n: usize, d: usize, tables: &[u16]) -> bool
-    requires { ⌜ Sized n d (now tables) ⌝ }
+    requires { ⌜ Narrow n d (now tables) ⌝ }
     ensures { λ r. ⌜ r ≡ every n (rowBothWays d (tableOf n d (now (tables .entry)))) ⌝ }
 {
     let mut i = 0;
@@ -260,104 +380,149 @@ pub(crate) fn refusal_of_problem(n: usize, d: usize, domains: &[u16], tables: &[
     5
 }
 
-// Whether a domain of a subproblem is a part, not empty, of the problem's, and of one value if instantiated.
-fn part_obeys(part: Subproblem, i: usize, whole: u16) -> bool
-    ensures { λ r. ⌜ r ≡ partObeys whole part i ⌝ }
+// What is wrong with a domain beside the problem's: that it is empty, or values that the problem's has not; 0 for nothing.
+fn part_wrong(whole: u16, domain: u16) -> u16
+    ensures { λ r. ⌜ r ≡ partWrong whole domain ⌝ }
 {
-    let domain = part.domain(i);
     if domain == 0 {
-        return false;
+        return 1;
     }
-    if domain & !whole != 0 {
-        return false;
-    }
-    if part.is_instantiated(i) {
-        return mask::count(domain) == 1;
-    }
-    true
+    domain & !whole
 }
 
-// Whether every domain does.
-fn domains_obey(part: Subproblem, n: usize, domains: &[u16]) -> bool
-    requires { ⌜ length (now domains) ≡ n ⌝ }
-    ensures { λ r. ⌜ r ≡ every n (domainsObey (now (domains .entry)) part) ⌝ }
+// What is wrong with every domain, together.
+fn wrong_in(domains: &[u16], slot: &[u16]) -> u16
+    requires { ⌜ length (now domains) ≤ length (now slot) ⌝ }
+    ensures { λ r. ⌜ r ≡ joined (length (now (domains .entry))) (wrongIn (now (domains .entry)) (now (slot .entry))) ⌝ }
 {
+    let mut wrong: u16 = 0;
     let mut i = 0;
-    while i < n {
-        if !part_obeys(part, i, domains[i]) {
-            return false;
-        }
+    while i < domains.len() {
+        wrong = wrong | part_wrong(domains[i], slot[i]);
         i += 1;
     }
-    true
+    wrong
+}
+
+// Whether a mask has one value: it is that of its lowest alone.
+fn is_single(mask: u16) -> bool
+    ensures { λ r. ⌜ r ≡ eqb (size mask) 1 ⌝ }
+{
+    if mask == 0 {
+        return false;
+    }
+    (mask as u64) == (1 << mask::first(mask))
+}
+
+// Whether a variable is in a set of them.
+fn is_in(set: u32, variable: usize) -> bool
+    requires { ⌜ variable < 32 ⌝ }
+    ensures { λ r. ⌜ r ≡ eqb (bit set variable) 1 ⌝ }
+{
+    (set >> variable) % 2 == 1
+}
+
+// The first variable of a set from this one on; past all variables if there is none.
+fn next_in(set: u32, from: usize) -> usize
+    requires { ⌜ from ≤ 32 ⌝ }
+    ensures { λ r. ⌜ Next set from r ⌝ }
+{
+    from + u64::trailing_zeros((set as u64) >> from) as usize
 }
 
 // Whether the values of two variables, if both are instantiated, are allowed.
-fn pair_agrees(part: Subproblem, n: usize, d: usize, tables: &[u16], i: usize, j: usize) -> bool
-    requires { ⌜ Sized n d (now tables) × ((i < n) × (j < n)) ⌝ }
-    ensures { λ r. ⌜ r ≡ pairAgrees (tableOf n d (now (tables .entry))) part i j ⌝ }
+fn pair_agrees(
+    slot: &[u16],
+    marked: u32,
+    n: usize,
+    d: usize,
+    tables: &[u16],
+    i: usize,
+    j: usize,
+) -> bool
+    requires { ⌜ SlotFits n d (now tables) (now slot) marked × ((i < n) × (j < n)) ⌝ }
+    ensures { λ r. ⌜ r ≡ pairAgrees (tableOf n d (now (tables .entry))) (subproblemOf n (now (slot .entry))) i j ⌝ }
 {
     if i == j {
         return true;
     }
-    if !part.is_instantiated(i) {
+    if !is_in(marked, i) {
         return true;
     }
-    if !part.is_instantiated(j) {
+    if !is_in(marked, j) {
         return true;
     }
-    let at = (i * n + j) * d + mask::first(part.domain(i));
+    let at = (i * n + j) * d + mask::first(slot[i]);
     if at < tables.len() {
-        return has(tables[at], mask::first(part.domain(j)));
+        return has(tables[at], mask::first(slot[j]));
     }
     false
 }
 
-// The value of the variable `i`, if it is instantiated, with every other's.
-fn row_agrees(part: Subproblem, n: usize, d: usize, tables: &[u16], i: usize) -> bool
-    requires { ⌜ Sized n d (now tables) × (i < n) ⌝ }
-    ensures { λ r. ⌜ r ≡ rowAgrees n (tableOf n d (now (tables .entry))) part i ⌝ }
+// The value of the variable `i` with every other's that is instantiated.
+fn row_agrees(slot: &[u16], marked: u32, n: usize, d: usize, tables: &[u16], i: usize) -> bool
+    requires { ⌜ SlotFits n d (now tables) (now slot) marked × (i < n) ⌝ }
+    ensures { λ r. ⌜ r ≡ rowAgrees n (tableOf n d (now (tables .entry))) (subproblemOf n (now (slot .entry))) i ⌝ }
 {
-    if !part.is_instantiated(i) {
+    let mut j = next_in(marked, 0);
+    while j < n {
+        if !pair_agrees(slot, marked, n, d, tables, i, j) {
+            return false;
+        }
+        j = next_in(marked, j + 1);
+    }
+    true
+}
+
+// Whether a variable, if it is instantiated, has one value, and one that agrees with every other's.
+fn mark_obeys(slot: &[u16], marked: u32, n: usize, d: usize, tables: &[u16], i: usize) -> bool
+    requires { ⌜ SlotFits n d (now tables) (now slot) marked × (i < n) ⌝ }
+    ensures { λ r. ⌜ r ≡ markObeys n (tableOf n d (now (tables .entry))) (subproblemOf n (now (slot .entry))) i ⌝ }
+{
+    if !is_in(marked, i) {
         return true;
     }
-    let mut j = 0;
-    while j < n {
-        if !pair_agrees(part, n, d, tables, i, j) {
-            return false;
-        }
-        j += 1;
+    if !is_single(slot[i]) {
+        return false;
     }
-    true
+    row_agrees(slot, marked, n, d, tables, i)
 }
 
-// Whether those of every two are.
-fn values_agree(part: Subproblem, n: usize, d: usize, tables: &[u16]) -> bool
-    requires { ⌜ Sized n d (now tables) ⌝ }
-    ensures { λ r. ⌜ r ≡ every n (rowAgrees n (tableOf n d (now (tables .entry))) part) ⌝ }
+// Whether every instantiated variable does.
+fn marks_obey(slot: &[u16], marked: u32, n: usize, d: usize, tables: &[u16]) -> bool
+    requires { ⌜ SlotFits n d (now tables) (now slot) marked ⌝ }
+    ensures { λ r. ⌜ r ≡ every n (markObeys n (tableOf n d (now (tables .entry))) (subproblemOf n (now (slot .entry)))) ⌝ }
 {
-    let mut i = 0;
+    let mut i = next_in(marked, 0);
     while i < n {
-        if !row_agrees(part, n, d, tables, i) {
+        if !mark_obeys(slot, marked, n, d, tables, i) {
             return false;
         }
-        i += 1;
+        i = next_in(marked, i + 1);
     }
     true
 }
 
-// Whether a subproblem obeys the rules.
-fn obeys(part: Subproblem, n: usize, d: usize, domains: &[u16], tables: &[u16]) -> bool
-    requires { ⌜ Fitting n d (now domains) (now tables) ⌝ }
-    ensures { λ r. ⌜ r ≡ obeys (problemOf n d (now (domains .entry)) (now (tables .entry))) part ⌝ }
+// The marked set of two words, high first.
+fn marked_of(high: u16, low: u16) -> u32
+    ensures { λ r. ⌜ r ≡ high * 65536 + low ⌝ }
 {
-    if (1 << n) <= (part.marked as u64) {
+    (high as u32) * 65536 + (low as u32)
+}
+
+// Whether the subproblem in the words of a slot obeys the rules.
+fn obeys(slot: &[u16], n: usize, d: usize, domains: &[u16], tables: &[u16]) -> bool
+    requires { ⌜ Fitting n d (now domains) (now tables) × (length (now slot) ≡ n + 2) ⌝ }
+    ensures { λ r. ⌜ r ≡ obeys (problemOf n d (now (domains .entry)) (now (tables .entry))) (subproblemOf n (now (slot .entry))) ⌝ }
+{
+    let marked = marked_of(slot[n], slot[n + 1]);
+    if (1 << n) <= (marked as u64) {
         return false;
     }
-    if !domains_obey(part, n, domains) {
+    if wrong_in(domains, slot) != 0 {
         return false;
     }
-    values_agree(part, n, d, tables)
+    marks_obey(slot, marked, n, d, tables)
 }
 
 // Whether the subproblems in the first `count` slots do.
@@ -374,7 +539,9 @@ fn all_obey(
 {
     let mut k = 0;
     while k < count {
-        if !obeys(agenda::read_slot(n, agenda, k), n, d, domains, tables) {
+        let at = k * (n + 2);
+        let end = at + (n + 2);
+        if !obeys(&agenda[at..end], n, d, domains, tables) {
             return false;
         }
         k += 1;
@@ -387,15 +554,7 @@ fn zeros_from(words: &[u16], from: usize) -> bool
     requires { ⌜ from ≤ length (now words) ⌝ }
     ensures { λ r. ⌜ r ≡ zerosFrom from (now (words .entry)) ⌝ }
 {
-    let left = words.len() - from;
-    let mut k = 0;
-    while k < left {
-        if words[from + k] != 0 {
-            return false;
-        }
-        k += 1;
-    }
-    true
+    bits_of(&words[from..]) == 0
 }
 
 // 6, or none.

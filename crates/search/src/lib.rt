@@ -1,7 +1,10 @@
 // The search: the lent agenda, the first checks, opening, a run, the house chooser.
 mod agenda;
+mod choice;
 mod chooser;
 pub mod first;
+mod lanes;
+mod rows;
 pub mod state;
 mod step;
 
@@ -20,6 +23,7 @@ ghost use Rattle.search.specs.Verdicts.{verdictOf};
 ghost use Rattle.search.specs.Calls.{opening, searchOf, Opens, Runs, Chooses};
 ghost use Rattle.search.specs.Work.Kept.{Ready};
 ghost use Rattle.search.specs.Work.Steps.{TakesOne, TakesAll, ChoosesOne, ChoosesAll};
+ghost use Rattle.search.specs.Work.Lanes.{Rows};
 ghost use Rattle.search.specs.Work.Ends.{Openable, Used, endedBy};
 
 // Opens a search.
@@ -198,8 +202,10 @@ fn choose_on(
 {
     let mut state = state;
     let mut taken = 0;
+    let none = [0u16; 32];
+    let mut rows = [none; 512];
     while taken < limit {
-        let stop = step_chosen(n, d, tables, agenda, state);
+        let stop = step_chosen(n, d, tables, agenda, &mut rows, state);
         state = stop.state;
         if stop.taken == 0 {
             return Stop {
@@ -218,9 +224,16 @@ fn choose_on(
 }
 
 // One step of the chooser, unless the search is finished.
-fn step_chosen(n: usize, d: usize, tables: &[u16], agenda: &mut [u16], state: State) -> Stop
-    requires { ⌜ Ready n d (now tables) (now agenda) (searchOf n (now agenda) state) ⌝ }
-    ensures { λ r. ⌜ ChoosesOne n d (now (tables .entry)) (now (agenda .entry)) (now (agenda .exit)) state r ⌝ }
+fn step_chosen(
+    n: usize,
+    d: usize,
+    tables: &[u16],
+    agenda: &mut [u16],
+    rows: &mut [[u16; 32]],
+    state: State,
+) -> Stop
+    requires { ⌜ Ready n d (now tables) (now agenda) (searchOf n (now agenda) state) × Rows n d (now tables) (now rows) ⌝ }
+    ensures { λ r. ⌜ ChoosesOne n d (now (tables .entry)) (now (agenda .entry)) (now (agenda .exit)) state r × Rows n d (now (tables .entry)) (now (rows .exit)) ⌝ }
 {
     let subproblems = state.subproblems;
     if subproblems == 0 {
@@ -238,9 +251,7 @@ fn step_chosen(n: usize, d: usize, tables: &[u16], agenda: &mut [u16], state: St
             state,
         };
     }
-    let free = agenda.len() / (n + 2) - (subproblems - 1);
-    let request = chooser::chosen(top, n, d, tables, free);
-    step::take(top, n, d, tables, agenda, &request, state)
+    choice::take_chosen(top, n, d, tables, agenda, rows, state)
 }
 
 // What a call returns that stopped so.

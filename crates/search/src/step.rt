@@ -27,25 +27,28 @@ pub(crate) struct Stop {
     pub(crate) state: State,
 }
 
-// The number of pieces of a request that are not empty.
-fn count_pieces(top: Subproblem, n: usize, d: usize, tables: &[u16], request: &[u16]) -> usize
+// Whether the pieces of a request that are not empty exceed the free slots. They are counted no further than that.
+fn exceed(top: Subproblem, n: usize, d: usize, tables: &[u16], request: &[u16], free: usize) -> bool
     requires { ⌜ readable n d (now tables) (now request) ≡ true ⌝ }
-    ensures { λ r. ⌜ r ≡ length (pieces n (tableOf n d (now (tables .entry))) top (now (request .entry))) ⌝ }
+    ensures { λ r. ⌜ r ≡ ltb free (length (pieces n (tableOf n d (now (tables .entry))) top (now (request .entry)))) ⌝ }
 {
     let named = split::candidates(n, request);
-    let mut count = 0;
+    let mut left = free;
     let mut k = 0;
     while k < named {
         let piece = split::piece(top, n, d, tables, request, k);
         if !piece.is_empty(n) {
-            count += 1;
+            if left == 0 {
+                return true;
+            }
+            left -= 1;
         }
         k += 1;
     }
-    count
+    false
 }
 
-// Whether they exceed the free slots. They are counted only where the pieces that the kind can name exceed them.
+// The same. They are looked at only where the pieces that the kind can name exceed the free slots.
 pub(crate) fn has_no_room(
     top: Subproblem,
     n: usize,
@@ -60,7 +63,7 @@ pub(crate) fn has_no_room(
     if split::candidates(n, request) <= free {
         return false;
     }
-    free < count_pieces(top, n, d, tables, request)
+    exceed(top, n, d, tables, request, free)
 }
 
 // The refusal of a request, in the order 11, 7 to 10, 12; 0 for none.

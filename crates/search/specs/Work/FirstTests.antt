@@ -1,16 +1,18 @@
 -- The first checks level by level, as the loops of the code take them, and what the words lent must be for a level to read them.
 use mathlib.Core.Path.{_≡_}
-use mathlib.Core.Bool.{Bool, not, _&&_, _||_}
+use mathlib.Core.Bool.{Bool, true, not, cond, _&&_, _||_}
 use mathlib.Core.List.{List}
-use Prim.Native.Nat.{ℕ, _+_, _^_}
+use Prim.Native.Nat.{ℕ, zero, suc, _+_, _-_, _*_, _/_, _%_, _^_, _≤_, _<_}
+use lib.Bits.{bitAnd, bitOr, bitXor}
 use lib.ListN.{length, getD}
 use lib.Dec.{eqb, ltb}
 use Rattle.splits.specs.Masks.{bit, minus, size, lowest}
-use Rattle.splits.specs.Problem.{Problem, Table}
+use Rattle.splits.specs.Problem.{Problem, Table, tableOf}
 use Rattle.splits.specs.Subproblems.{domain, every}
 use Rattle.splits.specs.Work.Ranges.{Sized}
 use Rattle.splits.specs.declared.subproblem.Subproblem.{Subproblem}
 use Rattle.search.specs.Agenda.{subproblemOf, slotAt}
+use Rattle.search.specs.declared.first.Matrix.{Matrix}
 use Rattle.search.specs.FirstChecks.{obeys}
 
 -- What refusals 1, 2 and 3 leave of the problem's words.
@@ -18,7 +20,16 @@ pub record Fitting (n d : ℕ) (domains tables : List ℕ) : Type 0 where
   pub sized : Sized n d tables
   pub words : length domains ≡ n
 
--- 4: one domain, one mask of the tables, the masks of two variables, and of one with every other.
+-- All bits of f 0 .. f (n - 1) together.
+unfoldable pub joined : ℕ → (ℕ → ℕ) → ℕ
+joined zero f = 0
+joined (suc n) f = bitOr (joined n f) (f n)
+
+-- Word a of some.
+unfoldable pub rowIn : List ℕ → ℕ → ℕ
+rowIn rows a = getD rows a 0
+
+-- 4: one domain, one mask of the tables, the masks of two variables, of one with some in a row, and of one with every other.
 unfoldable pub domainBelow : ℕ → List ℕ → ℕ → Bool
 domainBelow d domains i = ltb (getD domains i 0) (2 ^ d)
 
@@ -27,6 +38,9 @@ maskBelow d allowed i j a = ltb (allowed i j a) (2 ^ d)
 
 unfoldable pub pairBelow : ℕ → Table → ℕ → ℕ → Bool
 pairBelow d allowed i j = eqb i j || every d (maskBelow d allowed i j)
+
+unfoldable pub spanBelow : ℕ → Table → ℕ → ℕ → ℕ → Bool
+spanBelow d allowed i from count = every count (λ k. every d (maskBelow d allowed i (from + k)))
 
 unfoldable pub rowBelow : ℕ → ℕ → Table → ℕ → Bool
 rowBelow n d allowed i = every n (pairBelow d allowed i)
@@ -44,13 +58,79 @@ pairBothWays d allowed i j = every d (valueBothWays d allowed i j)
 unfoldable pub rowBothWays : ℕ → Table → ℕ → Bool
 rowBothWays d allowed i = every i (pairBothWays d allowed i)
 
--- 6: one domain of a subproblem beside the problem's, the values of two instantiated variables, and of one with every other.
+-- What refusal 4 leaves of the tables: no mask that is read has a bit at d or above.
+pub record Narrow (n d : ℕ) (tables : List ℕ) : Type 0 where
+  pub sized : Sized n d tables
+  pub below : every n (rowBelow n d (tableOf n d tables)) ≡ true
+
+-- 5, the masks of two variables at once: 16 rows of 16 bits, four rows to a word, zeros past the d masks.
+unfoldable pub four : (ℕ → ℕ) → ℕ → ℕ
+four row k = row k + row (k + 1) * 65536 + row (k + 2) * 4294967296 + row (k + 3) * 281474976710656
+
+unfoldable pub matrixOf : (ℕ → ℕ) → Matrix
+matrixOf row = record { first = four row 0; second = four row 4; third = four row 8; fourth = four row 12 }
+
+unfoldable pub padded : ℕ → (ℕ → ℕ) → ℕ → ℕ
+padded d row a = cond (ltb a d) (row a) 0
+
+-- Bits of a where `keep` has one, elsewhere those of b from so many places below, or above.
+unfoldable pub risen : ℕ → ℕ → ℕ → ℕ → ℕ
+risen a b keep places = bitOr (bitAnd a keep) (bitAnd (b * 2 ^ places % 2 ^ 64) (2 ^ 64 - 1 - keep))
+
+unfoldable pub sunk : ℕ → ℕ → ℕ → ℕ → ℕ
+sunk a b keep places = bitOr (bitAnd a keep) (bitAnd (b / 2 ^ places) (2 ^ 64 - 1 - keep))
+
+-- Rows for columns in four steps, each of which exchanges one binary digit of the row's number and of the column's: that of
+-- weight 1 and of weight 2 within a word, of weight 4 and of weight 8 between words.
+unfoldable pub byOne : ℕ → ℕ
+byOne x = risen (sunk x x 18446556426588345685 15) x 12297923206033637375 15
+
+unfoldable pub byTwo : ℕ → ℕ
+byTwo x = risen (sunk x x 18446744070273577779 30) x 14757395259826634751 30
+
+unfoldable pub within : Matrix → Matrix
+within m = record { first = byTwo (byOne (m .first)); second = byTwo (byOne (m .second)); third = byTwo (byOne (m .third)); fourth = byTwo (byOne (m .fourth)) }
+
+unfoldable pub byFour : Matrix → Matrix
+byFour m = record {
+  first = risen (m .first) (m .second) 1085102592571150095 4;
+  second = sunk (m .second) (m .first) 17361641481138401520 4;
+  third = risen (m .third) (m .fourth) 1085102592571150095 4;
+  fourth = sunk (m .fourth) (m .third) 17361641481138401520 4;
+}
+
+unfoldable pub byEight : Matrix → Matrix
+byEight m = record {
+  first = risen (m .first) (m .third) 71777214294589695 8;
+  second = risen (m .second) (m .fourth) 71777214294589695 8;
+  third = sunk (m .third) (m .first) 18374966859414961920 8;
+  fourth = sunk (m .fourth) (m .second) 18374966859414961920 8;
+}
+
+unfoldable pub turned : Matrix → Matrix
+turned m = byEight (byFour (within m))
+
+-- The bits in which two differ, all rows together, and those of the values of two variables that are allowed one way only.
+unfoldable pub difference : Matrix → Matrix → ℕ
+difference m o =
+    bitOr (bitOr (bitXor (m .first) (o .first)) (bitXor (m .second) (o .second)))
+    (bitOr (bitXor (m .third) (o .third)) (bitXor (m .fourth) (o .fourth)))
+
+unfoldable pub oneWay : ℕ → Table → ℕ → ℕ → ℕ
+oneWay d allowed i j = difference (turned (matrixOf (padded d (allowed i j)))) (matrixOf (padded d (allowed j i)))
+
+-- 6, one domain of a subproblem beside the problem's, as it is loaded.
 unfoldable pub partObeys : ℕ → Subproblem → ℕ → Bool
 partObeys whole P i =
     not (eqb (domain P i) 0) && eqb (minus (domain P i) whole) 0 && (eqb (bit (P .marked) i) 0 || eqb (size (domain P i)) 1)
 
-unfoldable pub domainsObey : List ℕ → Subproblem → ℕ → Bool
-domainsObey domains P i = partObeys (getD domains i 0) P i
+-- 6: what is wrong with a domain beside the problem's, and with each of a slot's; the values of two instantiated variables, of one
+-- with every other, and what an instantiated variable must be.
+unfoldable pub partWrong : ℕ → ℕ → ℕ
+partWrong whole m = cond (eqb m 0) 1 (minus m whole)
+
+unfoldable pub wrongIn : List ℕ → List ℕ → ℕ → ℕ
+wrongIn domains slot i = partWrong (getD domains i 0) (getD slot i 0)
 
 unfoldable pub pairAgrees : Table → Subproblem → ℕ → ℕ → Bool
 pairAgrees allowed P i j =
@@ -60,9 +140,19 @@ pairAgrees allowed P i j =
 unfoldable pub rowAgrees : ℕ → Table → Subproblem → ℕ → Bool
 rowAgrees n allowed P i = every n (pairAgrees allowed P i)
 
--- A word of an unused slot is zero.
-unfoldable pub zeroAt : ℕ → List ℕ → ℕ → Bool
-zeroAt from words k = eqb (getD words (from + k) 0) 0
+unfoldable pub markObeys : ℕ → Table → Subproblem → ℕ → Bool
+markObeys n allowed P i = (eqb (bit (P .marked) i) 0 || eqb (size (domain P i)) 1) && rowAgrees n allowed P i
+
+-- The first variable of a set from one on, or past all of them: none between is in the set.
+pub record Next (set from next : ℕ) : Type 0 where
+  pub up : from ≤ next
+  pub none : (k : ℕ) → from ≤ k → k < next → bit set k ≡ 0
+
+-- The words of a slot and its marks.
+pub record SlotFits (n d : ℕ) (tables slot : List ℕ) (marked : ℕ) : Type 0 where
+  pub sized : Sized n d tables
+  pub words : length slot ≡ n + 2
+  pub marks : marked ≡ subproblemOf n slot .marked
 
 -- The subproblem in slot k obeys the rules.
 unfoldable pub slotObeys : Problem → ℕ → List ℕ → ℕ → Bool

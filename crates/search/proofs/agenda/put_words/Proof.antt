@@ -2,20 +2,14 @@
 -- Assumes nothing.
 use mathlib.Core.Path.{_≡_}
 use native.Mathlib.Omega.{arith}
-use lib.ListN.{length, length-set, length-take}
+use lib.ListN.{length, length-set}
+use Rattle.search.proofs.Encoding.{slot-filled}
 use borrow.Author.Needs.{needs}
-use Rattle.search.proofs.Encoding.{slot-made}
 use Rattle.search.proofs.agenda.put_words.Statement.{statement}
 use Rattle.search.proofs.agenda.put_words.Tie as tie
 
-slice-relend-prefix-put-domains : tie.Need-slice-relend-prefix-put-domains
-slice-relend-prefix-put-domains c = search needs
-
-slice-aggregate-put-domains : tie.Need-slice-aggregate-put-domains
-slice-aggregate-put-domains c = simp length-take (omega arith)
-
-put-domains-requires : tie.Need-put-domains-requires
-put-domains-requires c κs = simp length-take (omega arith)
+put-front-requires : tie.Need-put-front-requires
+put-front-requires c κs = search needs
 
 cast-slot : tie.Need-cast-slot
 cast-slot c = search needs
@@ -42,18 +36,13 @@ same-length : tie.Need-same-length
 same-length c = search needs
 
 returns : tie.Need-returns
-returns c =
-    let a = c .before .before .before .before .before .before .before .args in
-    let long : length (a .p .domains) ≡ 32 = search needs in
-    slot-made (a .n) (a .p) _ _ (c .before .before .before .before .put-domains .ensures) (omega arith) (omega arith)
+returns c = let long : length (c .before .before .before .before .before .before .before .before .args .p .domains) ≡ 32 = search needs in slot-filled (c .before .before .before .before .before .before .before .before .args .n) (c .before .before .before .before .before .before .before .before .args .p) _ _ (c .before .before .before .before .put-front .ensures) (omega arith) (omega arith)
 
 pub put-words-spec : {M : Type 1} → statement M
 put-words-spec =
     tie.close
     (tie.spec
-    slice-relend-prefix-put-domains
-    slice-aggregate-put-domains
-    put-domains-requires
+    put-front-requires
     cast-slot
     mul-slot
     slice-write-slot

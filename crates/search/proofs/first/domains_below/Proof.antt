@@ -1,64 +1,18 @@
--- `first::domains_below` meets its contract: the loop's invariant: every domain passed is below 2 ^ d.
+-- `first::domains_below` meets its contract: all bits of the domains together.
 -- Assumes nothing.
-use mathlib.Core.Bool.{true}
-use mathlib.Core.Path.{_≡_}
-use Prim.Native.Nat.{_-_, _≤_}
-use native.Mathlib.Omega.{arith}
+use Rattle.search.proofs.Joining.{domains-found}
 use borrow.Author.Needs.{needs}
-use Rattle.splits.specs.Subproblems.{every}
-use Rattle.search.specs.Work.FirstTests.{domainBelow}
-use Rattle.search.proofs.FirstLoops.{every-start, every-stop, every-turn, every-end}
 use Rattle.search.proofs.first.domains_below.Statement.{statement}
 use Rattle.search.proofs.first.domains_below.Tie as tie
 
-abbrev Inv-loop : tie.InvT-loop
-Inv-loop n d domains i₀ i = (i ≤ n) × (every i (domainBelow d domains) ≡ true)
+bits-of-requires : tie.Need-bits-of-requires
+bits-of-requires c κs = search needs
 
-abbrev μ-loop : tie.MeasureT-loop
-μ-loop n d domains i₀ i = n - i
-
-loop-holds : tie.Need-loop-holds Inv-loop μ-loop
-loop-holds c = (search needs, every-start _)
-
-mul-is-below : tie.Need-mul-is-below Inv-loop μ-loop
-mul-is-below c = search needs
-
-shared-slice-read-is-below : tie.Need-shared-slice-read-is-below Inv-loop μ-loop
-shared-slice-read-is-below c = search needs
-
-is-below-requires : tie.Need-is-below-requires Inv-loop μ-loop
+is-below-requires : tie.Need-is-below-requires
 is-below-requires c κs = search needs
 
-returns : tie.Need-returns Inv-loop μ-loop
-unfolding domainBelow
-returns c = every-stop _ _ _ _ (c .before .before .before .loop-test .taken) (c .before .is-below .ensures) (c .if1 .taken)
-
-add-i : tie.Need-add-i Inv-loop μ-loop
-add-i c = search needs
-
-loop-less : tie.Need-loop-less Inv-loop μ-loop
-loop-less c = search needs
-
-loop-again : tie.Need-loop-again Inv-loop μ-loop
-unfolding domainBelow
-loop-again c = (omega arith, every-turn _ _ _ (c .before .before .before .before .loop .inv .1) (c .before .is-below .ensures) (c .if1 .left))
-
-returns-2 : tie.Need-returns-2 Inv-loop μ-loop
-unfolding domainBelow
-returns-2 c = every-end _ _ _ (c .before .loop .inv .0) (c .loop-test .left) (c .before .loop .inv .1)
+returns : tie.Need-returns
+returns c = domains-found _ _ _ _ _ (c .before .before .before .pre .1) (c .before .bits-of .ensures) (c .is-below .ensures)
 
 pub domains-below-spec : {M : Type 1} → statement M
-domains-below-spec =
-    tie.close
-    (tie.spec
-    Inv-loop
-    μ-loop
-    loop-holds
-    mul-is-below
-    shared-slice-read-is-below
-    is-below-requires
-    returns
-    add-i
-    loop-less
-    loop-again
-    returns-2)
+domains-below-spec = tie.close (tie.spec bits-of-requires is-below-requires returns)

@@ -1,11 +1,27 @@
--- `first::obeys` meets its contract: the marks, the domains, then the instantiated values.
+-- `first::obeys` meets its contract: the marks, the domains together, then the instantiated variables.
 -- Assumes nothing.
-use native.Mathlib.Omega.{arith}
+use Rattle.search.proofs.Marked.{slot-marks, marks-in, slot-over, slot-wrong, slot-marked}
 use borrow.Author.Needs.{needs}
-use Rattle.splits.proofs.Subproblems.{shifted}
-use Rattle.search.proofs.FirstParts.{obeys-marks, obeys-domains, obeys-values}
 use Rattle.search.proofs.first.obeys.Statement.{statement}
 use Rattle.search.proofs.first.obeys.Tie as tie
+
+mul-marked-of : tie.Need-mul-marked-of
+mul-marked-of c = search needs
+
+shared-slice-read-marked-of : tie.Need-shared-slice-read-marked-of
+shared-slice-read-marked-of c = search needs
+
+add-marked-of : tie.Need-add-marked-of
+add-marked-of c = search needs
+
+mul-marked-of-2 : tie.Need-mul-marked-of-2
+mul-marked-of-2 c = search needs
+
+shared-slice-read-marked-of-2 : tie.Need-shared-slice-read-marked-of-2
+shared-slice-read-marked-of-2 c = search needs
+
+marked-of-requires : tie.Need-marked-of-requires
+marked-of-requires c κs = search needs
 
 shl-if1 : tie.Need-shl-if1
 shl-if1 c = search needs
@@ -14,28 +30,34 @@ cast-if1 : tie.Need-cast-if1
 cast-if1 c = search needs
 
 returns : tie.Need-returns
-returns c = obeys-marks _ _ (c .before .before .before .before .args .domains .now) (c .before .before .before .before .args .tables .now) (c .before .before .before .before .args .part) (rw (shifted (c .before .before .before .before .args .n) (omega arith)) at (c .if1 .taken))
+returns c = slot-over (c .before .before .before .before .before .before .before .args .n) (c .before .before .before .before .before .before .before .args .d) (c .before .before .before .before .before .before .before .args .domains .now) (c .before .before .before .before .before .before .before .args .tables .now) (c .before .before .before .before .before .before .before .args .slot .now) _ (c .before .before .before .before .before .before .before .pre .0 .sized .few) (c .before .marked-of .ensures) (c .if1 .taken)
 
-domains-obey-requires : tie.Need-domains-obey-requires
-domains-obey-requires c κs = search needs
+wrong-in-requires : tie.Need-wrong-in-requires
+wrong-in-requires c κs = search needs
 
 returns-2 : tie.Need-returns-2
-returns-2 c = obeys-domains _ _ _ _ _ _ (c .before .domains-obey .ensures) (c .if2 .taken)
+returns-2 c = slot-wrong (c .before .before .before .before .before .before .before .before .before .args .n) (c .before .before .before .before .before .before .before .before .before .args .d) (c .before .before .before .before .before .before .before .before .before .args .domains .now) (c .before .before .before .before .before .before .before .before .before .args .tables .now) (c .before .before .before .before .before .before .before .before .before .args .slot .now) (c .before .before .before .before .before .before .before .before .before .pre .0 .words) (c .before .before .before .before .before .before .before .before .before .pre .1) _ (c .before .wrong-in .ensures) (c .if2 .taken)
 
-values-agree-requires : tie.Need-values-agree-requires
-values-agree-requires c κs = search needs
+marks-obey-requires : tie.Need-marks-obey-requires
+marks-obey-requires c κs = record { sized = c .before .before .before .before .before .before .before .before .before .pre .0 .sized; words = c .before .before .before .before .before .before .before .before .before .pre .1; marks = slot-marks (c .before .before .before .before .before .before .before .before .before .args .n) (c .before .before .before .before .before .before .before .before .before .args .d) (c .before .before .before .before .before .before .before .before .before .args .domains .now) (c .before .before .before .before .before .before .before .before .before .args .tables .now) (c .before .before .before .before .before .before .before .before .before .args .slot .now) _ (c .before .before .before .before .before .before .before .before .before .pre .0 .sized .few) (c .before .before .before .marked-of .ensures) }
 
 returns-3 : tie.Need-returns-3
-returns-3 c = obeys-values _ _ _ _ _ _ _ (rw (shifted (c .before .before .before .before .before .before .before .args .n) (omega arith)) at (c .before .before .before .if1 .left)) (c .before .before .domains-obey .ensures) (c .before .if2 .left) (c .values-agree .ensures)
+returns-3 c = slot-marked (c .before .before .before .before .before .before .before .before .before .before .args .n) (c .before .before .before .before .before .before .before .before .before .before .args .d) (c .before .before .before .before .before .before .before .before .before .before .args .domains .now) (c .before .before .before .before .before .before .before .before .before .before .args .tables .now) (c .before .before .before .before .before .before .before .before .before .before .args .slot .now) (c .before .before .before .before .before .before .before .before .before .before .pre .0 .words) (c .before .before .before .before .before .before .before .before .before .before .pre .1) _ _ (c .before .before .wrong-in .ensures) (c .before .if2 .left) (marks-in (c .before .before .before .before .before .before .before .before .before .before .args .n) (c .before .before .before .before .before .before .before .before .before .before .args .d) (c .before .before .before .before .before .before .before .before .before .before .args .domains .now) (c .before .before .before .before .before .before .before .before .before .before .args .tables .now) (c .before .before .before .before .before .before .before .before .before .before .args .slot .now) _ (c .before .before .before .before .before .before .before .before .before .before .pre .0 .sized .few) (c .before .before .before .before .marked-of .ensures) (c .before .before .before .if1 .left)) (c .marks-obey .ensures)
 
 pub obeys-spec : {M : Type 1} → statement M
 obeys-spec =
     tie.close
     (tie.spec
+    mul-marked-of
+    shared-slice-read-marked-of
+    add-marked-of
+    mul-marked-of-2
+    shared-slice-read-marked-of-2
+    marked-of-requires
     shl-if1
     cast-if1
     returns
-    domains-obey-requires
+    wrong-in-requires
     returns-2
-    values-agree-requires
+    marks-obey-requires
     returns-3)

@@ -1,6 +1,8 @@
 -- `first::refusal_of_problem` meets its contract: the domains, the tables, then the symmetry.
 -- Assumes nothing.
+use mathlib.Core.Path.{sym, _∙_}
 use borrow.Author.Needs.{needs}
+use borrow.Author.Tests.{not-false}
 use Rattle.search.proofs.FirstParts.{problem-domains, problem-tables, problem-last}
 use Rattle.search.proofs.first.refusal_of_problem.Statement.{statement}
 use Rattle.search.proofs.first.refusal_of_problem.Tie as tie
@@ -18,7 +20,9 @@ returns-2 : tie.Need-returns-2
 returns-2 c = problem-tables _ _ (c .before .before .before .before .before .before .args .domains .now) _ _ (c .before .tables-below .ensures) (c .if2 .taken)
 
 tables-both-ways-requires : tie.Need-tables-both-ways-requires
-tables-both-ways-requires c κs = search needs
+tables-both-ways-requires c κs =
+    let none = c .before .tables-below in
+    record { sized = search needs; below = sym (none .ensures) ∙ not-false (none .result) (c .if2 .left) }
 
 returns-3 : tie.Need-returns-3
 returns-3 c = rw (c .if3 .taken) at (problem-last _ _ _ _ _ _ _ (c .before .before .before .before .before .domains-below .ensures) (c .before .before .before .before .if1 .left) (c .before .before .before .tables-below .ensures) (c .before .before .if2 .left) (c .before .tables-both-ways .ensures))

@@ -1,52 +1,53 @@
--- `first::row_agrees` meets its contract: the loop's invariant: the values of every variable passed agree with i's.
+-- `first::row_agrees` meets its contract: the loop's invariant: the value agrees with that of every variable before the next instantiated one.
 -- Assumes nothing.
 use mathlib.Core.Bool.{true}
 use mathlib.Core.Path.{_≡_}
-use Prim.Native.Nat.{_-_, _≤_}
+use Prim.Native.Nat.{_-_}
 use native.Mathlib.Omega.{arith}
-use borrow.Author.Needs.{needs}
 use Rattle.splits.specs.Problem.{tableOf}
 use Rattle.splits.specs.Subproblems.{every}
+use Rattle.search.specs.Agenda.{subproblemOf}
 use Rattle.search.specs.Work.FirstTests.{pairAgrees, rowAgrees}
-use Rattle.search.proofs.Obeying.{row-unmarked}
-use Rattle.search.proofs.FirstLoops.{every-start, every-stop, every-turn, every-end}
+use Rattle.search.proofs.FirstLoops.{every-start, every-stop, every-turn}
+use Rattle.search.proofs.Marked.{every-past, row-next}
+use borrow.Author.Needs.{needs}
 use Rattle.search.proofs.first.row_agrees.Statement.{statement}
 use Rattle.search.proofs.first.row_agrees.Tie as tie
 
 abbrev Inv-loop : tie.InvT-loop
-Inv-loop part n d tables i j₀ j = (j ≤ n) × (every j (pairAgrees (tableOf n d tables) part i) ≡ true)
+Inv-loop slot marked n d tables i j₀ j = every j (pairAgrees (tableOf n d tables) (subproblemOf n slot) i) ≡ true
 
 abbrev μ-loop : tie.MeasureT-loop
-μ-loop part n d tables i j₀ j = n - j
+μ-loop slot marked n d tables i j₀ j = n - j
 
-is-instantiated-requires : tie.Need-is-instantiated-requires Inv-loop μ-loop
-is-instantiated-requires c κs = search needs
-
-returns : tie.Need-returns Inv-loop μ-loop
-returns c = row-unmarked _ _ _ _ _ (c .before .is-instantiated .ensures) (c .if1 .taken)
+next-in-requires : tie.Need-next-in-requires Inv-loop μ-loop
+next-in-requires c κs = search needs
 
 loop-holds : tie.Need-loop-holds Inv-loop μ-loop
-loop-holds c = (search needs, every-start _)
+loop-holds c = row-next _ _ _ _ _ _ (c .before .before .before .pre .0 .marks) (every-start _) (c .next-in .ensures)
 
 pair-agrees-requires : tie.Need-pair-agrees-requires Inv-loop μ-loop
 pair-agrees-requires c κs = search needs
 
-returns-2 : tie.Need-returns-2 Inv-loop μ-loop
+returns : tie.Need-returns Inv-loop μ-loop
 unfolding rowAgrees
-returns-2 c = every-stop _ _ _ _ (c .before .before .loop-test .taken) (c .before .pair-agrees .ensures) (c .if2 .taken)
+returns c = every-stop _ _ _ _ (c .before .before .loop-test .taken) (c .before .pair-agrees .ensures) (c .if1 .taken)
 
-add-j : tie.Need-add-j Inv-loop μ-loop
-add-j c = search needs
+add-next-in : tie.Need-add-next-in Inv-loop μ-loop
+add-next-in c = search needs
+
+next-in-requires-2 : tie.Need-next-in-requires-2 Inv-loop μ-loop
+next-in-requires-2 c κs = search needs
 
 loop-less : tie.Need-loop-less Inv-loop μ-loop
-loop-less c = search needs
+loop-less c = omega (arith, c .next-in2 .ensures .up)
 
 loop-again : tie.Need-loop-again Inv-loop μ-loop
-loop-again c = (omega arith, every-turn _ _ _ (c .before .before .before .loop .inv .1) (c .before .pair-agrees .ensures) (c .if2 .left))
+loop-again c = row-next _ _ _ _ _ _ (c .before .before .before .before .before .before .before .before .pre .0 .marks) (every-turn _ _ _ (c .before .before .before .before .loop .inv) (c .before .before .pair-agrees .ensures) (c .before .if1 .left)) (c .next-in2 .ensures)
 
-returns-3 : tie.Need-returns-3 Inv-loop μ-loop
+returns-2 : tie.Need-returns-2 Inv-loop μ-loop
 unfolding rowAgrees
-returns-3 c = every-end _ _ _ (c .before .loop .inv .0) (c .loop-test .left) (c .before .loop .inv .1)
+returns-2 c = every-past _ _ _ (c .loop-test .left) (c .before .loop .inv)
 
 pub row-agrees-spec : {M : Type 1} → statement M
 row-agrees-spec =
@@ -54,12 +55,12 @@ row-agrees-spec =
     (tie.spec
     Inv-loop
     μ-loop
-    is-instantiated-requires
-    returns
+    next-in-requires
     loop-holds
     pair-agrees-requires
-    returns-2
-    add-j
+    returns
+    add-next-in
+    next-in-requires-2
     loop-less
     loop-again
-    returns-3)
+    returns-2)

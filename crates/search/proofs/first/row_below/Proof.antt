@@ -1,57 +1,25 @@
--- `first::row_below` meets its contract: the loop's invariant: every pair passed is below 2 ^ d.
+-- `first::row_below` meets its contract: those before the variable, then those after it.
 -- Assumes nothing.
-use mathlib.Core.Bool.{true}
-use mathlib.Core.Path.{_≡_}
-use Prim.Native.Nat.{_-_, _≤_}
-use native.Mathlib.Omega.{arith}
+use Rattle.search.proofs.Joining.{row-stop, row-last}
 use borrow.Author.Needs.{needs}
-use Rattle.splits.specs.Problem.{tableOf}
-use Rattle.splits.specs.Subproblems.{every}
-use Rattle.search.specs.Work.FirstTests.{pairBelow, rowBelow}
-use Rattle.search.proofs.FirstLoops.{every-start, every-stop, every-turn, every-end}
 use Rattle.search.proofs.first.row_below.Statement.{statement}
 use Rattle.search.proofs.first.row_below.Tie as tie
 
-abbrev Inv-loop : tie.InvT-loop
-Inv-loop n d tables i j₀ j = (j ≤ n) × (every j (pairBelow d (tableOf n d tables) i) ≡ true)
+span-below-requires : tie.Need-span-below-requires
+span-below-requires c κs = search needs
 
-abbrev μ-loop : tie.MeasureT-loop
-μ-loop n d tables i j₀ j = n - j
+returns : tie.Need-returns
+returns c = row-stop _ _ _ _ _ (c .before .before .before .pre .1) (c .before .span-below .ensures) (c .if1 .taken)
 
-loop-holds : tie.Need-loop-holds Inv-loop μ-loop
-loop-holds c = (search needs, every-start _)
+add-span-below : tie.Need-add-span-below
+add-span-below c = search needs
 
-pair-below-requires : tie.Need-pair-below-requires Inv-loop μ-loop
-pair-below-requires c κs = search needs
+span-below-requires-2 : tie.Need-span-below-requires-2
+span-below-requires-2 c κs = search needs
 
-returns : tie.Need-returns Inv-loop μ-loop
-unfolding rowBelow
-returns c = every-stop _ _ _ _ (c .before .before .loop-test .taken) (c .before .pair-below .ensures) (c .if1 .taken)
-
-add-j : tie.Need-add-j Inv-loop μ-loop
-add-j c = search needs
-
-loop-less : tie.Need-loop-less Inv-loop μ-loop
-loop-less c = search needs
-
-loop-again : tie.Need-loop-again Inv-loop μ-loop
-unfolding rowBelow
-loop-again c = (omega arith, every-turn _ _ _ (c .before .before .before .loop .inv .1) (c .before .pair-below .ensures) (c .if1 .left))
-
-returns-2 : tie.Need-returns-2 Inv-loop μ-loop
-unfolding rowBelow
-returns-2 c = every-end _ _ _ (c .before .loop .inv .0) (c .loop-test .left) (c .before .loop .inv .1)
+returns-2 : tie.Need-returns-2
+returns-2 c = row-last _ _ _ _ _ _ (c .before .before .before .before .pre .1) (c .before .before .span-below .ensures) (c .before .if1 .left) (c .span-below2 .ensures)
 
 pub row-below-spec : {M : Type 1} → statement M
 row-below-spec =
-    tie.close
-    (tie.spec
-    Inv-loop
-    μ-loop
-    loop-holds
-    pair-below-requires
-    returns
-    add-j
-    loop-less
-    loop-again
-    returns-2)
+    tie.close (tie.spec span-below-requires returns add-span-below span-below-requires-2 returns-2)

@@ -1,0 +1,71 @@
+-- The row of a value of a variable, as the loop makes it, and the rows that are kept.
+-- Assumes nothing.
+use mathlib.Core.Path.{_≡_, ap, _∙_}
+use mathlib.Core.Logic.{_⊎_, inl, inr, ⊎-elim}
+use mathlib.Core.List.{List, []}
+use Prim.Native.Nat.{ℕ, _+_, _*_, _≤_, _<_}
+use native.Mathlib.Omega.{arith}
+use native.Mathlib.Decide.{ℕ-discrete}
+use lib.ListN.{length, getD, set, replicate, length-set, length-replicate, getD-replicate}
+use lib.Seq.{getD-set-same, getD-set-other}
+use Rattle.splits.specs.Masks.{single}
+use Rattle.splits.specs.Problem.{Table, tableOf}
+use Rattle.search.specs.Work.Lanes.{RowOf, Rows}
+
+-- A row of which the first j masks are made.
+pub record Begun (allowed : Table) (V′ v j : ℕ) (row : List ℕ) : Type 0 where
+  pub long : length row ≡ 32
+  pub each : (i : ℕ) → i < j → getD row i 0 ≡ allowed V′ i v
+
+module _ (allowed : Table) (V′ v : ℕ) where
+  -- At the start none is.
+  pub begun-none : (row : List ℕ) → length row ≡ 32 → Begun allowed V′ v 0 row
+  begun-none row e = record { long = e; each = λ i l. absurd (omega arith) }
+
+  -- One more.
+  pub begun-more : (row : List ℕ) (j a : ℕ) → Begun allowed V′ v j row → j < 32 → a ≡ allowed V′ j v → Begun allowed V′ v (j + 1) (set row j a)
+  begun-more row j a b h e = record {
+    long = length-set row j a ∙ b .long;
+    each = λ i l. elim (ℕ-discrete i j) [
+      | yes s ↦ rw s (getD-set-same row j a 0 (omega (arith, b .long)) ∙ e)
+      | no s ↦ getD-set-other row j i a 0 s ∙ b .each i (omega arith)
+    ];
+  }
+
+  -- V's own mask last: the row is made.
+  pub row-made : (n : ℕ) (row : List ℕ) (j x : ℕ) → Begun allowed V′ v j row → n ≤ j → V′ < 32 → x ≡ single v → RowOf n allowed V′ v (set row V′ x)
+  row-made n row j x b h l e = record {
+    long = length-set row V′ x ∙ b .long;
+    own = getD-set-same row V′ x 0 (omega (arith, b .long)) ∙ e;
+    other = λ i k s. getD-set-other row V′ i x 0 s ∙ b .each i (omega arith);
+  }
+
+module _ (n d : ℕ) (t : List ℕ) (rows : List (List ℕ)) (V′ v : ℕ) (all : Rows n d t rows) (a-variable : V′ < n) (a-value : v < d) where
+  -- A row that has something for its variable is the row.
+  pub row-kept : (getD (getD rows (V′ * 16 + v) []) V′ 0 ≡ 0 → ⊥) → RowOf n (tableOf n d t) V′ v (getD rows (V′ * 16 + v) [])
+  row-kept h = ⊎-elim (λ z. absurd (h z)) (λ r. r) (all .each V′ v a-variable a-value)
+
+  -- A row more is kept.
+  pub rows-more : (row : List ℕ) → n ≤ 32 → d ≤ 16 → RowOf n (tableOf n d t) V′ v row → Rows n d t (set rows (V′ * 16 + v) row)
+  rows-more row few small made = record {
+    long = length-set rows (V′ * 16 + v) row ∙ all .long;
+    each = each;
+  }
+    where
+      each : (i a : ℕ) → i < n → a < d
+          → (getD (getD (set rows (V′ * 16 + v) row) (i * 16 + a) []) i 0 ≡ 0) ⊎ RowOf n (tableOf n d t) i a (getD (set rows (V′ * 16 + v) row) (i * 16 + a) [])
+      each i a k l = elim (ℕ-discrete (i * 16 + a) (V′ * 16 + v)) [
+        | yes s ↦
+            let same-i : i ≡ V′ = omega arith in
+            let same-a : a ≡ v = omega arith in
+            inr (rw (same-i, same-a, getD-set-same rows (V′ * 16 + v) row [] (omega (arith, all .long))) made)
+        | no s ↦ rw (getD-set-other rows (V′ * 16 + v) (i * 16 + a) row [] s) (all .each i a k l)
+      ]
+
+-- At the start no row has anything.
+pub rows-none : (n d : ℕ) (t : List ℕ) → n ≤ 32 → d ≤ 16 → Rows n d t (replicate 512 (replicate {A = ℕ} 32 0))
+rows-none n d t few small = record {
+  long = length-replicate 512 (replicate {A = ℕ} 32 0);
+  each = λ i a k l.
+      inl (ap (λ (row : List ℕ). getD row i 0) (getD-replicate 512 (i * 16 + a) (replicate {A = ℕ} 32 0) [] (omega arith)) ∙ getD-replicate 32 i 0 0 (omega arith));
+}

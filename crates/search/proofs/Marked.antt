@@ -1,0 +1,216 @@
+-- The rules for the subproblem in the words of a slot: its domains together, then its instantiated variables one by one.
+-- Assumes nothing.
+use mathlib.Core.Path.{_≡_, refl, sym, ap, _∙_}
+use mathlib.Core.Bool.{Bool, true, false, not, cond, _&&_, _||_, and-false, and-true}
+use mathlib.Core.List.{List, _++_}
+use Prim.Native.Nat.{ℕ, zero, suc, _+_, _-_, _*_, _/_, _%_, _^_, _≤_, _<_}
+use native.Mathlib.Omega.{arith}
+use native.Mathlib.Decide.{ℕ-discrete, decLt}
+use lib.Bits.{bitAnd}
+use lib.Count.{trailingZeros, trailing-le}
+use lib.Dec.{eqb, ltb}
+use lib.ListN.{length, getD, take, replicate, length-take, List·getD-append}
+use lib.Seq.{getD-take}
+use borrow.Author.Tests.{eq-eqb, ne-eqb, eqb-true, lt-ltb, le-ltb, not-true, not-false}
+use Rattle.splits.specs.Masks.{bit, minus, size, single, lowest}
+use Rattle.splits.specs.Problem.{Problem, Table, tableOf}
+use Rattle.splits.specs.Subproblems.{domain, every}
+use Rattle.splits.specs.declared.subproblem.Subproblem.{Subproblem}
+use Rattle.splits.proofs.Masks.{bit-le, not-minus, size-of-none, size-single, single-of, lowest-member, trailing-least}
+use Rattle.splits.proofs.Refusals.{lacks}
+use Rattle.splits.proofs.Subproblems.{shifted}
+use Rattle.splits.proofs.Tests.{and-left, and-right, every-at, every-all, every-not, same-test}
+use Rattle.search.specs.Agenda.{problemOf, holding, subproblemOf}
+use Rattle.search.specs.FirstChecks.{domainObeys, valuesAgree, obeys}
+use Rattle.search.specs.Work.FirstTests.{Next, joined, partWrong, wrongIn, pairAgrees, rowAgrees, markObeys}
+use Rattle.search.proofs.Joining.{joined-zero, bit-shr}
+use Rattle.search.proofs.Obeying.{agrees-first, agrees-second, row-unmarked}
+
+-- ---- one domain
+
+pub wrong-empty : (whole m : ℕ) → m ≡ 0 → 1 ≡ partWrong whole m
+unfolding partWrong
+wrong-empty whole m e = rw e
+
+pub wrong-over : (whole m : ℕ) → whole < 2 ^ 16 → m < 2 ^ 16 → (m ≡ 0 → ⊥) → bitAnd m (65535 - whole) ≡ partWrong whole m
+unfolding partWrong
+wrong-over whole m k h f = not-minus 16 m whole h k ∙ rw (ne-eqb m 0 f)
+
+-- nothing is wrong with one that is not empty and is part of the problem's
+wrong-none : (whole m : ℕ) → eqb (partWrong whole m) 0 ≡ (not (eqb m 0) && eqb (minus m whole) 0)
+unfolding partWrong
+wrong-none whole m = go (eqb m 0)
+  where
+    go : (b : Bool) → eqb (cond b 1 (minus m whole)) 0 ≡ (not b && eqb (minus m whole) 0)
+    go true = refl
+    go false = refl
+
+-- ---- a mask of one value
+
+pub single-none : (m : ℕ) → m ≡ 0 → false ≡ eqb (size m) 1
+single-none m e = sym (ne-eqb (size m) 1 (λ h. absurd (omega (arith, size-of-none, rw e at h))))
+
+pub single-found : (m v : ℕ) → v ≡ lowest m → m < 2 ^ 16 → (m ≡ 0 → ⊥) → eqb m (1 * 2 ^ v % 2 ^ 64) ≡ eqb (size m) 1
+single-found m v e h f =
+    let few : v ≤ 32 = omega (arith, trailing-le 16 m) in
+    rw (shifted v few)
+    (same-test (eqb m (2 ^ v)) (eqb (size m) 1)
+    (λ s. eq-eqb (size m) 1 (ap size (eqb-true m (2 ^ v) s) ∙ size-single v))
+    (λ s. eq-eqb m (2 ^ v) (single-of m v (eqb-true (size m) 1 s) (rw e (lowest-member m h f)))))
+
+-- ---- the words of a slot
+
+pub slot-domain : (n : ℕ) (slot : List ℕ) (i : ℕ) → n ≤ length slot → i < n → getD slot i 0 ≡ domain (subproblemOf n slot) i
+unfolding subproblemOf holding
+slot-domain n slot i h l =
+    let long : length (take n slot) ≡ n = simp length-take (omega arith) in
+    sym (List·getD-append (take n slot) (replicate (32 - n) 0) 0 i (omega arith) ∙ getD-take n slot i 0 l)
+
+pub in-marks : (n : ℕ) (slot : List ℕ) (marked i : ℕ) (b : Bool) → marked ≡ subproblemOf n slot .marked → b ≡ eqb (bit marked i) 1
+    → b ≡ eqb (bit (subproblemOf n slot .marked) i) 1
+in-marks n slot marked i b e h = h ∙ ap (λ (x : ℕ). eqb (bit x i) 1) e
+
+-- ---- from mark to mark
+
+-- the next of a set: as many places on as the rest of the set has zeros below its lowest
+pub next-found : (set from zeros : ℕ) → zeros ≡ trailingZeros 64 (set / 2 ^ from) → Next set from (from + zeros)
+next-found set from zeros e = record {
+  up = omega arith;
+  none = λ k h l. elim (ℕ-discrete (bit set k) 1) [
+    | yes s ↦
+        let at : from + (k - from) ≡ k = omega arith in
+        let member : bit (set / 2 ^ from) (k - from) ≡ 1 = bit-shr set from (k - from) ∙ ap (bit set) at ∙ s in
+        absurd (omega (arith, trailing-least 64 (set / 2 ^ from) (k - from) member))
+    | no s ↦ omega (arith, bit-le set k)
+  ];
+}
+
+every-on : (f : ℕ → Bool) (j k : ℕ) → every j f ≡ true → ((x : ℕ) → j ≤ x → x < k → f x ≡ true) → every k f ≡ true
+every-on f j k e h = every-all f k (λ x l. elim (decLt x j) [ yes m ↦ every-at f j x m e | no m ↦ h x (omega arith) l ])
+
+-- past all of them
+pub every-past : (f : ℕ → Bool) (n j : ℕ) → n ≤ j → every j f ≡ true → true ≡ every n f
+every-past f n j h e = sym (every-all f n (λ x l. every-at f j x (omega arith) e))
+
+pub row-next : (allowed : Table) (P : Subproblem) (marked i j next : ℕ) → marked ≡ P .marked → every j (pairAgrees allowed P i) ≡ true
+    → Next marked j next → every next (pairAgrees allowed P i) ≡ true
+row-next allowed P marked i j next s e h =
+    every-on (pairAgrees allowed P i) j next e (λ k l m.
+    let none : bit (P .marked) k ≡ 0 = rw s at (h .none k l m) in
+    sym (agrees-second allowed P i k false (sym (ne-eqb (bit (P .marked) k) 1 (λ z. absurd (omega arith)))) refl))
+
+-- ---- an instantiated variable
+
+pub mark-none : (n : ℕ) (allowed : Table) (P : Subproblem) (i : ℕ) (b : Bool) → b ≡ eqb (bit (P .marked) i) 1 → not b ≡ true
+    → true ≡ markObeys n allowed P i
+unfolding markObeys
+mark-none n allowed P i b e y = simp (lacks (P .marked) i b e ∙ y, sym (row-unmarked n allowed P i b e y))
+
+pub mark-more : (n : ℕ) (allowed : Table) (P : Subproblem) (i m : ℕ) (b s : Bool) → b ≡ eqb (bit (P .marked) i) 1 → not b ≡ false
+    → m ≡ domain P i → s ≡ eqb (size m) 1 → not s ≡ true → false ≡ markObeys n allowed P i
+unfolding markObeys
+mark-more n allowed P i m b s e y d h z =
+    let some : eqb (size (domain P i)) 1 ≡ false = rw d at (sym h ∙ not-true s z) in
+    simp (lacks (P .marked) i b e ∙ y, some)
+
+pub mark-single : (n : ℕ) (allowed : Table) (P : Subproblem) (i m : ℕ) (b s r : Bool) → b ≡ eqb (bit (P .marked) i) 1 → not b ≡ false
+    → m ≡ domain P i → s ≡ eqb (size m) 1 → not s ≡ false → r ≡ rowAgrees n allowed P i → r ≡ markObeys n allowed P i
+unfolding markObeys
+mark-single n allowed P i m b s r e y d h z q =
+    let one : eqb (size (domain P i)) 1 ≡ true = rw d at (sym h ∙ not-false s z) in
+    simp (lacks (P .marked) i b e ∙ y, one) q
+
+pub marks-next : (n : ℕ) (allowed : Table) (P : Subproblem) (marked i next : ℕ) → marked ≡ P .marked → every i (markObeys n allowed P) ≡ true
+    → Next marked i next → every next (markObeys n allowed P) ≡ true
+marks-next n allowed P marked i next s e h =
+    every-on (markObeys n allowed P) i next e (λ k l m.
+    let none : bit (P .marked) k ≡ 0 = rw s at (h .none k l m) in
+    sym (mark-none n allowed P k false (sym (ne-eqb (bit (P .marked) k) 1 (λ z. absurd (omega arith)))) refl))
+
+-- ---- all of a slot
+
+module _ (n d : ℕ) (domains tables slot : List ℕ) (words : length domains ≡ n) (long : length slot ≡ n + 2) where
+  -- the domains are in order where nothing is wrong with them, and the instantiated ones have one value
+  slot-parts : (i : ℕ) → i < n → domainObeys (problemOf n d domains tables) (subproblemOf n slot) i
+      ≡ (eqb (wrongIn domains slot i) 0 && (eqb (bit (subproblemOf n slot .marked) i) 0 || eqb (size (domain (subproblemOf n slot) i)) 1))
+  unfolding domainObeys wrongIn
+  slot-parts i l =
+      rw (slot-domain n slot i (omega arith) l, wrong-none)
+
+  -- all that an instantiated variable must be, and all that domains must be beside it
+  slot-all : (w : ℕ) → w ≡ joined (length domains) (wrongIn domains slot) → w ≡ 0
+      → every n (markObeys n (tableOf n d tables) (subproblemOf n slot))
+      ≡ (every n (domainObeys (problemOf n d domains tables) (subproblemOf n slot))
+      && every n (λ i. every n (valuesAgree (problemOf n d domains tables) (subproblemOf n slot) i)))
+  unfolding markObeys valuesAgree rowAgrees pairAgrees
+  slot-all w e z =
+      same-test (every n marks) (every n whole && every n rows)
+      (λ x. both (every n whole) (every n rows)
+      (every-all whole n (λ i l. slot-parts i l ∙ both (eqb (wrongIn domains slot i) 0) (sized i) (every-at (λ k. eqb (wrongIn domains slot k) 0) n i l none) (and-left (sized i) (rows i) (every-at marks n i l x))))
+      (every-all rows n (λ i l. and-right (sized i) (rows i) (every-at marks n i l x))))
+      (λ x. every-all marks n (λ i l. both (sized i) (rows i)
+      (and-right (eqb (wrongIn domains slot i) 0) (sized i) (sym (slot-parts i l) ∙ every-at whole n i l (and-left (every n whole) (every n rows) x)))
+      (every-at rows n i l (and-right (every n whole) (every n rows) x))))
+    where
+      marks : ℕ → Bool
+      marks = markObeys n (tableOf n d tables) (subproblemOf n slot)
+
+      whole : ℕ → Bool
+      whole = domainObeys (problemOf n d domains tables) (subproblemOf n slot)
+
+      rows : ℕ → Bool
+      rows i = every n (valuesAgree (problemOf n d domains tables) (subproblemOf n slot) i)
+
+      sized : ℕ → Bool
+      sized i = eqb (bit (subproblemOf n slot .marked) i) 0 || eqb (size (domain (subproblemOf n slot) i)) 1
+
+      both : (a b : Bool) → a ≡ true → b ≡ true → (a && b) ≡ true
+      both a b p q = rw p q
+
+      none : every n (λ i. eqb (wrongIn domains slot i) 0) ≡ true
+      none =
+          sym (joined-zero n (wrongIn domains slot))
+          ∙ eq-eqb (joined n (wrongIn domains slot)) 0 (ap (λ (k : ℕ). joined k (wrongIn domains slot)) (sym words) ∙ sym e ∙ z)
+
+  -- something is wrong with the domains
+  pub slot-wrong : (w : ℕ) → w ≡ joined (length domains) (wrongIn domains slot) → (w ≡ 0 → ⊥)
+      → false ≡ obeys (problemOf n d domains tables) (subproblemOf n slot)
+  unfolding obeys
+  slot-wrong w e f = rw (go (every n whole) refl)
+    where
+      whole : ℕ → Bool
+      whole = domainObeys (problemOf n d domains tables) (subproblemOf n slot)
+
+      some : every n (λ i. eqb (wrongIn domains slot i) 0) ≡ false
+      some =
+          sym (joined-zero n (wrongIn domains slot))
+          ∙ ne-eqb (joined n (wrongIn domains slot)) 0 (λ z. f (e ∙ ap (λ (k : ℕ). joined k (wrongIn domains slot)) words ∙ z))
+
+      go : (b : Bool) → every n whole ≡ b → b ≡ false
+      go true x =
+          sym (every-all (λ i. eqb (wrongIn domains slot i) 0) n (λ i l.
+          and-left (eqb (wrongIn domains slot i) 0) (eqb (bit (subproblemOf n slot .marked) i) 0 || eqb (size (domain (subproblemOf n slot) i)) 1)
+          (sym (slot-parts i l) ∙ every-at whole n i l x))) ∙ some
+      go false x = refl
+
+  -- nothing is; the instantiated variables decide
+  pub slot-marked : (w : ℕ) (r : Bool) → w ≡ joined (length domains) (wrongIn domains slot) → w ≡ 0 → subproblemOf n slot .marked < 2 ^ n
+      → r ≡ every n (markObeys n (tableOf n d tables) (subproblemOf n slot)) → r ≡ obeys (problemOf n d domains tables) (subproblemOf n slot)
+  unfolding obeys
+  slot-marked w r e z h s = simp (lt-ltb (subproblemOf n slot .marked) (2 ^ n) h, and-true) (s ∙ slot-all w e z)
+
+-- ---- the marks of a slot
+
+module _ (n d : ℕ) (domains tables slot : List ℕ) (marked : ℕ) (few : n ≤ 32) (same : marked ≡ getD slot n 0 * 65536 + getD slot (n + 1) 0) where
+  pub slot-marks : marked ≡ subproblemOf n slot .marked
+  unfolding subproblemOf holding
+  slot-marks = same
+
+  -- none stands at n or above
+  pub marks-in : marked < 1 * 2 ^ n % 2 ^ 64 → subproblemOf n slot .marked < 2 ^ n
+  marks-in h = rw (shifted n few, slot-marks) at h
+
+  -- one does
+  pub slot-over : 1 * 2 ^ n % 2 ^ 64 ≤ marked → false ≡ obeys (problemOf n d domains tables) (subproblemOf n slot)
+  unfolding obeys
+  slot-over h = simp (le-ltb (subproblemOf n slot .marked) (2 ^ n) (rw (shifted n few, slot-marks) at h), and-false)

@@ -1,0 +1,306 @@
+-- Where kind 3 leaves several pieces: the loop that goes down through the variables places the further piece of each, and drops it where nothing is
+-- left of its variable. Assumes nothing.
+use mathlib.Core.Path.{_≡_, refl, sym, ap, _∙_, subst}
+use mathlib.Core.Bool.{true, false, not, cond, _&&_}
+use mathlib.Core.List.{List}
+use Prim.Native.Nat.{ℕ, suc, _+_, _-_, _*_, _^_, _≤_, _<_}
+use native.Mathlib.Omega.{arith}
+use native.Mathlib.Decide.{decLt, ℕ-discrete}
+use lib.ListN.{length, getD, set, length-set}
+use lib.Seq.{getD-set-same, getD-set-other, set-set, set-getD, ext-getD}
+use lib.Dec.{eqb}
+use borrow.Author.Tests.{eq-eqb, ne-eqb, le-leb, lt-ltb}
+use Rattle.splits.specs.Masks.{single, common, minus}
+use Rattle.splits.specs.Problem.{tableOf}
+use Rattle.splits.specs.Subproblems.{domain, empty}
+use Rattle.splits.specs.Splits.{changed, without, cut, cutBeside, disjunct, inferred, pieces, candidates, candidate}
+use Rattle.splits.specs.Calls.{readable, Piece, Candidates}
+use Rattle.splits.specs.Work.Loops.{precludedEmpty}
+use Rattle.splits.specs.declared.subproblem.Subproblem.{Subproblem}
+use Rattle.splits.proofs.Masks.{common-none, none-common, not-minus, minus-part, part-lt}
+use Rattle.splits.proofs.Tests.{true-false, some-none, some-all-not}
+use Rattle.splits.proofs.Loops.{changed-more, changed-next}
+use Rattle.splits.proofs.Domains.{length-changed, changed-before, changed-after}
+use Rattle.splits.proofs.Subproblems.{empty-at, precluded-empty}
+use Rattle.search.specs.Agenda.{slotWords}
+use Rattle.search.specs.Chooser.{request}
+use Rattle.search.specs.Work.Slots.{splice, SlotIn}
+use Rattle.search.specs.Work.Steps.{Placed}
+use Rattle.search.specs.Work.Lanes.{cutTo}
+use Rattle.search.specs.Work.Found.{Putting, requestBy, precludedBy, several}
+use Rattle.search.specs.declared.choice.Choice.{Choice}
+use Rattle.search.proofs.Gathering.{Gathered, gather-none, gather-drop, gather-slot, gather-keep, gather-end}
+use Rattle.search.proofs.AtOnce.{word}
+use Rattle.search.proofs.Lone.{some-left}
+use Rattle.search.proofs.Settling.{several-kept, several-more, put-variable, put-member, put-placing, put-three, put-precluded}
+
+-- A word cut to all 16 values, and without them.
+all-common : (x : ℕ) → x < 2 ^ 16 → common x 65535 ≡ x
+unfolding minus
+all-common x h = not-minus 16 x 0 h (omega arith) ∙ rw (common-none x) (omega arith)
+
+minus-all : (x : ℕ) → x < 2 ^ 16 → minus x 65535 ≡ 0
+unfolding minus
+minus-all x h = rw (all-common x h) (omega arith)
+
+module _ (n d : ℕ) (t : List ℕ) (P : Subproblem) (c : Choice) (below words : ℕ) (h : Putting n d t P c below words) (s : several c ≡ true) where
+  abbrev r : List ℕ
+  r = request 3 (c .variable) (c .value)
+
+  -- V without v; and the variables before j cut to what is allowed beside it.
+  less : List ℕ
+  less = without P (c .variable) (single (c .value)) .domains
+
+  besides : ℕ → ℕ → ℕ
+  besides i m = cond (eqb i (c .variable)) m (common m (tableOf n d t (c .variable) i (c .value)))
+
+  abbrev pub cutDown : ℕ → List ℕ
+  cutDown j = cutBeside (tableOf n d t) (without P (c .variable) (single (c .value))) (c .variable) (c .value) j .domains
+
+  cut-is : (j : ℕ) → cutDown j ≡ changed j besides less
+  unfolding cutBeside besides less
+  cut-is j = refl
+
+  below-n : c .variable < n
+  below-n = put-variable n d t P c below words h
+
+  few : n ≤ 32
+  few = h .fitting .few
+
+  long : length less ≡ 32
+  unfolding less without
+  long = length-set (P .domains) (c .variable) _ ∙ h .regular .shape .long
+
+  -- What it holds at V and elsewhere.
+  less-own : getD less (c .variable) 0 ≡ minus (domain P (c .variable)) (single (c .value))
+  unfolding less without
+  less-own = getD-set-same (P .domains) (c .variable) _ 0 (omega (arith, below-n, few, h .regular .shape .long))
+
+  less-other : (i : ℕ) → (i ≡ c .variable → ⊥) → getD less i 0 ≡ domain P i
+  unfolding less without
+  less-other i k = getD-set-other (P .domains) (c .variable) i _ 0 k
+
+  less-word : (i : ℕ) → getD less i 0 < 2 ^ 16
+  less-word i = elim (ℕ-discrete i (c .variable)) [
+    | yes e ↦ rw (e, less-own) (part-lt 16 (minus (domain P (c .variable)) (single (c .value))) (domain P (c .variable)) (minus-part (domain P (c .variable)) (single (c .value))) (word n d P few (h .fitting .small) (h .regular) (c .variable)))
+    | no k ↦ rw (less-other i k) (word n d P few (h .fitting .small) (h .regular) i)
+  ]
+
+  less-past : (i : ℕ) → n ≤ i → getD less i 0 ≡ 0
+  less-past i k = less-other i (λ e. omega (arith, below-n)) ∙ h .regular .shape .past i k
+
+  less-some : (i : ℕ) → i < n → getD less i 0 ≡ 0 → ⊥
+  less-some i l z = elim (ℕ-discrete i (c .variable)) [
+    | yes e ↦ some-left n d (tableOf n d t) P (c .variable) (c .value) few (h .regular) below-n (put-member n d t P c below words h) (several-more n d t P c (h .found) s)
+        (sym less-own ∙ rw e at z)
+    | no k ↦ h .regular .filled i l (sym (less-other i k) ∙ z)
+  ]
+
+  -- What is allowed leaves something of each other variable.
+  cut-some : (i : ℕ) → i < n → (i ≡ c .variable → ⊥) → common (domain P i) (tableOf n d t (c .variable) i (c .value)) ≡ 0 → ⊥
+  unfolding precludedEmpty
+  cut-some i l k z =
+      let none : precludedEmpty n (tableOf n d t) P (c .variable) (c .value) ≡ false =
+      precluded-empty n (tableOf n d t) P (c .variable) (c .value) (h .regular .shape .long) below-n few ∙ sym (h .found .none) ∙ several-kept c s in
+      let at = some-none (λ i. not (eqb i (c .variable)) && eqb (common (domain P i) (tableOf n d t (c .variable) i (c .value))) 0) n i l none in
+      true-false (rw (ne-eqb i (c .variable) k, eq-eqb (common (domain P i) (tableOf n d t (c .variable) i (c .value))) 0 z) at at)
+
+  -- Kind 3's words, room and places.
+  reads : readable n d t r ≡ true
+  reads = put-placing n d t P c below words h s .reads
+
+  room : (below + length (pieces n (tableOf n d t) P r)) * (n + 2) ≤ words
+  room = put-placing n d t P c below words h s .room
+
+  its-named : Candidates n r (n + 1)
+  unfolding candidates
+  its-named = rw (le-leb n 32 few) refl
+
+  piece-of : (k : ℕ) (Q : Subproblem) → k < n + 1 → Q ≡ candidate n (tableOf n d t) P r k → Piece P n d t r k Q
+  unfolding candidates
+  piece-of k Q l e = e ∙ rw (reads, lt-ltb k (n + 1) l) refl
+
+  -- V's own candidate is empty.
+  own-empty : empty n (cut P (c .variable) 0) ≡ true
+  unfolding cut
+  own-empty =
+      sym (empty-at n (cut P (c .variable) 0) (c .variable) below-n
+      (getD-set-same (P .domains) (c .variable) _ 0 (omega (arith, below-n, few, h .regular .shape .long)) ∙ common-none (domain P (c .variable))))
+
+  -- ---- the arrays of the loop
+
+  module _ (D less′ beside : List ℕ) (its : less′ ≡ without P (c .variable) (getD (c .row) (c .variable) 0) .domains) (row : beside ≡ set (c .row) (c .variable) 65535) where
+    less-is : less′ ≡ less
+    unfolding less
+    less-is = its ∙ rw (h .found .row .own) refl
+
+    beside-own : getD beside (c .variable) 0 ≡ 65535
+    beside-own = rw row (getD-set-same (c .row) (c .variable) 65535 0 (omega (arith, below-n, few, h .found .row .long)))
+
+    beside-other : (i : ℕ) → i < n → (i ≡ c .variable → ⊥) → getD beside i 0 ≡ tableOf n d t (c .variable) i (c .value)
+    beside-other i l k = rw row (getD-set-other (c .row) (c .variable) i 65535 0 k) ∙ h .found .row .other i l k
+
+    -- At the start all variables are cut.
+    pub spread-start : D ≡ cutTo less′ beside 32 → D ≡ cutDown n
+    unfolding cutTo besides
+    spread-start e = e ∙ rw less-is (ext-getD 0 _ _ both at) ∙ sym (cut-is n)
+      where
+        cutAll : ℕ → ℕ → ℕ
+        cutAll j m = common m (getD beside j 0)
+
+        both : length (changed 32 cutAll less) ≡ length (changed n besides less)
+        both = length-changed 32 cutAll less ∙ sym (length-changed n besides less)
+
+        at : (i : ℕ) → i < length (changed 32 cutAll less) → getD (changed 32 cutAll less) i 0 ≡ getD (changed n besides less) i 0
+        at i l =
+            let k : i < 32 = omega (arith, length-changed 32 cutAll less, long) in
+            changed-before 32 cutAll less i k (omega (arith, long)) ∙ elim (decLt i n) [
+              | yes q ↦ elim (ℕ-discrete i (c .variable)) [
+                | yes e ↦ rw (changed-before n besides less i q (omega (arith, long)), e, beside-own, eq-eqb (c .variable) (c .variable) refl) (all-common (getD less (c .variable) 0) (less-word (c .variable)))
+                | no w ↦ rw (changed-before n besides less i q (omega (arith, long)), ne-eqb i (c .variable) w, beside-other i q w) refl
+              ]
+              | no q ↦ rw (changed-after n besides less i (omega arith), less-past i (omega arith)) (none-common (getD beside i 0))
+            ]
+
+    -- A variable less is cut.
+    pub spread-next : (j w : ℕ) → D ≡ cutDown j → 0 < j → w ≡ getD less′ (j - 1) 0 → set D (j - 1) w ≡ cutDown (j - 1)
+    spread-next j w e l f =
+        let up : suc (j - 1) ≡ j = omega arith in
+        let one : changed j besides less ≡ set (changed (j - 1) besides less) (j - 1) (besides (j - 1) (getD less (j - 1) 0)) =
+        ap (λ (k : ℕ). changed k besides less) (sym up) ∙ sym (changed-more (j - 1) besides less) in
+        let still : w ≡ getD (changed (j - 1) besides less) (j - 1) 0 = f ∙ rw less-is (sym (changed-next (j - 1) besides less)) in
+        rw (e, cut-is j, cut-is (j - 1), one, still)
+        (set-set (changed (j - 1) besides less) (j - 1) _ _ ∙ set-getD (changed (j - 1) besides less) (j - 1) 0)
+
+    -- ---- the piece of a variable
+    module _ (j w rest : ℕ) (l : 0 < j) (le : j ≤ n) (f : w ≡ getD less′ (j - 1) 0) (g : rest ≡ minus w (getD beside (j - 1) 0)) where
+      at-word : w ≡ getD less (j - 1) 0
+      at-word = f ∙ rw less-is refl
+
+      other-rest : (j - 1 ≡ c .variable → ⊥) → rest ≡ minus (getD less (j - 1) 0) (tableOf n d t (c .variable) (j - 1) (c .value))
+      other-rest k = g ∙ rw (at-word, beside-other (j - 1) (omega arith) k) refl
+
+      -- V's own has nothing left.
+      pub rest-other : (rest ≡ 0 → ⊥) → j - 1 ≡ c .variable → ⊥
+      rest-other k e = k (g ∙ rw (at-word, e, beside-own) (minus-all (getD less (c .variable) 0) (less-word (c .variable))))
+
+      -- The candidate in its place.
+      candidate-own : j - 1 ≡ c .variable → candidate n (tableOf n d t) P r j ≡ cut P (c .variable) 0
+      unfolding candidate inferred
+      candidate-own e = rw (ne-eqb j 0 (λ z. omega arith), eq-eqb (j - 1) (c .variable) e) refl
+
+      candidate-other : (j - 1 ≡ c .variable → ⊥) → candidate n (tableOf n d t) P r j ≡ disjunct (tableOf n d t) P (c .variable) (c .value) (j - 1)
+      unfolding candidate inferred
+      candidate-other e = rw (ne-eqb j 0 (λ z. omega arith), ne-eqb (j - 1) (c .variable) e) refl
+
+      -- What the further piece holds for its own variable, and for another.
+      here : domain (disjunct (tableOf n d t) P (c .variable) (c .value) (j - 1)) (j - 1)
+          ≡ minus (getD less (j - 1) 0) (tableOf n d t (c .variable) (j - 1) (c .value))
+      unfolding disjunct without
+      here =
+          getD-set-same (cutDown (j - 1)) (j - 1) _ 0 (rw (cut-is (j - 1), length-changed (j - 1) besides less) (omega (arith, long, few)))
+          ∙ ap (λ (m : ℕ). minus m (tableOf n d t (c .variable) (j - 1) (c .value))) (rw (cut-is (j - 1)) (changed-next (j - 1) besides less))
+
+      elsewhere : (i : ℕ) → (i ≡ j - 1 → ⊥) → domain (disjunct (tableOf n d t) P (c .variable) (c .value) (j - 1)) i ≡ getD (changed (j - 1) besides less) i 0
+      unfolding disjunct without
+      elsewhere i k = getD-set-other (cutDown (j - 1)) (j - 1) i _ 0 k ∙ rw (cut-is (j - 1)) refl
+
+      -- The candidate is empty where nothing is left.
+      none-left : rest ≡ 0 → empty n (candidate n (tableOf n d t) P r j) ≡ true
+      none-left z = elim (ℕ-discrete (j - 1) (c .variable)) [
+        | yes e ↦ rw (candidate-own e) own-empty
+        | no k ↦ rw (candidate-other k) (sym (empty-at n (disjunct (tableOf n d t) P (c .variable) (c .value) (j - 1)) (j - 1) (omega arith) (here ∙ sym (other-rest k) ∙ z)))
+      ]
+
+      -- It is not where something is.
+      some-rest : (rest ≡ 0 → ⊥) → empty n (candidate n (tableOf n d t) P r j) ≡ false
+      unfolding empty besides
+      some-rest k =
+          rw (candidate-other (rest-other k))
+          (some-all-not (λ i. eqb (domain (disjunct (tableOf n d t) P (c .variable) (c .value) (j - 1)) i) 0) n (λ i q. ne-eqb _ 0 (at i q)))
+        where
+          at : (i : ℕ) → i < n → domain (disjunct (tableOf n d t) P (c .variable) (c .value) (j - 1)) i ≡ 0 → ⊥
+          at i q z = elim (ℕ-discrete i (j - 1)) [
+            | yes e ↦ k (other-rest (rest-other k) ∙ sym here ∙ rw e at z)
+            | no w ↦ elim (decLt i (j - 1)) [
+              | yes b ↦
+                  let m : cond (eqb i (c .variable)) (getD less i 0) (common (getD less i 0) (tableOf n d t (c .variable) i (c .value))) ≡ 0 =
+                  sym (changed-before (j - 1) besides less i b (omega (arith, long, few))) ∙ sym (elsewhere i w) ∙ z in
+                  elim (ℕ-discrete i (c .variable)) [
+                    | yes e ↦ less-some i q (rw (eq-eqb i (c .variable) e) at m)
+                    | no o ↦ cut-some i q o (rw (ne-eqb i (c .variable) o, less-other i o) at m)
+                  ]
+              | no b ↦ less-some i q (sym (changed-after (j - 1) besides less i (omega arith)) ∙ sym (elsewhere i w) ∙ z)
+            ]
+          ]
+
+      -- The piece that the code makes is the candidate.
+      made-is : (E : List ℕ) (Q : Subproblem) → (rest ≡ 0 → ⊥) → E ≡ cutDown (j - 1) → Q ≡ record { domains = set E (j - 1) rest; marked = P .marked }
+          → Q ≡ candidate n (tableOf n d t) P r j
+      unfolding disjunct without cutBeside
+      made-is E Q k e q =
+          let own : rest ≡ minus (getD (cutDown (j - 1)) (j - 1) 0) (tableOf n d t (c .variable) (j - 1) (c .value)) =
+          other-rest (rest-other k) ∙ ap (λ (m : ℕ). minus m (tableOf n d t (c .variable) (j - 1) (c .value))) (sym (rw (cut-is (j - 1)) (changed-next (j - 1) besides less))) in
+          let same : record { domains = set E (j - 1) rest; marked = P .marked } ≡ disjunct (tableOf n d t) P (c .variable) (c .value) (j - 1) =
+          λ i. record { domains = set (e i) (j - 1) (own i); marked = P .marked } in
+          q ∙ same ∙ sym (candidate-other (rest-other k))
+
+      -- ---- a turn of the loop
+      module _ (before agenda : List ℕ) (at : ℕ) (whole : length before ≡ words) (so-far : Gathered n d t P r before below agenda at (j + 1)) where
+        back : (j + 1) - 1 ≡ j
+        back = omega arith
+
+        down : (j + 1) - 1 ≡ (j - 1) + 1
+        down = omega arith
+
+        pub spread-drop : rest ≡ 0 → Gathered n d t P r before below agenda at ((j - 1) + 1)
+        spread-drop z =
+            subst (λ (k : ℕ). Gathered n d t P r before below agenda at k) down
+            (gather-drop n d t P r reads before below agenda at (j + 1) so-far (n + 1) its-named (omega arith) (omega arith)
+            (candidate n (tableOf n d t) P r j) (subst (λ (k : ℕ). Piece P n d t r k (candidate n (tableOf n d t) P r j)) (sym back) (piece-of j _ (omega arith) refl))
+            true (sym (none-left z)) refl)
+
+        module _ (E : List ℕ) (Q : Subproblem) (k : rest ≡ 0 → ⊥) (e : E ≡ cutDown (j - 1)) (q : Q ≡ record { domains = set E (j - 1) rest; marked = P .marked }) where
+          its-piece : Piece P n d t r ((j + 1) - 1) Q
+          its-piece = subst (λ (i : ℕ). Piece P n d t r i Q) (sym back) (piece-of j Q (omega arith) (made-is E Q k e q))
+
+          its-filled : false ≡ empty n Q
+          its-filled = sym (rw (made-is E Q k e q) (some-rest k))
+
+          pub spread-slot : SlotIn n at (length agenda)
+          spread-slot =
+              gather-slot n d t P r reads before below agenda at (j + 1) so-far (n + 1) its-named (omega arith) (omega arith) Q its-piece false its-filled refl few
+              (rw whole (room))
+
+          pub spread-keep : (after : List ℕ) → length (Q .domains) ≡ 32 → after ≡ splice agenda (at * (n + 2)) (slotWords n Q) → length after ≡ length agenda
+              → Gathered n d t P r before below after (at + 1) ((j - 1) + 1)
+          spread-keep after l w m =
+              subst (λ (i : ℕ). Gathered n d t P r before below after (at + 1) i) down
+              (gather-keep n d t P r reads before below agenda at (j + 1) so-far (n + 1) its-named (omega arith) (omega arith) Q its-piece false its-filled refl after few
+              (rw whole (room)) l w m)
+
+  -- ---- the start and the end
+  module _ (before : List ℕ) (whole : length before ≡ words) where
+    pub spread-none : Gathered n d t P r before below before below (n + 1)
+    spread-none = gather-none n d t P r reads before below (n + 1) (h .regular .shape .long) its-named
+
+    module _ (agenda : List ℕ) (at j : ℕ) (so-far : Gathered n d t P r before below agenda at (j + 1)) (end : j ≡ 0) (Q : Subproblem) (q : Q ≡ precludedBy P c) where
+      first : Gathered n d t P r before below agenda at 1
+      first = subst (λ (k : ℕ). Gathered n d t P r before below agenda at k) (omega arith) so-far
+
+      is-first : Q ≡ candidate n (tableOf n d t) P r 0
+      unfolding candidate inferred
+      is-first = q ∙ put-precluded n d t P c below words h
+
+      first-filled : false ≡ empty n Q
+      first-filled = sym (rw (q ∙ put-precluded n d t P c below words h) (sym (h .found .none) ∙ several-kept c s))
+
+      pub spread-last : SlotIn n at (length agenda)
+      spread-last = gather-slot n d t P r reads before below agenda at 1 first (n + 1) its-named (omega arith) (omega arith) Q (piece-of 0 Q (omega arith) is-first) false first-filled refl few (rw whole room)
+
+      pub spread-end : (after : List ℕ) → length (Q .domains) ≡ 32 → after ≡ splice agenda (at * (n + 2)) (slotWords n Q) → length after ≡ length agenda
+          → Placed n (pieces n (tableOf n d t) P (requestBy c)) below before after (at + 1)
+      spread-end after l w m =
+          rw (put-three n d t P c below words h s)
+          (gather-end n d t P r reads before below after (at + 1) 0
+          (gather-keep n d t P r reads before below agenda at 1 first (n + 1) its-named (omega arith) (omega arith) Q (piece-of 0 Q (omega arith) is-first) false first-filled refl after few (rw whole room) l w m) refl)

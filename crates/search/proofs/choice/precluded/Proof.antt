@@ -1,0 +1,21 @@
+-- `search::choice::precluded` meets its contract.
+-- Assumes nothing.
+use Rattle.search.proofs.Settling.{precluded-made}
+use borrow.Author.Needs.{needs}
+use Rattle.search.proofs.choice.precluded.Statement.{statement}
+use Rattle.search.proofs.choice.precluded.Tie as tie
+
+cut-requires : tie.Need-cut-requires
+cut-requires c κs = search needs
+
+cast-t6 : tie.Need-cast-t6
+cast-t6 c = search needs
+
+shl-t7 : tie.Need-shl-t7
+shl-t7 c = search needs
+
+returns : tie.Need-returns
+returns c = precluded-made _ _ _ (c .before .before .before .before .before .pre) (c .before .before .cut .ensures)
+
+pub precluded-spec : {M : Type 1} → statement M
+precluded-spec = tie.close (tie.spec cut-requires cast-t6 shl-t7 returns)

@@ -1,0 +1,73 @@
+-- `search::choice::settle` meets its contract.
+-- Assumes nothing.
+use mathlib.Core.Path.{_≡_}
+use lib.ListN.{length}
+use Rattle.search.proofs.Settling.{settle-kept, settle-none, settle-rest}
+use borrow.Author.Needs.{needs}
+use Rattle.search.proofs.choice.settle.Statement.{statement}
+use Rattle.search.proofs.choice.settle.Tie as tie
+
+precluded-requires : tie.Need-precluded-requires
+precluded-requires c κs = search needs
+
+write-slot-requires : tie.Need-write-slot-requires
+write-slot-requires c κs = search needs
+
+add-result : tie.Need-add-result
+add-result c = search needs
+
+same-length : tie.Need-same-length
+same-length c = search needs
+
+returns : tie.Need-returns
+returns c = let long : length (c .before .before .before .precluded .result .domains) ≡ 32 = search needs in settle-kept _ _ _ _ _ _ (c .before .before .before .before .before .before .before .before .pre .1) (c .before .before .before .before .before .if1 .taken) _ (c .before .before .before .precluded .ensures) long (c .before .before .write-slot .ensures)
+
+clear-slot-requires : tie.Need-clear-slot-requires
+clear-slot-requires c κs = search needs
+
+same-length-2 : tie.Need-same-length-2
+same-length-2 c = search needs
+
+returns-2 : tie.Need-returns-2
+returns-2 c = settle-none _ _ _ _ _ _ (c .before .before .before .before .before .before .before .before .before .pre .1) (c .before .before .before .before .before .before .if1 .left) (c .before .before .before .before .if2 .taken) (c .before .before .clear-slot .ensures)
+
+mul-without : tie.Need-mul-without
+mul-without c = search needs
+
+array-read-without : tie.Need-array-read-without
+array-read-without c = search needs
+
+without-requires : tie.Need-without-requires
+without-requires c κs = search needs
+
+write-slot-requires-2 : tie.Need-write-slot-requires-2
+write-slot-requires-2 c κs = search needs
+
+add-result-2 : tie.Need-add-result-2
+add-result-2 c = search needs
+
+same-length-3 : tie.Need-same-length-3
+same-length-3 c = search needs
+
+returns-3 : tie.Need-returns-3
+returns-3 c = let long : length (c .before .before .before .without .result .domains) ≡ 32 = search needs in settle-rest _ _ _ _ _ _ (c .before .before .before .before .before .before .before .before .before .before .before .pre .1) (c .before .before .before .before .before .before .before .before .if1 .left) (c .before .before .before .before .before .before .if2 .left) _ (c .before .before .before .without .ensures) long (c .before .before .write-slot2 .ensures)
+
+pub settle-spec : {M : Type 1} → statement M
+settle-spec =
+    tie.close
+    (tie.spec
+    precluded-requires
+    write-slot-requires
+    add-result
+    same-length
+    returns
+    clear-slot-requires
+    same-length-2
+    returns-2
+    mul-without
+    array-read-without
+    without-requires
+    write-slot-requires-2
+    add-result-2
+    same-length-3
+    returns-3)

@@ -1,0 +1,26 @@
+-- `first::by_four` meets its contract: the definition follows the calls.
+-- Assumes nothing.
+use borrow.Author.Needs.{needs}
+use Rattle.search.specs.Work.FirstTests.{byFour}
+use Rattle.search.proofs.first.by_four.Statement.{statement}
+use Rattle.search.proofs.first.by_four.Tie as tie
+
+risen-requires : tie.Need-risen-requires
+risen-requires c κs = search needs
+
+sunk-requires : tie.Need-sunk-requires
+sunk-requires c κs = search needs
+
+risen-requires-2 : tie.Need-risen-requires-2
+risen-requires-2 c κs = search needs
+
+sunk-requires-2 : tie.Need-sunk-requires-2
+sunk-requires-2 c κs = search needs
+
+returns : tie.Need-returns
+unfolding byFour
+returns c = cc
+
+pub by-four-spec : {M : Type 1} → statement M
+by-four-spec =
+    tie.close (tie.spec risen-requires sunk-requires risen-requires-2 sunk-requires-2 returns)

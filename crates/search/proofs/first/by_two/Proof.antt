@@ -1,0 +1,19 @@
+-- `first::by_two` meets its contract: the definition follows the calls.
+-- Assumes nothing.
+use borrow.Author.Needs.{needs}
+use Rattle.search.specs.Work.FirstTests.{byTwo}
+use Rattle.search.proofs.first.by_two.Statement.{statement}
+use Rattle.search.proofs.first.by_two.Tie as tie
+
+sunk-requires : tie.Need-sunk-requires
+sunk-requires c κs = search needs
+
+risen-requires : tie.Need-risen-requires
+risen-requires c κs = search needs
+
+returns : tie.Need-returns
+unfolding byTwo
+returns c = cc
+
+pub by-two-spec : {M : Type 1} → statement M
+by-two-spec = tie.close (tie.spec sunk-requires risen-requires returns)

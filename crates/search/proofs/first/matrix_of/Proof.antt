@@ -1,0 +1,26 @@
+-- `first::matrix_of` meets its contract: the definition follows the calls.
+-- Assumes nothing.
+use borrow.Author.Needs.{needs}
+use Rattle.search.specs.Work.FirstTests.{matrixOf}
+use Rattle.search.proofs.first.matrix_of.Statement.{statement}
+use Rattle.search.proofs.first.matrix_of.Tie as tie
+
+four-requires : tie.Need-four-requires
+four-requires c κs = search needs
+
+four-requires-2 : tie.Need-four-requires-2
+four-requires-2 c κs = search needs
+
+four-requires-3 : tie.Need-four-requires-3
+four-requires-3 c κs = search needs
+
+four-requires-4 : tie.Need-four-requires-4
+four-requires-4 c κs = search needs
+
+returns : tie.Need-returns
+unfolding matrixOf
+returns c = cc
+
+pub matrix-of-spec : {M : Type 1} → statement M
+matrix-of-spec =
+    tie.close (tie.spec four-requires four-requires-2 four-requires-3 four-requires-4 returns)

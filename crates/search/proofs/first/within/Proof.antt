@@ -1,0 +1,48 @@
+-- `first::within` meets its contract: the definition follows the calls.
+-- Assumes nothing.
+use borrow.Author.Needs.{needs}
+use Rattle.search.specs.Work.FirstTests.{within}
+use Rattle.search.proofs.first.within.Statement.{statement}
+use Rattle.search.proofs.first.within.Tie as tie
+
+by-one-requires : tie.Need-by-one-requires
+by-one-requires c κs = search needs
+
+by-two-requires : tie.Need-by-two-requires
+by-two-requires c κs = search needs
+
+by-one-requires-2 : tie.Need-by-one-requires-2
+by-one-requires-2 c κs = search needs
+
+by-two-requires-2 : tie.Need-by-two-requires-2
+by-two-requires-2 c κs = search needs
+
+by-one-requires-3 : tie.Need-by-one-requires-3
+by-one-requires-3 c κs = search needs
+
+by-two-requires-3 : tie.Need-by-two-requires-3
+by-two-requires-3 c κs = search needs
+
+by-one-requires-4 : tie.Need-by-one-requires-4
+by-one-requires-4 c κs = search needs
+
+by-two-requires-4 : tie.Need-by-two-requires-4
+by-two-requires-4 c κs = search needs
+
+returns : tie.Need-returns
+unfolding within
+returns c = cc
+
+pub within-spec : {M : Type 1} → statement M
+within-spec =
+    tie.close
+    (tie.spec
+    by-one-requires
+    by-two-requires
+    by-one-requires-2
+    by-two-requires-2
+    by-one-requires-3
+    by-two-requires-3
+    by-one-requires-4
+    by-two-requires-4
+    returns)

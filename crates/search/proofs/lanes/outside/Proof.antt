@@ -1,0 +1,11 @@
+-- `search::lanes::outside` meets its contract.
+-- Assumes nothing.
+use Rattle.splits.proofs.Masks.{not-minus}
+use Rattle.search.proofs.lanes.outside.Statement.{statement}
+use Rattle.search.proofs.lanes.outside.Tie as tie
+
+returns : tie.Need-returns
+returns c = not-minus 16 (c .args .domain) (c .args .mask) (c .fits .domain .fits) (c .fits .mask .fits)
+
+pub outside-spec : {M : Type 1} → statement M
+outside-spec = tie.close (tie.spec returns)
