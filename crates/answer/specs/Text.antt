@@ -17,7 +17,7 @@ unfoldable pub decimalOf : ℕ → ℕ → List ℕ
 decimalOf zero x = (48 + x % 10) ∷ []
 decimalOf (suc more) x = cond (ltb x 10) ((48 + x) ∷ []) (decimalOf more (x / 10) ++ ((48 + x % 10) ∷ []))
 
--- A number has fewer digits after the first than it counts.
+-- A number has no more digits after the first than it counts, so that these are enough.
 unfoldable pub decimal : ℕ → List ℕ
 decimal x = decimalOf x x
 
