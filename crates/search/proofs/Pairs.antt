@@ -1,14 +1,14 @@
 -- The masks of two variables, one way and the other: their words as they are read, and what is allowed one way only.
 -- Assumes nothing.
-use mathlib.Core.Path.{_≡_, refl, sym, ap, _∙_}
-use mathlib.Core.Bool.{Bool, true, false, cond, _&&_, _||_}
+use mathlib.Core.Path.{_≡_, refl, sym, ap, _∙_, subst}
+use mathlib.Core.Bool.{Bool, true, or-true}
 use mathlib.Core.List.{List, _++_}
 use mathlib.Core.Logic.{⊎-elim}
 use Prim.Native.Nat.{ℕ, zero, suc, _+_, _-_, _*_, _/_, _%_, _^_, _≤_, _<_}
 use native.Mathlib.Omega.{arith}
 use native.Mathlib.Decide.{decLt}
 use native.Mathlib.Nat.{lt-of-lt-of-le, mul-le-mul-right}
-use lib.Dec.{eqb, leb, ltb}
+use lib.Dec.{eqb}
 use lib.Arith.{digits-lt}
 use lib.ListN.{length, getD, take, drop, replicate, length-take, length-drop, List·getD-append}
 use lib.Pow.{pow-pos, pow-mono}
@@ -21,7 +21,7 @@ use Rattle.splits.specs.Work.Ranges.{Sized}
 use Rattle.splits.proofs.Masks.{bit-none, bit-above}
 use Rattle.splits.proofs.Tests.{or-cases, every-at, every-all, same-test}
 use Rattle.search.specs.declared.matrix.Matrix.{Matrix}
-use Rattle.search.specs.Work.Matrices.{rowIn, four, matrixOf, columns, difference}
+use Rattle.search.specs.Work.Matrices.{Words, rowIn, four, matrixOf, columns, difference}
 use Rattle.search.specs.Work.FirstTests.{Narrow, maskBelow, pairBelow, rowBelow, bothWays, valueBothWays, pairBothWays, rowBothWays, joined, padded, oneWay}
 use Rattle.search.proofs.Copies.{drop-zeros}
 use Rattle.search.proofs.Joining.{joined-zero, every-same}
@@ -173,3 +173,19 @@ module _ (n d i j : ℕ) (t : List ℕ) (fit : Sized n d t) (h : i < n) (k : j <
       let long : length part ≡ d = simp (length-take, length-drop) (omega (arith, masks-within)) in
       s ∙ matrix-same (rowIn x) (padded d (tableOf n d t i j))
       (λ a l. ap (λ (y : List ℕ). getD y a 0) e ∙ padded-row part d a (tableOf n d t i j) long masks-at)
+
+-- ---- 16 values
+
+-- of 16 values no word of the tables has a bit too many
+pub words-below : (n d : ℕ) (t : List ℕ) → d ≡ 16 → Words (rowIn t) → every n (rowBelow n d (tableOf n d t)) ≡ true
+unfolding rowBelow pairBelow maskBelow tableOf rowIn
+words-below n d t e w =
+    let most : 2 ^ d ≡ 65536 = ap (λ (x : ℕ). 2 ^ x) e in
+    every-all (rowBelow n d (tableOf n d t)) n (λ i h. every-all (pairBelow d (tableOf n d t) i) n (λ j k.
+    rw (every-all (maskBelow d (tableOf n d t) i j) d (λ a l. lt-ltb (tableOf n d t i j a) (2 ^ d) (rw most (w .small ((i * n + j) * d + a))))) (or-true (eqb i j))))
+
+pub whole-narrow : (n d : ℕ) (t : List ℕ) → d ≡ 16 → Narrow n d t → Narrow n 16 t
+whole-narrow n d t e h = subst (λ (x : ℕ). Narrow n x t) e h
+
+pub whole-row : (n d i : ℕ) (t : List ℕ) (r : Bool) → d ≡ 16 → r ≡ rowBothWays 16 (tableOf n 16 t) i → r ≡ rowBothWays d (tableOf n d t) i
+whole-row n d i t r e h = h ∙ ap (λ (x : ℕ). rowBothWays x (tableOf n x t) i) (sym e)

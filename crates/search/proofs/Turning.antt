@@ -1,31 +1,27 @@
 -- Rows for columns: what the four steps make of 16 rows of 16 bits, four rows to a word. A place is 16 × row + column.
 -- Assumes nothing.
 use mathlib.Core.Path.{_≡_, refl, sym, ap, _∙_}
-use mathlib.Core.Bool.{Bool, true, false, cond, _&&_, _||_}
+use mathlib.Core.Bool.{Bool, true, false, cond, _||_}
 use mathlib.Core.List.{List, [], _∷_, _++_, append-nil}
 use mathlib.Core.Logic.{_⊎_, inl, inr, ⊎-elim}
-use Prim.Native.Nat.{ℕ, zero, suc, _+_, _-_, _*_, _/_, _%_, _^_, _≤_, _<_, min, max}
+use Prim.Native.Nat.{ℕ, zero, suc, _+_, _-_, _*_, _/_, _%_, _^_, _≤_, _<_}
 use native.Mathlib.Omega.{arith}
 use native.Mathlib.Decide.{decLt}
-use native.Mathlib.Nat.{not-suc-le-zero, lt-of-le-of-lt, lt-of-lt-of-le, mul-le-mul-right}
+use native.Mathlib.Nat.{not-suc-le-zero, lt-of-le-of-lt}
 use lib.Bits.{bitAnd, bitOr, bitXor, and-le-l, and-le-r, or-lt, or-add-and, xor-self, xor-add-and}
 use lib.Dec.{eqb, leb, ltb}
-use lib.Arith.{digits-lt}
-use lib.ListN.{length, getD, take, drop, replicate, length-take, length-drop, List·getD-append}
-use lib.Pow.{pow-pos, pow-mono, shl-shr, field, mod-mod-pow, ones-sub-lt}
+use lib.ListN.{length, getD}
+use lib.Pow.{shl-shr, field, mod-mod-pow, ones-sub-lt}
 use lib.Seq.{ext-getD, getD-append-add}
-use borrow.Author.Tests.{eqb-true, leb-true, ltb-true, lt-ltb, le-ltb, eq-eqb}
+use borrow.Author.Tests.{eqb-true, leb-true, ltb-true}
 use Rattle.splits.specs.Masks.{bit}
-use Rattle.splits.specs.Problem.{Table, tableOf}
 use Rattle.splits.specs.Subproblems.{every}
-use Rattle.splits.specs.Work.Ranges.{Sized}
-use Rattle.splits.proofs.Masks.{bit-zero, bit-suc, bit-le, bit-none, bit-common, bit-or, bit-above, bit-ext}
-use Rattle.splits.proofs.Tests.{or-cases, every-at, every-all, same-test}
+use Rattle.splits.proofs.Masks.{bit-zero, bit-suc, bit-le, bit-common, bit-or, bit-above, bit-ext}
+use Rattle.splits.proofs.Tests.{every-at}
 use Rattle.search.specs.declared.matrix.Matrix.{Matrix}
 use Rattle.search.specs.Matrix.{Turned}
 use Rattle.search.specs.Work.Matrices.{rowIn, four, matrixOf, risen, sunk, byOne, byTwo, within, byFour, byEight, columns, difference, wordAt, fourOf, rowsOf, Words}
-use Rattle.search.proofs.Copies.{drop-zeros}
-use Rattle.search.proofs.Joining.{bit-shr, joined-zero, every-same}
+use Rattle.search.proofs.Joining.{bit-shr}
 
 -- ---- digits of shifted words
 

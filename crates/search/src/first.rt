@@ -143,8 +143,19 @@ fn row_below(n: usize, d: usize, tables: &[u16], i: usize) -> bool
     span_below(n, d, tables, i, i + 1, n)
 }
 
-// Whether no mask that is read has.
+// Whether no mask that is read has; of 16 values none can have.
 fn tables_below(n: usize, d: usize, tables: &[u16]) -> bool
+    requires { ⌜ Sized n d (now tables) ⌝ }
+    ensures { λ r. ⌜ r ≡ every n (rowBelow n d (tableOf n d (now (tables .entry)))) ⌝ }
+{
+    if d == 16 {
+        return true;
+    }
+    rows_below(n, d, tables)
+}
+
+// The same, row by row.
+fn rows_below(n: usize, d: usize, tables: &[u16]) -> bool
     requires { ⌜ Sized n d (now tables) ⌝ }
     ensures { λ r. ⌜ r ≡ every n (rowBelow n d (tableOf n d (now (tables .entry)))) ⌝ }
 {
@@ -183,18 +194,25 @@ fn padded(rows: &[u16]) -> [u16; 16]
     all
 }
 
-// The masks of the values of `j` allowed beside each value of `i`; 16 of them are read as they stand.
+// The masks of the values of `j` allowed beside each value of `i`.
 fn matrix_at(n: usize, d: usize, tables: &[u16], i: usize, j: usize) -> Matrix
     requires { ⌜ Sized n d (now tables) × ((i < n) × (j < n)) ⌝ }
     ensures { λ r. ⌜ r ≡ matrixOf (padded d (tableOf n d (now (tables .entry)) i j)) ⌝ }
 {
     let at = (i * n + j) * d;
     let end = at + d;
-    if d == 16 {
-        return matrix::matrix_of(&tables[at..end]);
-    }
     let rows = padded(&tables[at..end]);
     matrix::matrix_of(&rows[..16])
+}
+
+// 16 of them, as they stand.
+fn whole_at(n: usize, tables: &[u16], i: usize, j: usize) -> Matrix
+    requires { ⌜ Sized n 16 (now tables) × ((i < n) × (j < n)) ⌝ }
+    ensures { λ r. ⌜ r ≡ matrixOf (padded 16 (tableOf n 16 (now (tables .entry)) i j)) ⌝ }
+{
+    let at = (i * n + j) * 16;
+    let end = at + 16;
+    matrix::matrix_of(&tables[at..end])
 }
 
 // Bits for the values of `i` and `j` that are allowed one way only; 0 for none.
@@ -208,8 +226,19 @@ fn one_way(n: usize, d: usize, tables: &[u16], i: usize, j: usize) -> u64
     )
 }
 
+// The same of 16 values.
+fn whole_one_way(n: usize, tables: &[u16], i: usize, j: usize) -> u64
+    requires { ⌜ Sized n 16 (now tables) × ((i < n) × (j < n)) ⌝ }
+    ensures { λ r. ⌜ r ≡ oneWay 16 (tableOf n 16 (now (tables .entry))) i j ⌝ }
+{
+    matrix::difference(
+        matrix::columns(whole_at(n, tables, i, j)),
+        whole_at(n, tables, j, i),
+    )
+}
+
 // Whether no value of `i` is with one of a variable before it: so each two variables are looked at once.
-fn row_both_ways(n: usize, d: usize, tables: &[u16], i: usize) -> bool
+fn part_both_ways(n: usize, d: usize, tables: &[u16], i: usize) -> bool
     requires { ⌜ Narrow n d (now tables) × (i < n) ⌝ }
     ensures { λ r. ⌜ r ≡ rowBothWays d (tableOf n d (now (tables .entry))) i ⌝ }
 {
@@ -220,6 +249,31 @@ fn row_both_ways(n: usize, d: usize, tables: &[u16], i: usize) -> bool
         j += 1;
     }
     bits == 0
+}
+
+// The same of 16 values: a loop with no branch in it, so that the machine takes several at once.
+fn whole_both_ways(n: usize, tables: &[u16], i: usize) -> bool
+    requires { ⌜ Narrow n 16 (now tables) × (i < n) ⌝ }
+    ensures { λ r. ⌜ r ≡ rowBothWays 16 (tableOf n 16 (now (tables .entry))) i ⌝ }
+{
+    let mut bits: u64 = 0;
+    let mut j = 0;
+    while j < i {
+        bits = bits | whole_one_way(n, tables, i, j);
+        j += 1;
+    }
+    bits == 0
+}
+
+// Of any number of values.
+fn row_both_ways(n: usize, d: usize, tables: &[u16], i: usize) -> bool
+    requires { ⌜ Narrow n d (now tables) × (i < n) ⌝ }
+    ensures { λ r. ⌜ r ≡ rowBothWays d (tableOf n d (now (tables .entry))) i ⌝ }
+{
+    if d == 16 {
+        return whole_both_ways(n, tables, i);
+    }
+    part_both_ways(n, d, tables, i)
 }
 
 // Whether those of every two variables are allowed both ways or neither.
