@@ -1,30 +1,33 @@
 -- The rules for the subproblem in the words of a slot: its domains together, then its instantiated variables one by one.
 -- Assumes nothing.
 use mathlib.Core.Path.{_≡_, refl, sym, ap, _∙_}
-use mathlib.Core.Bool.{Bool, true, false, not, cond, _&&_, _||_, and-false, and-true}
+use mathlib.Core.Bool.{Bool, true, false, not, cond, _&&_, _||_, and-false, and-true, true≢false}
 use mathlib.Core.List.{List, _++_}
 use Prim.Native.Nat.{ℕ, zero, suc, _+_, _-_, _*_, _/_, _%_, _^_, _≤_, _<_}
 use native.Mathlib.Omega.{arith}
 use native.Mathlib.Decide.{ℕ-discrete, decLt}
-use lib.Bits.{bitAnd}
+use native.Mathlib.Nat.{lt-of-lt-of-le}
+use lib.Pow.{pow-mono}
+use lib.Bits.{bitAnd, and-le-r}
 use lib.Count.{trailingZeros, trailing-le}
 use lib.Dec.{eqb, ltb}
 use lib.ListN.{length, getD, take, replicate, length-take, List·getD-append}
 use lib.Seq.{getD-take}
-use borrow.Author.Tests.{eq-eqb, ne-eqb, eqb-true, lt-ltb, le-ltb, not-true, not-false}
+use borrow.Author.Tests.{eq-eqb, ne-eqb, eqb-true, ltb-true, lt-ltb, le-ltb, not-true, not-false}
 use Rattle.splits.specs.Masks.{bit, minus, size, single, lowest}
 use Rattle.splits.specs.Problem.{Problem, Table, tableOf}
 use Rattle.splits.specs.Subproblems.{domain, every}
 use Rattle.splits.specs.declared.subproblem.Subproblem.{Subproblem}
-use Rattle.splits.proofs.Masks.{bit-le, not-minus, size-of-none, size-single, single-of, lowest-member, trailing-least}
+use Rattle.splits.proofs.Masks.{bit-le, bit-above, not-minus, size-of-none, size-single, single-of, lowest-member, trailing-least}
 use Rattle.splits.proofs.Refusals.{lacks}
 use Rattle.splits.proofs.Subproblems.{shifted}
 use Rattle.splits.proofs.Tests.{and-left, and-right, every-at, every-all, every-not, same-test}
 use Rattle.search.specs.Agenda.{problemOf, holding, subproblemOf}
-use Rattle.search.specs.FirstChecks.{domainObeys, valuesAgree, obeys}
-use Rattle.search.specs.Work.FirstTests.{Next, joined, partWrong, wrongIn, pairAgrees, rowAgrees, markObeys}
+use Rattle.search.specs.FirstChecks.{masksBelow, symmetric, refusalOfProblem, domainObeys, valuesAgree, obeys}
+use Rattle.search.specs.Work.FirstTests.{Next, joined, partWrong, wrongIn, pairAgrees, beforeAgrees, markObeys}
 use Rattle.search.proofs.Joining.{joined-zero, bit-shr}
-use Rattle.search.proofs.Obeying.{agrees-first, agrees-second, row-unmarked}
+use Rattle.search.proofs.Obeying.{agrees-same, agrees-first, agrees-second}
+use Rattle.search.proofs.FirstParts.{Symmetric-at, symmetric-true}
 
 -- ---- one domain
 
@@ -101,31 +104,83 @@ row-next allowed P marked i j next s e h =
 
 -- ---- an instantiated variable
 
-pub mark-none : (n : ℕ) (allowed : Table) (P : Subproblem) (i : ℕ) (b : Bool) → b ≡ eqb (bit (P .marked) i) 1 → not b ≡ true
-    → true ≡ markObeys n allowed P i
-unfolding markObeys
-mark-none n allowed P i b e y = simp (lacks (P .marked) i b e ∙ y, sym (row-unmarked n allowed P i b e y))
+pub mark-none : (allowed : Table) (P : Subproblem) (i : ℕ) (b : Bool) → b ≡ eqb (bit (P .marked) i) 1 → not b ≡ true
+    → true ≡ markObeys allowed P i
+unfolding markObeys beforeAgrees
+mark-none allowed P i b e y =
+    simp (lacks (P .marked) i b e ∙ y, every-all (pairAgrees allowed P i) i (λ j h. sym (agrees-first allowed P i j b e y)))
 
-pub mark-more : (n : ℕ) (allowed : Table) (P : Subproblem) (i m : ℕ) (b s : Bool) → b ≡ eqb (bit (P .marked) i) 1 → not b ≡ false
-    → m ≡ domain P i → s ≡ eqb (size m) 1 → not s ≡ true → false ≡ markObeys n allowed P i
+pub mark-more : (allowed : Table) (P : Subproblem) (i m : ℕ) (b s : Bool) → b ≡ eqb (bit (P .marked) i) 1 → not b ≡ false
+    → m ≡ domain P i → s ≡ eqb (size m) 1 → not s ≡ true → false ≡ markObeys allowed P i
 unfolding markObeys
-mark-more n allowed P i m b s e y d h z =
+mark-more allowed P i m b s e y d h z =
     let some : eqb (size (domain P i)) 1 ≡ false = rw d at (sym h ∙ not-true s z) in
     simp (lacks (P .marked) i b e ∙ y, some)
 
-pub mark-single : (n : ℕ) (allowed : Table) (P : Subproblem) (i m : ℕ) (b s r : Bool) → b ≡ eqb (bit (P .marked) i) 1 → not b ≡ false
-    → m ≡ domain P i → s ≡ eqb (size m) 1 → not s ≡ false → r ≡ rowAgrees n allowed P i → r ≡ markObeys n allowed P i
+pub mark-single : (allowed : Table) (P : Subproblem) (i m : ℕ) (b s r : Bool) → b ≡ eqb (bit (P .marked) i) 1 → not b ≡ false
+    → m ≡ domain P i → s ≡ eqb (size m) 1 → not s ≡ false → r ≡ beforeAgrees allowed P i → r ≡ markObeys allowed P i
 unfolding markObeys
-mark-single n allowed P i m b s r e y d h z q =
+mark-single allowed P i m b s r e y d h z q =
     let one : eqb (size (domain P i)) 1 ≡ true = rw d at (sym h ∙ not-false s z) in
     simp (lacks (P .marked) i b e ∙ y, one) q
 
-pub marks-next : (n : ℕ) (allowed : Table) (P : Subproblem) (marked i next : ℕ) → marked ≡ P .marked → every i (markObeys n allowed P) ≡ true
-    → Next marked i next → every next (markObeys n allowed P) ≡ true
-marks-next n allowed P marked i next s e h =
-    every-on (markObeys n allowed P) i next e (λ k l m.
+pub marks-next : (allowed : Table) (P : Subproblem) (marked i next : ℕ) → marked ≡ P .marked → every i (markObeys allowed P) ≡ true
+    → Next marked i next → every next (markObeys allowed P) ≡ true
+marks-next allowed P marked i next s e h =
+    every-on (markObeys allowed P) i next e (λ k l m.
     let none : bit (P .marked) k ≡ 0 = rw s at (h .none k l m) in
-    sym (mark-none n allowed P k false (sym (ne-eqb (bit (P .marked) k) 1 (λ z. absurd (omega arith)))) refl))
+    sym (mark-none allowed P k false (sym (ne-eqb (bit (P .marked) k) 1 (λ z. absurd (omega arith)))) refl))
+
+-- ---- two variables, either way
+
+-- a part that is not empty of a domain below 2 ^ d has a value below d
+part-value : (d whole m : ℕ) → d ≤ 16 → whole < 2 ^ d → eqb (partWrong whole m) 0 ≡ true → lowest m < d
+unfolding minus
+part-value d whole m small h e =
+    let right = wrong-none whole m in
+    let full : m ≡ 0 → ⊥ = λ z. true≢false (sym (and-left (not (eqb m 0)) (eqb (minus m whole) 0) (sym right ∙ e)) ∙ ap not (eq-eqb m 0 z)) in
+    let within : minus m whole ≡ 0 = eqb-true (minus m whole) 0 (and-right (not (eqb m 0)) (eqb (minus m whole) 0) (sym right ∙ e)) in
+    let narrow : m < 2 ^ d = omega (arith, and-le-r m whole) in
+    let wide : m < 2 ^ 16 = lt-of-lt-of-le narrow (pow-mono small) in
+    elim (decLt (lowest m) d) [
+      | yes l ↦ l
+      | no l ↦ absurd (omega (arith, lowest-member m wide full, bit-above d m (lowest m) narrow (omega arith)))
+    ]
+
+domain-below : (n d : ℕ) (domains tables : List ℕ) → masksBelow (problemOf n d domains tables) ≡ true → (i : ℕ) → i < n → getD domains i 0 < 2 ^ d
+unfolding masksBelow
+domain-below n d domains tables e i l =
+    ltb-true (getD domains i 0) (2 ^ d) (every-at (λ k. ltb (getD domains k 0) (2 ^ d)) n i l (and-left (every n (λ k. ltb (getD domains k 0) (2 ^ d))) _ e))
+
+pair-even : (p : Problem) → symmetric p ≡ true → (i j : ℕ) → i < p .n → j < p .n → (i ≡ j → ⊥)
+    → (a b : ℕ) → a < p .d → b < p .d → bit (p .allowed i j a) b ≡ bit (p .allowed j i b) a
+unfolding Symmetric-at
+pair-even p e i j h k f a b = symmetric-true p e i j h k f a b
+
+pair-turned : (allowed : Table) (P : Subproblem) (i j : ℕ) → (i ≡ j → ⊥)
+    → bit (allowed i j (lowest (domain P i))) (lowest (domain P j)) ≡ bit (allowed j i (lowest (domain P j))) (lowest (domain P i))
+    → pairAgrees allowed P i j ≡ pairAgrees allowed P j i
+unfolding pairAgrees
+pair-turned allowed P i j f e =
+    simp (ne-eqb i j f, ne-eqb j i (λ z. f (sym z)))
+    (ap (λ (x : ℕ). eqb (bit (P .marked) i) 0 || eqb (bit (P .marked) j) 0 || eqb x 1) e
+    ∙ or-swap (eqb (bit (P .marked) i) 0) (eqb (bit (P .marked) j) 0) (eqb (bit (allowed j i (lowest (domain P j))) (lowest (domain P i))) 1))
+  where
+    or-swap : (a b c : Bool) → (a || b || c) ≡ (b || a || c)
+    or-swap true true c = refl
+    or-swap true false c = refl
+    or-swap false true c = refl
+    or-swap false false c = refl
+
+-- what is left where neither 4 nor 5 is deserved
+problem-parts : (p : Problem) → refusalOfProblem p ≡ 0 → (masksBelow p ≡ true) × (symmetric p ≡ true)
+unfolding refusalOfProblem
+problem-parts p e = go (masksBelow p) (symmetric p) e
+  where
+    go : (a b : Bool) → _≡_ {A = ℕ} (cond a (cond b 0 5) 4) 0 → (a ≡ true) × (b ≡ true)
+    go true true h = (refl, refl)
+    go true false h = absurd (omega arith)
+    go false b h = absurd (omega arith)
 
 -- ---- all of a slot
 
@@ -138,31 +193,47 @@ module _ (n d : ℕ) (domains tables slot : List ℕ) (words : length domains �
       rw (slot-domain n slot i (omega arith) l, wrong-none)
 
   -- all that an instantiated variable must be, and all that domains must be beside it
-  slot-all : (w : ℕ) → w ≡ joined (length domains) (wrongIn domains slot) → w ≡ 0
-      → every n (markObeys n (tableOf n d tables) (subproblemOf n slot))
+  slot-all : (w : ℕ) → masksBelow (problemOf n d domains tables) ≡ true → symmetric (problemOf n d domains tables) ≡ true → d ≤ 16
+      → w ≡ joined (length domains) (wrongIn domains slot) → w ≡ 0
+      → every n (markObeys (tableOf n d tables) (subproblemOf n slot))
       ≡ (every n (domainObeys (problemOf n d domains tables) (subproblemOf n slot))
       && every n (λ i. every n (valuesAgree (problemOf n d domains tables) (subproblemOf n slot) i)))
-  unfolding markObeys valuesAgree rowAgrees pairAgrees
-  slot-all w e z =
+  unfolding markObeys valuesAgree beforeAgrees pairAgrees wrongIn
+  slot-all w below even small e z =
       same-test (every n marks) (every n whole && every n rows)
       (λ x. both (every n whole) (every n rows)
-      (every-all whole n (λ i l. slot-parts i l ∙ both (eqb (wrongIn domains slot i) 0) (sized i) (every-at (λ k. eqb (wrongIn domains slot k) 0) n i l none) (and-left (sized i) (rows i) (every-at marks n i l x))))
-      (every-all rows n (λ i l. and-right (sized i) (rows i) (every-at marks n i l x))))
-      (λ x. every-all marks n (λ i l. both (sized i) (rows i)
+      (every-all whole n (λ i l. slot-parts i l ∙ both (eqb (wrongIn domains slot i) 0) (sized i) (every-at (λ k. eqb (wrongIn domains slot k) 0) n i l none) (and-left (sized i) (earlier i) (every-at marks n i l x))))
+      (every-all rows n (λ i l. every-all (pairs i) n (λ j k. elim (decLt j i) [
+        | yes f ↦ every-at (pairs i) i j f (and-right (sized i) (earlier i) (every-at marks n i l x))
+        | no f ↦ elim (ℕ-discrete i j) [
+          | yes s ↦ sym (agrees-same (tableOf n d tables) P i j s)
+          | no s ↦ turned-pair i j l k s ∙ every-at (pairs j) j i (omega arith) (and-right (sized j) (earlier j) (every-at marks n j k x))
+        ]
+      ]))))
+      (λ x. every-all marks n (λ i l. both (sized i) (earlier i)
       (and-right (eqb (wrongIn domains slot i) 0) (sized i) (sym (slot-parts i l) ∙ every-at whole n i l (and-left (every n whole) (every n rows) x)))
-      (every-at rows n i l (and-right (every n whole) (every n rows) x))))
+      (every-all (pairs i) i (λ j k. every-at (pairs i) n j (omega arith) (every-at rows n i l (and-right (every n whole) (every n rows) x))))))
     where
+      P : Subproblem
+      P = subproblemOf n slot
+
       marks : ℕ → Bool
-      marks = markObeys n (tableOf n d tables) (subproblemOf n slot)
+      marks = markObeys (tableOf n d tables) P
 
       whole : ℕ → Bool
-      whole = domainObeys (problemOf n d domains tables) (subproblemOf n slot)
+      whole = domainObeys (problemOf n d domains tables) P
+
+      pairs : ℕ → ℕ → Bool
+      pairs = pairAgrees (tableOf n d tables) P
 
       rows : ℕ → Bool
-      rows i = every n (valuesAgree (problemOf n d domains tables) (subproblemOf n slot) i)
+      rows i = every n (pairs i)
+
+      earlier : ℕ → Bool
+      earlier i = every i (pairs i)
 
       sized : ℕ → Bool
-      sized i = eqb (bit (subproblemOf n slot .marked) i) 0 || eqb (size (domain (subproblemOf n slot) i)) 1
+      sized i = eqb (bit (P .marked) i) 0 || eqb (size (domain P i)) 1
 
       both : (a b : Bool) → a ≡ true → b ≡ true → (a && b) ≡ true
       both a b p q = rw p q
@@ -171,6 +242,14 @@ module _ (n d : ℕ) (domains tables slot : List ℕ) (words : length domains �
       none =
           sym (joined-zero n (wrongIn domains slot))
           ∙ eq-eqb (joined n (wrongIn domains slot)) 0 (ap (λ (k : ℕ). joined k (wrongIn domains slot)) (sym words) ∙ sym e ∙ z)
+
+      value : (i : ℕ) → i < n → lowest (domain P i) < d
+      value i l = rw (← slot-domain n slot i (omega arith) l) (part-value d (getD domains i 0) (getD slot i 0) small
+          (domain-below n d domains tables below i l) (every-at (λ k. eqb (wrongIn domains slot k) 0) n i l none))
+
+      turned-pair : (i j : ℕ) → i < n → j < n → (i ≡ j → ⊥) → pairs i j ≡ pairs j i
+      turned-pair i j l k f = pair-turned (tableOf n d tables) P i j f
+          (pair-even (problemOf n d domains tables) even i j l k f (lowest (domain P i)) (lowest (domain P j)) (value i l) (value j k))
 
   -- something is wrong with the domains
   pub slot-wrong : (w : ℕ) → w ≡ joined (length domains) (wrongIn domains slot) → (w ≡ 0 → ⊥)
@@ -194,10 +273,12 @@ module _ (n d : ℕ) (domains tables slot : List ℕ) (words : length domains �
       go false x = refl
 
   -- nothing is; the instantiated variables decide
-  pub slot-marked : (w : ℕ) (r : Bool) → w ≡ joined (length domains) (wrongIn domains slot) → w ≡ 0 → subproblemOf n slot .marked < 2 ^ n
-      → r ≡ every n (markObeys n (tableOf n d tables) (subproblemOf n slot)) → r ≡ obeys (problemOf n d domains tables) (subproblemOf n slot)
+  pub slot-marked : (w : ℕ) (r : Bool) → refusalOfProblem (problemOf n d domains tables) ≡ 0 → d ≤ 16 → w ≡ joined (length domains) (wrongIn domains slot) → w ≡ 0 → subproblemOf n slot .marked < 2 ^ n
+      → r ≡ every n (markObeys (tableOf n d tables) (subproblemOf n slot)) → r ≡ obeys (problemOf n d domains tables) (subproblemOf n slot)
   unfolding obeys
-  slot-marked w r e z h s = simp (lt-ltb (subproblemOf n slot .marked) (2 ^ n) h, and-true) (s ∙ slot-all w e z)
+  slot-marked w r q small e z h s =
+      let p = problem-parts (problemOf n d domains tables) q in
+      simp (lt-ltb (subproblemOf n slot .marked) (2 ^ n) h, and-true) (s ∙ slot-all w (p .0) (p .1) small e z)
 
 -- ---- the marks of a slot
 

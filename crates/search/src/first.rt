@@ -15,7 +15,7 @@ ghost use Rattle.splits.specs.Work.Ranges.{Sized, Place};
 ghost use Rattle.search.specs.Agenda.{problemOf, subproblemOf, stackOf};
 ghost use Rattle.search.specs.FirstChecks.{refusalOfNumbers, wholeSlots, refusalOfLengths, refusalOfRequests, refusalOfProblem, obeys, allObey, zerosFrom, refusalOfSearch, openRefusal, searchRefusal, runRefusal};
 ghost use Rattle.search.specs.Work.Matrices.{rowIn, matrixOf};
-ghost use Rattle.search.specs.Work.FirstTests.{Fitting, Narrow, SlotFits, Next, joined, domainBelow, spanBelow, rowBelow, rowBothWays, padded, oneWay, partWrong, wrongIn, pairAgrees, rowAgrees, markObeys};
+ghost use Rattle.search.specs.Work.FirstTests.{Fitting, Mirrored, Narrow, SlotFits, Next, joined, domainBelow, spanBelow, rowBelow, rowBothWays, padded, oneWay, partWrong, wrongIn, pairAgrees, beforeAgrees, markObeys};
 
 // The mask of the values of `j` allowed beside value `a` of `i`.
 pub(crate) fn allowed(n: usize, d: usize, tables: &[u16], i: usize, j: usize, a: usize) -> u16
@@ -387,13 +387,13 @@ fn pair_agrees(
     false
 }
 
-// The value of the variable `i` with every other's that is instantiated.
+// The value of the variable `i` with every one's before it that is instantiated: so each two are looked at once.
 fn row_agrees(slot: &[u16], marked: u32, n: usize, d: usize, tables: &[u16], i: usize) -> bool
     requires { ⌜ SlotFits n d (now tables) (now slot) marked × (i < n) ⌝ }
-    ensures { λ r. ⌜ r ≡ rowAgrees n (tableOf n d (now (tables .entry))) (subproblemOf n (now (slot .entry))) i ⌝ }
+    ensures { λ r. ⌜ r ≡ beforeAgrees (tableOf n d (now (tables .entry))) (subproblemOf n (now (slot .entry))) i ⌝ }
 {
     let mut j = next_in(marked, 0);
-    while j < n {
+    while j < i {
         if !pair_agrees(slot, marked, n, d, tables, i, j) {
             return false;
         }
@@ -402,10 +402,10 @@ fn row_agrees(slot: &[u16], marked: u32, n: usize, d: usize, tables: &[u16], i: 
     true
 }
 
-// Whether a variable, if it is instantiated, has one value, and one that agrees with every other's.
+// Whether a variable, if it is instantiated, has one value, and one that agrees with those before it.
 fn mark_obeys(slot: &[u16], marked: u32, n: usize, d: usize, tables: &[u16], i: usize) -> bool
     requires { ⌜ SlotFits n d (now tables) (now slot) marked × (i < n) ⌝ }
-    ensures { λ r. ⌜ r ≡ markObeys n (tableOf n d (now (tables .entry))) (subproblemOf n (now (slot .entry))) i ⌝ }
+    ensures { λ r. ⌜ r ≡ markObeys (tableOf n d (now (tables .entry))) (subproblemOf n (now (slot .entry))) i ⌝ }
 {
     if !is_in(marked, i) {
         return true;
@@ -419,7 +419,7 @@ fn mark_obeys(slot: &[u16], marked: u32, n: usize, d: usize, tables: &[u16], i: 
 // Whether every instantiated variable does.
 fn marks_obey(slot: &[u16], marked: u32, n: usize, d: usize, tables: &[u16]) -> bool
     requires { ⌜ SlotFits n d (now tables) (now slot) marked ⌝ }
-    ensures { λ r. ⌜ r ≡ every n (markObeys n (tableOf n d (now (tables .entry))) (subproblemOf n (now (slot .entry)))) ⌝ }
+    ensures { λ r. ⌜ r ≡ every n (markObeys (tableOf n d (now (tables .entry))) (subproblemOf n (now (slot .entry)))) ⌝ }
 {
     let mut i = next_in(marked, 0);
     while i < n {
@@ -440,7 +440,7 @@ fn marked_of(high: u16, low: u16) -> u32
 
 // Whether the subproblem in the words of a slot obeys the rules.
 fn obeys(slot: &[u16], n: usize, d: usize, domains: &[u16], tables: &[u16]) -> bool
-    requires { ⌜ Fitting n d (now domains) (now tables) × (length (now slot) ≡ n + 2) ⌝ }
+    requires { ⌜ Mirrored n d (now domains) (now tables) × (length (now slot) ≡ n + 2) ⌝ }
     ensures { λ r. ⌜ r ≡ obeys (problemOf n d (now (domains .entry)) (now (tables .entry))) (subproblemOf n (now (slot .entry))) ⌝ }
 {
     let marked = marked_of(slot[n], slot[n + 1]);
@@ -462,7 +462,7 @@ fn all_obey(
     agenda: &[u16],
     count: usize,
 ) -> bool
-    requires { ⌜ Fitting n d (now domains) (now tables) × (count * (n + 2) ≤ length (now agenda)) ⌝ }
+    requires { ⌜ Mirrored n d (now domains) (now tables) × (count * (n + 2) ≤ length (now agenda)) ⌝ }
     ensures { λ r. ⌜ r ≡ allObey (problemOf n d (now (domains .entry)) (now (tables .entry))) (stackOf n (now (agenda .entry)) count) ⌝ }
 {
     let mut k = 0;
@@ -494,7 +494,7 @@ pub(crate) fn refusal_of_search(
     agenda: &[u16],
     state: State,
 ) -> u32
-    requires { ⌜ Fitting n d (now domains) (now tables) ⌝ }
+    requires { ⌜ Mirrored n d (now domains) (now tables) ⌝ }
     ensures { λ r. ⌜ r ≡ refusalOfSearch (problemOf n d (now (domains .entry)) (now (tables .entry))) (now (agenda .entry)) (state .counts .steps .0) (state .counts .checks .0) (state .subproblems) ⌝ }
 {
     if agenda.len() / (n + 2) < state.subproblems {

@@ -11,14 +11,19 @@ use Rattle.splits.specs.Problem.{Problem, Table, tableOf}
 use Rattle.splits.specs.Subproblems.{domain, every}
 use Rattle.splits.specs.Work.Ranges.{Sized}
 use Rattle.splits.specs.declared.subproblem.Subproblem.{Subproblem}
-use Rattle.search.specs.Agenda.{subproblemOf, slotAt}
-use Rattle.search.specs.FirstChecks.{obeys}
+use Rattle.search.specs.Agenda.{problemOf, subproblemOf, slotAt}
+use Rattle.search.specs.FirstChecks.{refusalOfProblem, obeys}
 use Rattle.search.specs.Work.Matrices.{matrixOf, columns, difference}
 
 -- What refusals 1, 2 and 3 leave of the problem's words.
 pub record Fitting (n d : ℕ) (domains tables : List ℕ) : Type 0 where
   pub sized : Sized n d tables
   pub words : length domains ≡ n
+
+-- What refusals 4 and 5 leave of them as well.
+pub record Mirrored (n d : ℕ) (domains tables : List ℕ) : Type 0 where
+  pub fitting : Fitting n d domains tables
+  pub passed : refusalOfProblem (problemOf n d domains tables) ≡ 0
 
 -- All bits of f 0 .. f (n - 1) together.
 unfoldable pub joined : ℕ → (ℕ → ℕ) → ℕ
@@ -72,7 +77,7 @@ partObeys whole P i =
     not (eqb (domain P i) 0) && eqb (minus (domain P i) whole) 0 && (eqb (bit (P .marked) i) 0 || eqb (size (domain P i)) 1)
 
 -- 6: what is wrong with a domain beside the problem's, and with each of a slot's; the values of two instantiated variables, of one
--- with every other, and what an instantiated variable must be.
+-- with every other, of one with those before it, and what an instantiated variable must be.
 unfoldable pub partWrong : ℕ → ℕ → ℕ
 partWrong whole m = cond (eqb m 0) 1 (minus m whole)
 
@@ -87,8 +92,11 @@ pairAgrees allowed P i j =
 unfoldable pub rowAgrees : ℕ → Table → Subproblem → ℕ → Bool
 rowAgrees n allowed P i = every n (pairAgrees allowed P i)
 
-unfoldable pub markObeys : ℕ → Table → Subproblem → ℕ → Bool
-markObeys n allowed P i = (eqb (bit (P .marked) i) 0 || eqb (size (domain P i)) 1) && rowAgrees n allowed P i
+unfoldable pub beforeAgrees : Table → Subproblem → ℕ → Bool
+beforeAgrees allowed P i = every i (pairAgrees allowed P i)
+
+unfoldable pub markObeys : Table → Subproblem → ℕ → Bool
+markObeys allowed P i = (eqb (bit (P .marked) i) 0 || eqb (size (domain P i)) 1) && beforeAgrees allowed P i
 
 -- The first variable of a set from one on, or past all of them: none between is in the set.
 pub record Next (set from next : ℕ) : Type 0 where

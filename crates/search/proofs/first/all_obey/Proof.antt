@@ -25,28 +25,28 @@ loop-holds : tie.Need-loop-holds Inv-loop μ-loop
 loop-holds c = (search needs, every-start _)
 
 add-at : tie.Need-add-at Inv-loop μ-loop
-add-at c = omega (arith, slot-below _ _ _ _ (c .before .before .before .before .before .pre .0 .sized .few) (c .loop-test .taken) (c .before .before .before .before .before .pre .1))
+add-at c = omega (arith, slot-below _ _ _ _ (c .before .before .before .before .before .pre .0 .fitting .sized .few) (c .loop-test .taken) (c .before .before .before .before .before .pre .1))
 
 mul-at : tie.Need-mul-at Inv-loop μ-loop
-mul-at c = omega (arith, slot-below _ _ _ _ (c .before .before .before .before .before .pre .0 .sized .few) (c .loop-test .taken) (c .before .before .before .before .before .pre .1))
+mul-at c = omega (arith, slot-below _ _ _ _ (c .before .before .before .before .before .pre .0 .fitting .sized .few) (c .loop-test .taken) (c .before .before .before .before .before .pre .1))
 
 add-end : tie.Need-add-end Inv-loop μ-loop
-add-end c = omega (arith, slot-below _ _ _ _ (c .before .before .before .before .before .pre .0 .sized .few) (c .loop-test .taken) (c .before .before .before .before .before .pre .1))
+add-end c = omega (arith, slot-below _ _ _ _ (c .before .before .before .before .before .pre .0 .fitting .sized .few) (c .loop-test .taken) (c .before .before .before .before .before .pre .1))
 
 add-end-2 : tie.Need-add-end-2 Inv-loop μ-loop
-add-end-2 c = omega (arith, slot-below _ _ _ _ (c .before .before .before .before .before .pre .0 .sized .few) (c .loop-test .taken) (c .before .before .before .before .before .pre .1))
+add-end-2 c = omega (arith, slot-below _ _ _ _ (c .before .before .before .before .before .pre .0 .fitting .sized .few) (c .loop-test .taken) (c .before .before .before .before .before .pre .1))
 
 mul-obeys : tie.Need-mul-obeys Inv-loop μ-loop
-mul-obeys c = omega (arith, slot-below _ _ _ _ (c .before .before .before .before .before .pre .0 .sized .few) (c .loop-test .taken) (c .before .before .before .before .before .pre .1))
+mul-obeys c = omega (arith, slot-below _ _ _ _ (c .before .before .before .before .before .pre .0 .fitting .sized .few) (c .loop-test .taken) (c .before .before .before .before .before .pre .1))
 
 sub-obeys : tie.Need-sub-obeys Inv-loop μ-loop
-sub-obeys c = omega (arith, slot-below _ _ _ _ (c .before .before .before .before .before .pre .0 .sized .few) (c .loop-test .taken) (c .before .before .before .before .before .pre .1))
+sub-obeys c = omega (arith, slot-below _ _ _ _ (c .before .before .before .before .before .pre .0 .fitting .sized .few) (c .loop-test .taken) (c .before .before .before .before .before .pre .1))
 
 part-obeys-start : tie.Need-part-obeys-start Inv-loop μ-loop
-part-obeys-start c = omega (arith, slot-below _ _ _ _ (c .before .before .before .before .before .pre .0 .sized .few) (c .loop-test .taken) (c .before .before .before .before .before .pre .1))
+part-obeys-start c = omega (arith, slot-below _ _ _ _ (c .before .before .before .before .before .pre .0 .fitting .sized .few) (c .loop-test .taken) (c .before .before .before .before .before .pre .1))
 
 part-obeys-end : tie.Need-part-obeys-end Inv-loop μ-loop
-part-obeys-end c = omega (arith, slot-below _ _ _ _ (c .before .before .before .before .before .pre .0 .sized .few) (c .loop-test .taken) (c .before .before .before .before .before .pre .1))
+part-obeys-end c = omega (arith, slot-below _ _ _ _ (c .before .before .before .before .before .pre .0 .fitting .sized .few) (c .loop-test .taken) (c .before .before .before .before .before .pre .1))
 
 obeys-requires : tie.Need-obeys-requires Inv-loop μ-loop
 obeys-requires c κs = search needs

@@ -10,7 +10,7 @@ is-in-requires : tie.Need-is-in-requires
 is-in-requires c κs = search needs
 
 returns : tie.Need-returns
-returns c = mark-none _ _ _ _ _ (in-marks _ _ _ _ _ (c .before .before .before .before .pre .0 .marks) (c .before .is-in .ensures)) (c .if1 .taken)
+returns c = mark-none _ _ _ _ (in-marks _ _ _ _ _ (c .before .before .before .before .pre .0 .marks) (c .before .is-in .ensures)) (c .if1 .taken)
 
 mul-is-single : tie.Need-mul-is-single
 mul-is-single c = search needs
@@ -22,13 +22,13 @@ is-single-requires : tie.Need-is-single-requires
 is-single-requires c κs = search needs
 
 returns-2 : tie.Need-returns-2
-returns-2 c = mark-more _ _ _ _ _ _ _ (in-marks _ _ _ _ _ (c .before .before .before .before .before .before .before .pre .0 .marks) (c .before .before .before .before .is-in .ensures)) (c .before .before .before .if1 .left) (slot-domain _ _ _ (omega (arith, c .before .before .before .before .before .before .before .pre .0 .words)) (c .before .before .before .before .before .before .before .pre .1)) (c .before .is-single .ensures) (c .if2 .taken)
+returns-2 c = mark-more _ _ _ _ _ _ (in-marks _ _ _ _ _ (c .before .before .before .before .before .before .before .pre .0 .marks) (c .before .before .before .before .is-in .ensures)) (c .before .before .before .if1 .left) (slot-domain _ _ _ (omega (arith, c .before .before .before .before .before .before .before .pre .0 .words)) (c .before .before .before .before .before .before .before .pre .1)) (c .before .is-single .ensures) (c .if2 .taken)
 
 row-agrees-requires : tie.Need-row-agrees-requires
 row-agrees-requires c κs = search needs
 
 returns-3 : tie.Need-returns-3
-returns-3 c = mark-single _ _ _ _ _ _ _ _ (in-marks _ _ _ _ _ (c .before .before .before .before .before .before .before .before .pre .0 .marks) (c .before .before .before .before .before .is-in .ensures)) (c .before .before .before .before .if1 .left) (slot-domain _ _ _ (omega (arith, c .before .before .before .before .before .before .before .before .pre .0 .words)) (c .before .before .before .before .before .before .before .before .pre .1)) (c .before .before .is-single .ensures) (c .before .if2 .left) (c .row-agrees .ensures)
+returns-3 c = mark-single _ _ _ _ _ _ _ (in-marks _ _ _ _ _ (c .before .before .before .before .before .before .before .before .pre .0 .marks) (c .before .before .before .before .before .is-in .ensures)) (c .before .before .before .before .if1 .left) (slot-domain _ _ _ (omega (arith, c .before .before .before .before .before .before .before .before .pre .0 .words)) (c .before .before .before .before .before .before .before .before .pre .1)) (c .before .before .is-single .ensures) (c .before .if2 .left) (c .row-agrees .ensures)
 
 pub mark-obeys-spec : {M : Type 1} → statement M
 mark-obeys-spec =

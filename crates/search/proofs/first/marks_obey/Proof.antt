@@ -15,7 +15,7 @@ use Rattle.search.proofs.first.marks_obey.Statement.{statement}
 use Rattle.search.proofs.first.marks_obey.Tie as tie
 
 abbrev Inv-loop : tie.InvT-loop
-Inv-loop slot marked n d tables i₀ i = every i (markObeys n (tableOf n d tables) (subproblemOf n slot)) ≡ true
+Inv-loop slot marked n d tables i₀ i = every i (markObeys (tableOf n d tables) (subproblemOf n slot)) ≡ true
 
 abbrev μ-loop : tie.MeasureT-loop
 μ-loop slot marked n d tables i₀ i = n - i
@@ -24,7 +24,7 @@ next-in-requires : tie.Need-next-in-requires Inv-loop μ-loop
 next-in-requires c κs = search needs
 
 loop-holds : tie.Need-loop-holds Inv-loop μ-loop
-loop-holds c = marks-next _ _ _ _ _ _ (c .before .before .before .pre .marks) (every-start _) (c .next-in .ensures)
+loop-holds c = marks-next _ _ _ _ _ (c .before .before .before .pre .marks) (every-start _) (c .next-in .ensures)
 
 mark-obeys-requires : tie.Need-mark-obeys-requires Inv-loop μ-loop
 mark-obeys-requires c κs = search needs
@@ -42,7 +42,7 @@ loop-less : tie.Need-loop-less Inv-loop μ-loop
 loop-less c = omega (arith, c .next-in2 .ensures .up)
 
 loop-again : tie.Need-loop-again Inv-loop μ-loop
-loop-again c = marks-next _ _ _ _ _ _ (c .before .before .before .before .before .before .before .before .pre .marks) (every-turn _ _ _ (c .before .before .before .before .loop .inv) (c .before .before .mark-obeys .ensures) (c .before .if1 .left)) (c .next-in2 .ensures)
+loop-again c = marks-next _ _ _ _ _ (c .before .before .before .before .before .before .before .before .pre .marks) (every-turn _ _ _ (c .before .before .before .before .loop .inv) (c .before .before .mark-obeys .ensures) (c .before .if1 .left)) (c .next-in2 .ensures)
 
 returns-2 : tie.Need-returns-2 Inv-loop μ-loop
 returns-2 c = every-past _ _ _ (c .loop-test .left) (c .before .loop .inv)

@@ -7,7 +7,7 @@ use Rattle.search.proofs.first.refusal_of_search.Statement.{statement}
 use Rattle.search.proofs.first.refusal_of_search.Tie as tie
 
 add-if1 : tie.Need-add-if1
-add-if1 c = omega (arith, c .before .before .before .pre .sized .few)
+add-if1 c = omega (arith, c .before .before .before .pre .fitting .sized .few)
 
 div-if1 : tie.Need-div-if1
 div-if1 c = omega arith
@@ -25,7 +25,7 @@ returns-2 : tie.Need-returns-2
 returns-2 c = search-checks _ _ (c .before .before .before .before .before .before .before .before .args .domains .now) _ _ _ _ _ (c .if2 .taken)
 
 add-zeros-from : tie.Need-add-zeros-from
-add-zeros-from c = omega (arith, c .before .before .before .before .before .before .before .before .pre .sized .few)
+add-zeros-from c = omega (arith, c .before .before .before .before .before .before .before .before .pre .fitting .sized .few)
 
 mul-zeros-from : tie.Need-mul-zeros-from
 mul-zeros-from c = omega (arith, slots-within _ _ _ (c .before .before .before .before .if1 .left))

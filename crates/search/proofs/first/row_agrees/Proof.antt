@@ -7,7 +7,7 @@ use native.Mathlib.Omega.{arith}
 use Rattle.splits.specs.Problem.{tableOf}
 use Rattle.splits.specs.Subproblems.{every}
 use Rattle.search.specs.Agenda.{subproblemOf}
-use Rattle.search.specs.Work.FirstTests.{pairAgrees, rowAgrees}
+use Rattle.search.specs.Work.FirstTests.{pairAgrees, beforeAgrees}
 use Rattle.search.proofs.FirstLoops.{every-start, every-stop, every-turn}
 use Rattle.search.proofs.Marked.{every-past, row-next}
 use borrow.Author.Needs.{needs}
@@ -18,7 +18,7 @@ abbrev Inv-loop : tie.InvT-loop
 Inv-loop slot marked n d tables i j₀ j = every j (pairAgrees (tableOf n d tables) (subproblemOf n slot) i) ≡ true
 
 abbrev μ-loop : tie.MeasureT-loop
-μ-loop slot marked n d tables i j₀ j = n - j
+μ-loop slot marked n d tables i j₀ j = i - j
 
 next-in-requires : tie.Need-next-in-requires Inv-loop μ-loop
 next-in-requires c κs = search needs
@@ -30,7 +30,7 @@ pair-agrees-requires : tie.Need-pair-agrees-requires Inv-loop μ-loop
 pair-agrees-requires c κs = search needs
 
 returns : tie.Need-returns Inv-loop μ-loop
-unfolding rowAgrees
+unfolding beforeAgrees
 returns c = every-stop _ _ _ _ (c .before .before .loop-test .taken) (c .before .pair-agrees .ensures) (c .if1 .taken)
 
 add-next-in : tie.Need-add-next-in Inv-loop μ-loop
@@ -46,7 +46,7 @@ loop-again : tie.Need-loop-again Inv-loop μ-loop
 loop-again c = row-next _ _ _ _ _ _ (c .before .before .before .before .before .before .before .before .pre .0 .marks) (every-turn _ _ _ (c .before .before .before .before .loop .inv) (c .before .before .pair-agrees .ensures) (c .before .if1 .left)) (c .next-in2 .ensures)
 
 returns-2 : tie.Need-returns-2 Inv-loop μ-loop
-unfolding rowAgrees
+unfolding beforeAgrees
 returns-2 c = every-past _ _ _ (c .loop-test .left) (c .before .loop .inv)
 
 pub row-agrees-spec : {M : Type 1} → statement M

@@ -36,7 +36,7 @@ unfolding runRefusal
 returns-4 c = else-rest _ _ _ (sym (c .before .before .before .before .before .before .before .refusal-of-numbers .ensures) ∙ c .before .before .before .before .before .before .if1 .left) (else-rest _ _ _ (sym (c .before .before .before .before .before .refusal-of-lengths .ensures) ∙ c .before .before .before .before .if2 .left) (else-rest _ _ _ (sym (c .before .before .before .refusal-of-requests .ensures) ∙ c .before .before .if3 .left) (else-first _ _ _ (c .before .refusal-of-problem .ensures) (c .if4 .taken))))
 
 refusal-of-search-requires : tie.Need-refusal-of-search-requires
-refusal-of-search-requires c κs = lengths-pass _ _ _ _ _ (sym (c .before .before .before .before .before .before .before .refusal-of-numbers .ensures) ∙ c .before .before .before .before .before .before .if1 .left) (sym (c .before .before .before .before .before .refusal-of-lengths .ensures) ∙ c .before .before .before .before .if2 .left)
+refusal-of-search-requires c κs = record { fitting = lengths-pass _ _ _ _ _ (sym (c .before .before .before .before .before .before .before .refusal-of-numbers .ensures) ∙ c .before .before .before .before .before .before .if1 .left) (sym (c .before .before .before .before .before .refusal-of-lengths .ensures) ∙ c .before .before .before .before .if2 .left); passed = sym (c .before .refusal-of-problem .ensures) ∙ c .if4 .left }
 
 returns-5 : tie.Need-returns-5
 unfolding runRefusal

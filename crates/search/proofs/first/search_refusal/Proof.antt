@@ -3,7 +3,7 @@
 use mathlib.Core.Path.{sym, _∙_}
 use borrow.Author.Needs.{needs}
 use Rattle.search.specs.FirstChecks.{searchRefusal}
-use Rattle.search.proofs.FirstParts.{else-first, else-rest, open-pass}
+use Rattle.search.proofs.FirstParts.{else-first, else-rest, open-parts, open-pass}
 use Rattle.search.proofs.first.search_refusal.Statement.{statement}
 use Rattle.search.proofs.first.search_refusal.Tie as tie
 
@@ -15,7 +15,7 @@ unfolding searchRefusal
 returns c = else-first _ _ _ (c .before .open-refusal .ensures) (c .if1 .taken)
 
 refusal-of-search-requires : tie.Need-refusal-of-search-requires
-refusal-of-search-requires c κs = open-pass _ _ _ _ _ (sym (c .before .open-refusal .ensures) ∙ c .if1 .left)
+refusal-of-search-requires c κs = let e = sym (c .before .open-refusal .ensures) ∙ c .if1 .left in record { fitting = open-pass _ _ _ _ _ e; passed = open-parts _ _ _ _ _ e .2 }
 
 returns-2 : tie.Need-returns-2
 unfolding searchRefusal
