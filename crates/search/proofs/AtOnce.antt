@@ -1,6 +1,6 @@
 -- The loops over all 32 masks, a turn at a time, and what they tell of a subproblem.
 -- Assumes nothing.
-use mathlib.Core.Path.{_≡_, refl, sym, ap, _∙_}
+use mathlib.Core.Path.{_≡_, refl, sym, ap, _∙_, subst}
 use mathlib.Core.Logic.{_⊎_, inl, inr, ⊎-elim}
 use mathlib.Core.Bool.{Bool, true, false, not, cond, _&&_, _||_}
 use mathlib.Core.List.{List}
@@ -22,32 +22,44 @@ use Rattle.splits.specs.Checks.{valuesIn, others}
 use Rattle.splits.specs.declared.subproblem.Subproblem.{Subproblem}
 use Rattle.splits.proofs.Masks.{bit-le, bit-none, bit-ext, bit-or, bit-single-same, member-some, size-of-none}
 use Rattle.splits.proofs.Loops.{changed-more, changed-next}
-use Rattle.search.specs.Chooser.{fewestOf, fewest}
+use Rattle.search.specs.Promises.{Fewest}
 use Rattle.search.specs.Work.Kept.{Regular}
-use Rattle.search.specs.Work.Lanes.{keyOf, leastKey, lost, cutTo}
-use Rattle.search.proofs.Choosing.{variable-below}
+use Rattle.search.specs.Work.Lanes.{keyOf, LeastKey, lost, cutTo}
 
 -- ---- turns of the loops
 
-module _ (m marked i : ℕ) where
-  -- The key of an empty domain, of an instantiated variable, of any other.
-  pub key-empty : m ≡ 0 → 1024 ≡ keyOf m marked i
-  unfolding keyOf
-  key-empty e = rw (eq-eqb m 0 e) refl
+-- Before the first two variables there is no key.
+pub least-none : (l : List ℕ) (set : ℕ) → LeastKey l set 0 2047
+least-none l set = record { low = λ j k. absurd (omega arith); high = λ j k. absurd (omega arith); some = inl refl }
 
-  pub key-marked : (m ≡ 0 → ⊥) → bit marked i ≡ 1 → 1024 ≡ keyOf m marked i
-  unfolding keyOf
-  key-marked h e = rw (ne-eqb m 0 h, eq-eqb (bit marked i) 1 e) refl
+-- The least key of two variables more.
+module _ (l : List ℕ) (set i best x y r s : ℕ) (few : i < 16) (so-far : LeastKey l set i best)
+    (first : x ≡ keyOf (getD l i 0) set i) (second : y ≡ keyOf (getD l (i + 16) 0) set (i + 16)) (e : r ≡ min best x) (f : s ≡ min r y) where
+  under : (j : ℕ) → j < i + 1 → (g : ℕ → ℕ) → ((k : ℕ) → k < i → best ≤ g k) → s ≤ g i → s ≤ g j
+  under j h g old new = elim (ℕ-discrete j i) [
+    | yes q ↦ rw q new
+    | no q ↦ omega (arith, old j (omega arith))
+  ]
 
-  pub key-free : (m ≡ 0 → ⊥) → (bit marked i ≡ 1 → ⊥) → size m * 32 + i ≡ keyOf m marked i
-  unfolding keyOf
-  key-free h e = rw (ne-eqb m 0 h, ne-eqb (bit marked i) 1 e) refl
+  one-of : (s ≡ best) ⊎ (s ≡ x) ⊎ (s ≡ y)
+  one-of = elim (decLt best x) [
+    | yes p ↦ elim (decLt r y) [
+      | yes q ↦ inl (omega arith)
+      | no q ↦ inr (inr (omega arith))
+    ]
+    | no p ↦ elim (decLt r y) [
+      | yes q ↦ inr (inl (omega arith))
+      | no q ↦ inr (inr (omega arith))
+    ]
+  ]
 
--- The least key of one variable more.
-pub least-more : (l : List ℕ) (marked i best k r : ℕ) → best ≡ leastKey l marked i → k ≡ keyOf (getD l i 0) marked i → r ≡ min best k
-    → r ≡ leastKey l marked (i + 1)
-unfolding leastKey
-least-more l marked i best k r e f g = g ∙ rw (e, f, add-one) refl
+  pub least-more : LeastKey l set (i + 1) s
+  least-more = record {
+    low = λ j h. under j h (λ k. keyOf (getD l k 0) set k) (so-far .low) (omega arith);
+    high = λ j h. under j h (λ k. keyOf (getD l (k + 16) 0) set (k + 16)) (so-far .high) (omega arith);
+    some = ⊎-elim (λ (q : s ≡ best). ⊎-elim (λ (z : best ≡ 2047). inl (q ∙ z)) (λ w. inr (w .0, w .1, q ∙ w .2)) (so-far .some))
+        (⊎-elim (λ (q : s ≡ x). inr (i, omega arith, q ∙ first)) (λ (q : s ≡ y). inr (i + 16, omega arith, q ∙ second))) one-of;
+  }
 
 -- A sum of one more.
 pub total-turn : (g : ℕ → ℕ) (i sum s : ℕ) → sum ≡ total i g → s ≡ g i → sum + s ≡ total (i + 1) g
@@ -108,61 +120,47 @@ module _ (n d : ℕ) (P : Subproblem) (few : n ≤ 32) (small : d ≤ 16) (reg :
   few-values : (i : ℕ) → size (domain P i) ≤ 16
   few-values i = ones-le 16 (domain P i) (word i)
 
-  -- The variable chosen of the first i, and its key.
-  abbrev Known : ℕ → ℕ → ℕ → Type 0
-  Known i V′ k = ((V′ ≡ n) × (k ≡ 1024)) ⊎ ((V′ < i) × (k ≡ size (domain P V′) * 32 + V′))
+  -- The least key is that of the variable with the fewest values, of all that are not instantiated and not past the last.
+  module _ (set k : ℕ) (past : (i : ℕ) → n ≤ i → i < 32 → bit set i ≡ 1) (marks : (i : ℕ) → i < n → bit set i ≡ bit (P .marked) i)
+      (least : LeastKey (P .domains) set 16 k) (V′ : ℕ) (its : Fewest n P V′) where
+    at-most : (j : ℕ) → j < 32 → k ≤ keyOf (domain P j) set j
+    at-most j h = elim (decLt j 16) [
+      | yes l ↦ least .low j l
+      | no l ↦ let up : (j - 16) + 16 ≡ j = omega arith in subst (λ (i : ℕ). k ≤ keyOf (domain P i) set i) up (least .high (j - 16) (omega arith))
+    ]
 
-  known : (i : ℕ) → i ≤ n → Known i (fewestOf n P i) (leastKey (P .domains) (P .marked) i)
-  unfolding fewestOf leastKey
-  known zero h = inl (refl, refl)
-  known (suc i) h = go (bit (P .marked) i) refl (known i (omega arith))
-    where
-      V₀ : ℕ
-      V₀ = fewestOf n P i
+    own-key : keyOf (domain P V′) set V′ ≡ size (domain P V′) * 32 + V′
+    unfolding keyOf
+    own-key =
+        let free : bit set V′ ≡ 0 = marks V′ (its .variable) ∙ not-one (bit (P .marked) V′) (bit-le (P .marked) V′) (its .uninstantiated) in
+        rw free (omega arith)
+      where
+        not-one : (b : ℕ) → b ≤ 1 → (b ≡ 1 → ⊥) → b ≡ 0
+        not-one b h q = elim (ℕ-discrete b 1) [
+          | yes e ↦ absurd (q e)
+          | no e ↦ omega arith
+        ]
 
-      k₀ : ℕ
-      k₀ = leastKey (P .domains) (P .marked) i
+    below-own : (j : ℕ) → j < 32 → k ≡ keyOf (domain P j) set j → size (domain P V′) * 32 + V′ ≤ k
+    unfolding keyOf
+    below-own j h e = elim (decLt j n) [
+      | yes l ↦ elim (ℕ-discrete (bit (P .marked) j) 1) [
+        | yes m ↦ absurd (far (marks j l ∙ m))
+        | no m ↦ elim (decLt j V′) [
+          | yes q ↦ omega (arith, e, its .first j q m, its .variable)
+          | no q ↦ omega (arith, e, its .fewest j l m, its .variable)
+        ]
+      ]
+      | no l ↦ absurd (far (past j (omega arith) h))
+    ]
+      where
+        far : bit set j ≡ 1 → ⊥
+        far m = omega (arith, e, m, at-most V′ (omega (arith, its .variable)), own-key, few-values V′, its .variable)
 
-      full : domain P i ≡ 0 → ⊥
-      full = reg .filled i h
-
-      free : Known i V₀ k₀ → Known (suc i) (cond (eqb V₀ n || ltb (size (domain P i)) (size (domain P V₀))) i V₀) (min k₀ (size (domain P i) * 32 + i))
-      free (inl (e, q)) = rw (eq-eqb V₀ n e) (inr (omega arith, omega (arith, few-values i)))
-      free (inr (l, q)) = rw (ne-eqb V₀ n (λ z. omega arith)) (elim (decLt (size (domain P i)) (size (domain P V₀))) [
-        | yes s ↦ rw (lt-ltb (size (domain P i)) (size (domain P V₀)) s) (inr (omega arith, omega arith))
-        | no s ↦ rw (le-ltb (size (domain P i)) (size (domain P V₀)) (omega arith)) (inr (omega arith, omega arith))
-      ])
-
-      skip : Known i V₀ k₀ → Known (suc i) V₀ (min k₀ 1024)
-      skip (inl (e, q)) = inl (e, omega arith)
-      skip (inr (l, q)) = inr (omega arith, omega (arith, few-values V₀))
-
-      go : (b : ℕ) → bit (P .marked) i ≡ b → Known i V₀ k₀
-          → Known (suc i) (cond (eqb b 0 && (eqb V₀ n || ltb (size (domain P i)) (size (domain P V₀)))) i V₀) (min k₀ (keyOf (domain P i) (P .marked) i))
-      go zero e q = rw (← key-free (domain P i) (P .marked) i full (λ z. omega arith)) (free q)
-      go (suc zero) e q = rw (← key-marked (domain P i) (P .marked) i full e) (skip q)
-      go (suc (suc b)) e q = absurd (omega (arith, bit-le (P .marked) i))
-
-  -- What lies past the n variables has no key.
-  past : (j : ℕ) → leastKey (P .domains) (P .marked) (n + j) ≡ leastKey (P .domains) (P .marked) n
-  unfolding leastKey
-  past zero = ap (leastKey (P .domains) (P .marked)) (add-zero n)
-  past (suc j) =
-      let up : n + suc j ≡ suc (n + j) = omega arith in
-      let most : leastKey (P .domains) (P .marked) n ≤ 1024 = below-most n in
-      rw (up, past j, ← key-empty (domain P (n + j)) (P .marked) (n + j) (reg .shape .past (n + j) (omega arith))) (omega arith)
-    where
-      below-most : (i : ℕ) → leastKey (P .domains) (P .marked) i ≤ 1024
-      below-most zero = omega arith
-      below-most (suc i) = omega (arith, below-most i)
-
-  -- The least key is that of the variable to choose.
-  pub least-is : instantiated n P ≡ false → leastKey (P .domains) (P .marked) 32 ≡ size (domain P (fewest n P)) * 32 + fewest n P
-  least-is runs =
-      let end : n + (32 - n) ≡ 32 = omega arith in
-      let below : fewest n P < n = variable-below n P runs in
-      let all : leastKey (P .domains) (P .marked) 32 ≡ leastKey (P .domains) (P .marked) n = rw end at (past (32 - n)) in
-      ⊎-elim (λ w. absurd (omega (arith, w .0))) (λ w. all ∙ w .1) (known n (le-refl n))
+    pub least-is : k ≡ size (domain P V′) * 32 + V′
+    least-is =
+        let most : k ≤ size (domain P V′) * 32 + V′ = rw own-key at (at-most V′ (omega (arith, its .variable))) in
+        ⊎-elim (λ (z : k ≡ 2047). absurd (omega (arith, few-values V′, its .variable))) (λ w. omega (arith, below-own (w .0) (w .1) (w .2))) (least .some)
 
   -- The values past the n variables are none, and without those of V they are those of the others.
   past-none : (j : ℕ) → total (n + j) (λ i. size (domain P i)) ≡ total n (λ i. size (domain P i))

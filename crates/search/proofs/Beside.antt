@@ -10,7 +10,7 @@ use lib.ListN.{length, getD, set, replicate, length-set, length-replicate, getD-
 use lib.Seq.{getD-set-same, getD-set-other}
 use Rattle.splits.specs.Masks.{single}
 use Rattle.splits.specs.Problem.{Table, tableOf}
-use Rattle.search.specs.Work.Lanes.{RowOf, Rows}
+use Rattle.search.specs.Work.Lanes.{RowOf, Rows, RowKept}
 
 -- A row of which the first j masks are made.
 pub record Begun (allowed : Table) (V′ v j : ℕ) (row : List ℕ) : Type 0 where
@@ -42,14 +42,14 @@ module _ (allowed : Table) (V′ v : ℕ) where
 
 module _ (n d : ℕ) (t : List ℕ) (rows : List (List ℕ)) (V′ v : ℕ) (all : Rows n d t rows) (a-variable : V′ < n) (a-value : v < d) where
   -- A row that has something for its variable is the row.
-  pub row-kept : (getD (getD rows (V′ * 16 + v) []) V′ 0 ≡ 0 → ⊥) → RowOf n (tableOf n d t) V′ v (getD rows (V′ * 16 + v) [])
-  row-kept h = ⊎-elim (λ z. absurd (h z)) (λ r. r) (all .each V′ v a-variable a-value)
+  pub row-kept : (getD (getD rows (V′ * 16 + v) []) V′ 0 ≡ 0 → ⊥) → RowKept n d t V′ v rows
+  row-kept h = record { all = all; row = ⊎-elim (λ z. absurd (h z)) (λ r. r) (all .each V′ v a-variable a-value) }
 
   -- A row more is kept.
-  pub rows-more : (row : List ℕ) → n ≤ 32 → d ≤ 16 → RowOf n (tableOf n d t) V′ v row → Rows n d t (set rows (V′ * 16 + v) row)
-  rows-more row few small made = record {
-    long = length-set rows (V′ * 16 + v) row ∙ all .long;
-    each = each;
+  pub row-more : (row : List ℕ) → n ≤ 32 → d ≤ 16 → RowOf n (tableOf n d t) V′ v row → RowKept n d t V′ v (set rows (V′ * 16 + v) row)
+  row-more row few small made = record {
+    all = record { long = length-set rows (V′ * 16 + v) row ∙ all .long; each = each };
+    row = rw (getD-set-same rows (V′ * 16 + v) row [] (omega (arith, all .long))) made;
   }
     where
       each : (i a : ℕ) → i < n → a < d

@@ -244,6 +244,11 @@ firsts-more n f k (suc m) =
     let e : k + suc m ≡ suc (k + m) = omega arith in
     rw (e, length-append) (omega (arith, firsts-more n f k m))
 
+-- Of no candidates there are none.
+pub firsts-start : (n : ℕ) (f : ℕ → Subproblem) → length (firsts n f 0) ≡ 0
+unfolding firsts
+firsts-start n f = refl
+
 -- One candidate more, empty or not.
 pub firsts-drop : (n : ℕ) (f : ℕ → Subproblem) (k : ℕ) → empty n (f k) ≡ true → firsts n f (k + 1) ≡ firsts n f k
 unfolding firsts one

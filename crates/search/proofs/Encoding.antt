@@ -29,6 +29,13 @@ pub slot-held : (n high low m : ℕ) (words : List ℕ) (r : Subproblem) → hig
 unfolding subproblemOf
 slot-held n high low m words r a b s e = e ∙ ap (holding n words) (s ∙ rw (a, b) refl)
 
+-- A slot of a subproblem of nothing is zeros.
+pub slot-none : (n : ℕ) → n ≤ 32 → slotWords n (record { domains = replicate 32 0; marked = 0 }) ≡ replicate (n + 2) 0
+unfolding slotWords
+slot-none n h =
+    let all : replicate {A = ℕ} 32 0 ≡ replicate n 0 ++ replicate (32 - n) 0 = sym (rw replicate-append-replicate (let e : n + (32 - n) ≡ 32 = omega arith in rw e refl)) in
+    rw (all, take-at {A = ℕ} (replicate n 0) (replicate (32 - n) 0) n (length-replicate n 0)) (replicate-append-replicate n 2 0)
+
 -- Slot k is a part of the agenda.
 pub slot-read : (n k : ℕ) (l : List ℕ) (r : Subproblem) → r ≡ subproblemOf n (take ((k * (n + 2) + (n + 2)) - k * (n + 2)) (drop (k * (n + 2)) l))
     → r ≡ subproblemOf n (slotAt n l k)

@@ -27,11 +27,13 @@ pub mod Shapes
 pub mod Stepping
 pub mod Choosing
 pub mod AtOnce
+pub mod Halves
 pub mod Beside
 pub mod Lone
 pub mod Running
 pub mod Settling
 pub mod Spreading
+pub mod Dividing
 pub mod Opening
 pub mod Admitting
 pub mod Ending

@@ -14,13 +14,13 @@ use borrow.Author.Tests.{eq-eqb, ne-eqb, le-ltb, eqb-true, eqb-false, ltb-false,
 use Rattle.splits.specs.Masks.{_∈_, single, size, lowest}
 use Rattle.splits.specs.Problem.{tableOf, total}
 use Rattle.splits.specs.Subproblems.{domain, empty, Instantiated, instantiated}
-use Rattle.splits.specs.Splits.{pieces, precluded, without, candidate, candidates}
+use Rattle.splits.specs.Splits.{pieces, precluded, without}
 use Rattle.splits.specs.Checks.{checks, valuesIn, others}
 use Rattle.splits.specs.Refusals.{refusalOf}
 use Rattle.splits.specs.Calls.{inside, readable}
 use Rattle.splits.specs.Work.Ranges.{Inside}
 use Rattle.splits.specs.declared.subproblem.Subproblem.{Subproblem}
-use Rattle.splits.proofs.Masks.{single-lt, lowest-member}
+use Rattle.splits.proofs.Masks.{bit-le, bit-or, single-lt, lowest-member}
 use Rattle.splits.proofs.Tests.{true-false}
 use Rattle.splits.proofs.Ranges.{inside-is}
 use Rattle.splits.proofs.Refusals.{is-none}
@@ -29,19 +29,19 @@ use Rattle.search.specs.Chooser.{fewest, request}
 use Rattle.search.specs.Work.Slots.{splice, SlotIn}
 use Rattle.search.specs.Work.Kept.{Fitting, Regular}
 use Rattle.search.specs.Work.Choices.{kindFor, chosenFor}
-use Rattle.search.specs.Work.Steps.{Placing, Replaced, Taking, refusalFor}
-use Rattle.search.specs.Work.Lanes.{RowOf, leastKey, loses, cutTo}
-use Rattle.search.specs.Work.Found.{Found, Putting, requestBy, precludedBy, leftBy, several, tight, TakesChosen}
+use Rattle.search.specs.Work.Steps.{Replaced, Taking, refusalFor}
+use Rattle.search.specs.Work.Lanes.{Beyond, RowOf, LeastKey, loses, cutTo}
+use Rattle.search.specs.Work.Found.{Found, AtTop, Puts, requestBy, precludedBy, leftBy, several, TakesChosen}
 use Rattle.search.specs.declared.state.State.{State}
 use Rattle.search.specs.declared.choice.Choice.{Choice}
+use Rattle.search.specs.declared.choice.Left.{Left}
 use Rattle.search.proofs.Copies.{splice-between, slot-below}
 use Rattle.search.proofs.Encoding.{length-slot, length-stackOf}
-use Rattle.search.proofs.Candidates.{firsts-le, pieces-are}
-use Rattle.search.proofs.Accepting.{refused-at-11, refused-by-none}
-use Rattle.search.proofs.Stepping.{take-refused, take-room, take-steps, take-counts, take-taken}
+use Rattle.search.proofs.Accepting.{refused-at-11}
+use Rattle.search.proofs.Stepping.{take-refused, take-steps, take-taken}
 use Rattle.search.proofs.Picking.{accepted, fewest-is}
 use Rattle.search.proofs.AtOnce.{word, least-is, values-are}
-use Rattle.search.proofs.Lone.{lost-is, cut-is, two-none, two-rest, three-one}
+use Rattle.search.proofs.Lone.{lost-is, cut-is, rest-full, two-none, two-rest, three-one}
 use Rattle.search.proofs.Running.{top-regular}
 use Rattle.search.proofs.Gathering.{splice-none}
 use Rattle.search.proofs.Choosing.{variable-below, value-below}
@@ -60,15 +60,6 @@ module _ (c : Choice) where
       go : (b : Bool) → not b ≡ cond b false true
       go true = refl
       go false = refl
-
-  module _ (n free : ℕ) (b : Bool) (tested : b ≡ several c) where
-    pub tight-several : b ≡ true → ltb free (n + 1) ≡ tight c n free
-    unfolding tight
-    tight-several e = rw (← tested, e) refl
-
-    pub tight-not : b ≡ false → false ≡ tight c n free
-    unfolding tight
-    tight-not e = rw (← tested, e) refl
 
 -- ---- the pieces, as the code makes them
 
@@ -131,7 +122,7 @@ module _ (n : ℕ) (P : Subproblem) (c : Choice) (before after : List ℕ) (belo
       subst (λ (l : List Subproblem). Replaced n l below before after (below + 1)) (ap (λ (R : Subproblem). R ∷ []) e ∙ sym (left-rest b k)) (replaced-one Q long w)
 
 -- Of what is left there is one at most.
-left-few : (P : Subproblem) (c : Choice) → length (leftBy P c) ≤ 1
+pub left-few : (P : Subproblem) (c : Choice) → length (leftBy P c) ≤ 1
 unfolding leftBy
 left-few P c = go (c .lost) (eqb (c .values) 1)
   where
@@ -139,11 +130,6 @@ left-few P c = go (c .lost) (eqb (c .values) 1)
     go true true = omega arith
     go true false = omega arith
     go false k = omega arith
-
--- The request of a precluded piece that is not empty.
-pub kind-3 : (c : Choice) → c .lost ≡ false → requestBy c ≡ request 3 (c .variable) (c .value)
-unfolding requestBy
-kind-3 c e = rw e refl
 
 -- ---- what is found
 
@@ -155,9 +141,13 @@ module _ (n d : ℕ) (t : List ℕ) (P : Subproblem) (fit : Fitting n d t) (reg 
   its-value : (V′ v : ℕ) → V′ ≡ fewest n P → v ≡ lowest (domain P V′) → v ∈ domain P V′
   its-value V′ v e f = rw f (lowest-member (domain P V′) (word n d P (fit .few) (fit .small) reg V′) (reg .filled V′ (its-variable V′ e)))
 
-  module _ (k V′ x v : ℕ) (least : k ≡ leastKey (P .domains) (P .marked) 32) (rest : V′ ≡ k % 32) (its : x ≡ domain P V′) (low : v ≡ lowest x) where
+  module _ (past k V′ x v : ℕ) (beyond : Beyond n past) (least : LeastKey (P .domains) (bitOr (P .marked) past) 16 k) (rest : V′ ≡ k % 32) (its : x ≡ domain P V′) (low : v ≡ lowest x) where
     key-is : k ≡ size (domain P (fewest n P)) * 32 + fewest n P
-    key-is = least ∙ least-is n d P (fit .few) (fit .small) reg runs
+    key-is =
+        least-is n d P (fit .few) (fit .small) reg (bitOr (P .marked) past) k
+        (λ i h l. rw (bit-or, beyond .after i h l) (omega (arith, bit-le (P .marked) i)))
+        (λ i h. rw (bit-or, beyond .before i h) (omega arith))
+        least (fewest n P) (fewest-is n P runs)
 
     is-fewest : V′ ≡ fewest n P
     is-fewest = omega (arith, key-is, variable-below n P runs, fit .few)
@@ -208,8 +198,8 @@ module _ (n d : ℕ) (t : List ℕ) (P : Subproblem) (fit : Fitting n d t) (reg 
     precluded-is = cut-is n d (tableOf n d t) P (c .variable) (c .value) (fit .few) reg variable-is value-is (c .row) (h .row) _ refl
 
     -- One piece at most.
-    pub left-is : several c ≡ false → pieces n (tableOf n d t) P (requestBy c) ≡ leftBy P c
-    unfolding several requestBy leftBy
+    pub left-is : several c ≡ false → pieces n (tableOf n d t) P (requestBy c (cond (c .lost) 2 3)) ≡ leftBy P c
+    unfolding several leftBy
     left-is s = go (c .lost) (sym (h .none)) (eqb (c .values) 1) refl s
       where
         more : eqb (c .values) 1 ≡ false → size (domain P (c .variable)) ≡ 1 → ⊥
@@ -229,75 +219,35 @@ module _ (n d : ℕ) (t : List ℕ) (P : Subproblem) (fit : Fitting n d t) (reg 
             ∙ ap (λ (Q : Subproblem). Q ∷ []) (sym precluded-is)
         go false e false k s = absurd (true-false s)
 
-    -- The checks.
-    pub checks-by : checks n (tableOf n d t) P (requestBy c) ≡ valuesIn (others (c .variable)) n P
-    unfolding checks requestBy
-    checks-by = go (c .lost)
+    -- The checks, of kind 2 as of kind 3.
+    pub checks-by : (k : ℕ) → (k ≡ 2) ⊎ (k ≡ 3) → checks n (tableOf n d t) P (requestBy c k) ≡ valuesIn (others (c .variable)) n P
+    unfolding checks
+    checks-by k e = ⊎-elim (λ (q : k ≡ 2). rw q refl) (λ (q : k ≡ 3). rw q refl) e
+
+    pub counted : (c .values ≤ total 32 (λ i. size (domain P i))) × (total 32 (λ i. size (domain P i)) - c .values ≡ valuesIn (others (c .variable)) n P)
+    counted = let sum = values-are n d P (fit .few) (fit .small) reg (c .variable) variable-is in (omega (arith, sum, h .values), omega (arith, sum, h .values))
+
+    -- Both are accepted.
+    pub accepted-by : (k : ℕ) → (k ≡ 2) ⊎ (k ≡ 3) → refusalOf n d P (requestBy c k) ≡ 0
+    accepted-by k e =
+        is-none n d P (requestBy c k) .1
+        (accepted n d P (requestBy c k) e variable-is (rw (h .variable) (fewest-is n P runs .uninstantiated)) (rw (h .value) (value-below n d t P (c .variable) fit reg variable-is)) value-is)
+
+    -- The one that the rule chooses: kind 2 where the precluded piece is empty or kind 3 has no room, else kind 3.
+    unfoldable pub kindBy : ℕ → ℕ
+    kindBy free = cond (c .lost || ltb free (length (pieces n (tableOf n d t) P (requestBy c 3)))) 2 3
+
+    pub kind-is : (free : ℕ) → (kindBy free ≡ 2) ⊎ (kindBy free ≡ 3)
+    unfolding kindBy
+    kind-is free = go (c .lost || ltb free (length (pieces n (tableOf n d t) P (requestBy c 3))))
       where
-        go : (b : Bool) → checks n (tableOf n d t) P (request (cond b 2 3) (c .variable) (c .value)) ≡ valuesIn (others (c .variable)) n P
-        go true = refl
-        go false = refl
+        go : (b : Bool) → (_≡_ {A = ℕ} (cond b 2 3) 2) ⊎ (_≡_ {A = ℕ} (cond b 2 3) 3)
+        go true = inl refl
+        go false = inr refl
 
-    pub counted : (all : ℕ) → all ≡ total 32 (λ i. size (domain P i)) → (c .values ≤ all) × (all - c .values ≡ checks n (tableOf n d t) P (requestBy c))
-    counted all e =
-        let sum = values-are n d P (fit .few) (fit .small) reg (c .variable) variable-is in
-        (omega (arith, sum, h .values), checks-by′ (omega (arith, sum, h .values)))
-      where
-        checks-by′ : all - c .values ≡ valuesIn (others (c .variable)) n P → all - c .values ≡ checks n (tableOf n d t) P (requestBy c)
-        checks-by′ q = q ∙ sym checks-by
-
-    -- It is accepted.
-    pub accepted-by : refusalOf n d P (requestBy c) ≡ 0
-    unfolding requestBy
-    accepted-by = go (c .lost)
-      where
-        new : Instantiated P (c .variable) → ⊥
-        new = rw (h .variable) (fewest-is n P runs .uninstantiated)
-
-        go : (b : Bool) → refusalOf n d P (request (cond b 2 3) (c .variable) (c .value)) ≡ 0
-        go true = is-none n d P (request 2 (c .variable) (c .value)) .1
-            (accepted n d P (request 2 (c .variable) (c .value)) (inl refl) variable-is new (rw (h .value) (value-below n d t P (c .variable) fit reg variable-is)) value-is)
-        go false = is-none n d P (request 3 (c .variable) (c .value)) .1
-            (accepted n d P (request 3 (c .variable) (c .value)) (inr refl) variable-is new (rw (h .value) (value-below n d t P (c .variable) fit reg variable-is)) value-is)
-
-    module _ (free : ℕ) (some-free : 1 ≤ free) (fits : tight c n free ≡ false) where
-      -- Where several may be left, all that kind 3 can name have room.
-      all-named : several c ≡ true → n + 1 ≤ free
-      unfolding tight
-      all-named e = ltb-false free (n + 1) (rw e at fits)
-
-      -- Kind 3's pieces have room.
-      three-room : c .lost ≡ false → length (pieces n (tableOf n d t) P (request 3 (c .variable) (c .value))) ≤ free
-      unfolding candidates
-      three-room e = go (several c) refl
-        where
-          kind : requestBy c ≡ request 3 (c .variable) (c .value)
-          kind = kind-3 c e
-
-          go : (b : Bool) → several c ≡ b → length (pieces n (tableOf n d t) P (request 3 (c .variable) (c .value))) ≤ free
-          go true s =
-              rw (pieces-are n d t P (request 3 (c .variable) (c .value)) (its-words 3 (inr refl)) (reg .shape .long))
-              (omega (arith, all-named s, firsts-le n (candidate n (tableOf n d t) P (request 3 (c .variable) (c .value))) (n + 1)))
-          go false s = rw (← kind, left-is s) (omega (arith, left-few P c))
-
-      -- So have those of the request.
-      pub room-by : length (pieces n (tableOf n d t) P (requestBy c)) ≤ free
-      room-by = go (c .lost) refl
-        where
-          go : (b : Bool) → c .lost ≡ b → length (pieces n (tableOf n d t) P (requestBy c)) ≤ free
-          go true e = rw (left-is (sym (several-lost c e))) (omega (arith, left-few P c))
-          go false e = rw (kind-3 c e) (three-room e)
-
-      -- It is the one that the rule chooses.
-      pub chosen-by : chosenFor n d t P free ≡ requestBy c
-      unfolding chosenFor kindFor requestBy
-      chosen-by = rw (← h .variable, ← h .value, ← h .none) (go (c .lost) refl)
-        where
-          go : (b : Bool) → c .lost ≡ b
-              → request (cond (b || ltb free (length (pieces n (tableOf n d t) P (request 3 (c .variable) (c .value))))) 2 3) (c .variable) (c .value)
-              ≡ request (cond b 2 3) (c .variable) (c .value)
-          go true e = refl
-          go false e = rw (le-ltb free _ (three-room e)) refl
+    pub chosen-by : (free : ℕ) → chosenFor n d t P free ≡ requestBy c (kindBy free)
+    unfolding chosenFor kindFor kindBy
+    chosen-by free = rw (← h .variable, ← h .value, ← h .none) refl
 
 -- ---- the step
 
@@ -321,45 +271,46 @@ module _ (n d : ℕ) (t agenda : List ℕ) (P : Subproblem) (s : State) (h : Tak
       (refused-at-11 n d t P (chosenFor n d t P (slotsIn n (length agenda) - (s .subproblems - 1))) (s .counts .steps .0) (slotsIn n (length agenda) - (s .subproblems - 1)) e)
       (λ z. omega arith)
 
-  module _ (c : Choice) (f : Found n d t P c) (fits : tight c n (slotsIn n (length agenda) - (s .subproblems - 1)) ≡ false)
-      (go-on : s .counts .steps .0 ≡ 4294967295 → ⊥) where
-    some-free : 1 ≤ slotsIn n (length agenda) - (s .subproblems - 1)
-    some-free = omega (arith, taking-slots, h .some)
+  -- It stands there, with what is found of it.
+  pub taking-top : (c : Choice) → Found n d t P c → AtTop n d t P c (s .subproblems - 1) (length agenda)
+  taking-top c f = record { fitting = h .ready .fitting; regular = taking-regular; runs = h .runs; found = f; slot = taking-slot }
 
-    roomy : length (pieces n (tableOf n d t) P (requestBy c)) ≤ slotsIn n (length agenda) - (s .subproblems - 1)
-    roomy = room-by n d t P (h .ready .fitting) taking-regular (h .runs) c f _ some-free fits
+  module _ (c : Choice) (f : Found n d t P c) (go-on : s .counts .steps .0 ≡ 4294967295 → ⊥) (after : List ℕ) (l : Left)
+      (put : Puts n d t P (s .subproblems - 1) agenda after l) where
+    abbrev free : ℕ
+    free = slotsIn n (length agenda) - (s .subproblems - 1)
 
-    -- No refusal.
-    none : 0 ≡ refusalFor n d t P (requestBy c) (s .counts .steps .0) (slotsIn n (length agenda) - (s .subproblems - 1))
-    none =
-        refused-by-none n d t P (requestBy c) (s .counts .steps .0) (slotsIn n (length agenda) - (s .subproblems - 1)) go-on 0
-        (sym (accepted-by n d t P (h .ready .fitting) taking-regular (h .runs) c f)) false refl (sym (le-ltb _ _ roomy)) refl
+    abbrev kind : ℕ
+    kind = kindBy n d t P (h .ready .fitting) taking-regular (h .runs) c f free
 
-    -- What the pieces need to be put.
-    pub putting : Putting n d t P c (s .subproblems - 1) (length agenda)
-    putting = record {
-      fitting = h .ready .fitting;
-      regular = taking-regular;
-      runs = h .runs;
-      found = f;
-      slot = taking-slot;
-      room = take-room n d t agenda P (requestBy c) s h 0 none refl;
-    }
+    is-chosen : chosenFor n d t P free ≡ requestBy c kind
+    is-chosen = chosen-by n d t P (h .ready .fitting) taking-regular (h .runs) c f free
 
-    -- The counts fit.
-    pub chosen-steps : s .counts .steps .0 + 1 < 2 ^ 32
-    chosen-steps = take-steps n d t agenda P (requestBy c) s h 0 none refl
+    its-kind : (kind ≡ 2) ⊎ (kind ≡ 3)
+    its-kind = kind-is n d t P (h .ready .fitting) taking-regular (h .runs) c f free
 
-    pub chosen-counts : s .counts .checks .0 + checks n (tableOf n d t) P (requestBy c) < 2 ^ 64
-    chosen-counts = take-counts n d t agenda P (requestBy c) s h 0 none refl
+    -- The refusal of the request is that of its room.
+    its-refusal : l .refusal ≡ refusalFor n d t P (chosenFor n d t P free) (s .counts .steps .0) free
+    unfolding refusalFor
+    its-refusal =
+        let taken : refusalOf n d P (chosenFor n d t P free) ≡ 0 = rw is-chosen (accepted-by n d t P (h .ready .fitting) taking-regular (h .runs) c f kind its-kind) in
+        put .refusal ∙ rw (ne-eqb (s .counts .steps .0) 4294967295 go-on, eq-eqb (refusalOf n d P (chosenFor n d t P free)) 0 taken) refl
 
-    -- The step taken.
-    pub chosen-taken : (after : List ℕ) (count k : ℕ) → Replaced n (pieces n (tableOf n d t) P (requestBy c)) (s .subproblems - 1) agenda after count
-        → k ≡ s .counts .checks .0 + checks n (tableOf n d t) P (requestBy c)
+    -- Refused, or taken.
+    pub chosen-full : (l .refusal ≡ 0 → ⊥) → TakesChosen n d t P agenda after s (record { refusal = l .refusal; taken = 0; state = s })
+    chosen-full k = rw (put .kept k) (take-refused n d t agenda P _ s h (l .refusal) its-refusal k)
+
+    pub chosen-steps : l .refusal ≡ 0 → s .counts .steps .0 + 1 < 2 ^ 32
+    chosen-steps z = take-steps n d t agenda P _ s h (l .refusal) its-refusal z
+
+    pub chosen-taken : l .refusal ≡ 0 → (k : ℕ) → k ≡ s .counts .checks .0 + (total 32 (λ i. size (domain P i)) - c .values)
         → TakesChosen n d t P agenda after s
-        (record { refusal = 0; taken = 1; state = record { counts = record { steps = record { 0 = s .counts .steps .0 + 1 }; checks = record { 0 = k } }; subproblems = count } })
-    chosen-taken after count k m e =
-        rw (chosen-by n d t P (h .ready .fitting) taking-regular (h .runs) c f _ some-free fits) (take-taken n d t agenda P (requestBy c) s h 0 none refl after count k m e)
+        (record { refusal = 0; taken = 1; state = record { counts = record { steps = record { 0 = s .counts .steps .0 + 1 }; checks = record { 0 = k } }; subproblems = l .subproblems } })
+    chosen-taken z k e =
+        let sum : total 32 (λ i. size (domain P i)) - c .values ≡ checks n (tableOf n d t) P (chosenFor n d t P free) =
+        counted n d t P (h .ready .fitting) taking-regular (h .runs) c f .1
+        ∙ sym (rw is-chosen (checks-by n d t P (h .ready .fitting) taking-regular (h .runs) c f kind its-kind)) in
+        take-taken n d t agenda P _ s h (l .refusal) its-refusal z after (l .subproblems) k (put .placed z) (e ∙ ap (λ (x : ℕ). s .counts .checks .0 + x) sum)
 
 -- ---- the pieces put
 
@@ -376,32 +327,24 @@ pub several-more : (n d : ℕ) (t : List ℕ) (P : Subproblem) (c : Choice) → 
 unfolding several
 several-more n d t P c h s one = true-false (sym (rw (several-kept c s, eq-eqb (c .values) 1 (h .values ∙ one)) at s))
 
-module _ (n d : ℕ) (t : List ℕ) (P : Subproblem) (c : Choice) (below words : ℕ) (h : Putting n d t P c below words) where
-  -- V and v are small numbers.
+module _ (n d : ℕ) (t : List ℕ) (P : Subproblem) (c : Choice) (below words : ℕ) (h : AtTop n d t P c below words) where
+  -- V is one of the n, and its value is in its domain.
   pub put-variable : c .variable < n
   put-variable = variable-is n d t P (h .fitting) (h .regular) (h .runs) c (h .found)
 
-  pub put-value : c .value < d
-  put-value = rw (h .found .value) (value-below n d t P (c .variable) (h .fitting) (h .regular) put-variable)
-
-  -- Kind 3's words and room.
-  pub put-placing : several c ≡ true → Placing n d t P (request 3 (c .variable) (c .value)) below words
-  put-placing s = record {
-    reads = its-words n d t P (h .fitting) (h .regular) (h .runs) c (h .found) 3 (inr refl);
-    room = rw (kind-3 c (several-kept c s)) at (h .room);
-  }
-
-  -- Kind 3 it is.
-  pub put-three : several c ≡ true → requestBy c ≡ request 3 (c .variable) (c .value)
-  put-three s = kind-3 c (several-kept c s)
-
-  -- One piece at most.
-  pub put-left : several c ≡ false → pieces n (tableOf n d t) P (requestBy c) ≡ leftBy P c
-  put-left = left-is n d t P (h .fitting) (h .regular) (h .runs) c (h .found)
-
-  -- The value is in the domain, and the precluded piece is as the code makes it.
   pub put-member : c .value ∈ domain P (c .variable)
   put-member = value-is n d t P (h .fitting) (h .regular) (h .runs) c (h .found)
 
+  -- The words of its request fit.
+  pub put-reads : (k : ℕ) → (k ≡ 2) ⊎ (k ≡ 3) → readable n d t (requestBy c k) ≡ true
+  put-reads = its-words n d t P (h .fitting) (h .regular) (h .runs) c (h .found)
+
+  -- The precluded piece is as the code makes it; where several are left it is not empty, nor is V without its value.
   pub put-precluded : precludedBy P c ≡ precluded n (tableOf n d t) P (c .variable) (c .value)
   put-precluded = precluded-is n d t P (h .fitting) (h .regular) (h .runs) c (h .found)
+
+  pub put-kept : several c ≡ true → empty n (precluded n (tableOf n d t) P (c .variable) (c .value)) ≡ false
+  put-kept s = sym (h .found .none) ∙ several-kept c s
+
+  pub put-rest : several c ≡ true → empty n (without P (c .variable) (single (c .value))) ≡ false
+  put-rest s = rest-full n d (tableOf n d t) P (c .variable) (c .value) (h .fitting .few) (h .regular) put-variable put-member (several-more n d t P c (h .found) s)

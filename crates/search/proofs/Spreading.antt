@@ -1,49 +1,44 @@
--- Where kind 3 leaves several pieces: the loop that goes down through the variables places the further piece of each, and drops it where nothing is
--- left of its variable. Assumes nothing.
+-- Where kind 3 leaves several pieces: one is the further piece of each variable that holds values outside the row. So many they are, and the loop that
+-- goes down through the variables places them. Assumes nothing.
 use mathlib.Core.Path.{_≡_, refl, sym, ap, _∙_, subst}
+use mathlib.Core.Logic.{inr}
 use mathlib.Core.Bool.{true, false, not, cond, _&&_}
-use mathlib.Core.List.{List}
-use Prim.Native.Nat.{ℕ, suc, _+_, _-_, _*_, _^_, _≤_, _<_}
+use mathlib.Core.List.{List, [], _∷_, _++_}
+use Prim.Native.Nat.{ℕ, zero, suc, _+_, _-_, _*_, _^_, _≤_, _<_}
 use native.Mathlib.Omega.{arith}
+use native.Mathlib.Nat.{le-refl, add-zero}
 use native.Mathlib.Decide.{decLt, ℕ-discrete}
-use lib.ListN.{length, getD, set, length-set}
-use lib.Seq.{getD-set-same, getD-set-other, set-set, set-getD, ext-getD}
+use lib.ListN.{length, getD, set, length-set, length-append}
+use lib.Seq.{getD-set-same, getD-set-other, ext-getD}
 use lib.Dec.{eqb}
-use borrow.Author.Tests.{eq-eqb, ne-eqb, le-leb, lt-ltb}
+use borrow.Author.Tests.{eq-eqb, ne-eqb, le-leb, lt-ltb, le-ltb}
 use Rattle.splits.specs.Masks.{single, common, minus}
-use Rattle.splits.specs.Problem.{tableOf}
+use Rattle.splits.specs.Problem.{tableOf, total}
 use Rattle.splits.specs.Subproblems.{domain, empty}
 use Rattle.splits.specs.Splits.{changed, without, cut, cutBeside, disjunct, inferred, pieces, candidates, candidate}
 use Rattle.splits.specs.Calls.{readable, Piece, Candidates}
 use Rattle.splits.specs.Work.Loops.{precludedEmpty}
 use Rattle.splits.specs.declared.subproblem.Subproblem.{Subproblem}
-use Rattle.splits.proofs.Masks.{common-none, none-common, not-minus, minus-part, part-lt}
+use Rattle.splits.proofs.Masks.{common-none, minus-part, part-lt}
 use Rattle.splits.proofs.Tests.{true-false, some-none, some-all-not}
-use Rattle.splits.proofs.Loops.{changed-more, changed-next}
+use Rattle.splits.proofs.Loops.{changed-next}
 use Rattle.splits.proofs.Domains.{length-changed, changed-before, changed-after}
 use Rattle.splits.proofs.Subproblems.{empty-at, precluded-empty}
 use Rattle.search.specs.Agenda.{slotWords}
 use Rattle.search.specs.Chooser.{request}
 use Rattle.search.specs.Work.Slots.{splice, SlotIn}
 use Rattle.search.specs.Work.Steps.{Placed}
-use Rattle.search.specs.Work.Lanes.{cutTo}
-use Rattle.search.specs.Work.Found.{Putting, requestBy, precludedBy, several}
+use Rattle.search.specs.Work.Lanes.{furtherAt, FurtherTo, exceeding}
+use Rattle.search.specs.Work.Found.{AtTop, RoomFor, precludedBy, several}
 use Rattle.search.specs.declared.choice.Choice.{Choice}
+use Rattle.search.proofs.Candidates.{firsts, firsts-start, firsts-drop, firsts-keep, pieces-are}
 use Rattle.search.proofs.Gathering.{Gathered, gather-none, gather-drop, gather-slot, gather-keep, gather-end}
 use Rattle.search.proofs.AtOnce.{word}
+use Rattle.search.proofs.Halves.{all-common, minus-all}
 use Rattle.search.proofs.Lone.{some-left}
-use Rattle.search.proofs.Settling.{several-kept, several-more, put-variable, put-member, put-placing, put-three, put-precluded}
+use Rattle.search.proofs.Settling.{several-kept, several-more, put-variable, put-member, put-reads, put-precluded, put-kept}
 
--- A word cut to all 16 values, and without them.
-all-common : (x : ℕ) → x < 2 ^ 16 → common x 65535 ≡ x
-unfolding minus
-all-common x h = not-minus 16 x 0 h (omega arith) ∙ rw (common-none x) (omega arith)
-
-minus-all : (x : ℕ) → x < 2 ^ 16 → minus x 65535 ≡ 0
-unfolding minus
-minus-all x h = rw (all-common x h) (omega arith)
-
-module _ (n d : ℕ) (t : List ℕ) (P : Subproblem) (c : Choice) (below words : ℕ) (h : Putting n d t P c below words) (s : several c ≡ true) where
+module _ (n d : ℕ) (t : List ℕ) (P : Subproblem) (c : Choice) (below words : ℕ) (h : AtTop n d t P c below words) (s : several c ≡ true) where
   abbrev r : List ℕ
   r = request 3 (c .variable) (c .value)
 
@@ -105,12 +100,9 @@ module _ (n d : ℕ) (t : List ℕ) (P : Subproblem) (c : Choice) (below words :
       let at = some-none (λ i. not (eqb i (c .variable)) && eqb (common (domain P i) (tableOf n d t (c .variable) i (c .value))) 0) n i l none in
       true-false (rw (ne-eqb i (c .variable) k, eq-eqb (common (domain P i) (tableOf n d t (c .variable) i (c .value))) 0 z) at at)
 
-  -- Kind 3's words, room and places.
+  -- Kind 3's words and places.
   reads : readable n d t r ≡ true
-  reads = put-placing n d t P c below words h s .reads
-
-  room : (below + length (pieces n (tableOf n d t) P r)) * (n + 2) ≤ words
-  room = put-placing n d t P c below words h s .room
+  reads = put-reads n d t P c below words h 3 (inr refl)
 
   its-named : Candidates n r (n + 1)
   unfolding candidates
@@ -129,7 +121,7 @@ module _ (n d : ℕ) (t : List ℕ) (P : Subproblem) (c : Choice) (below words :
 
   -- ---- the arrays of the loop
 
-  module _ (D less′ beside : List ℕ) (its : less′ ≡ without P (c .variable) (getD (c .row) (c .variable) 0) .domains) (row : beside ≡ set (c .row) (c .variable) 65535) where
+  module _ (less′ beside : List ℕ) (its : less′ ≡ without P (c .variable) (getD (c .row) (c .variable) 0) .domains) (row : beside ≡ set (c .row) (c .variable) 65535) where
     less-is : less′ ≡ less
     unfolding less
     less-is = its ∙ rw (h .found .row .own) refl
@@ -140,49 +132,14 @@ module _ (n d : ℕ) (t : List ℕ) (P : Subproblem) (c : Choice) (below words :
     beside-other : (i : ℕ) → i < n → (i ≡ c .variable → ⊥) → getD beside i 0 ≡ tableOf n d t (c .variable) i (c .value)
     beside-other i l k = rw row (getD-set-other (c .row) (c .variable) i 65535 0 k) ∙ h .found .row .other i l k
 
-    -- At the start all variables are cut.
-    pub spread-start : D ≡ cutTo less′ beside 32 → D ≡ cutDown n
-    unfolding cutTo besides
-    spread-start e = e ∙ rw less-is (ext-getD 0 _ _ both at) ∙ sym (cut-is n)
-      where
-        cutAll : ℕ → ℕ → ℕ
-        cutAll j m = common m (getD beside j 0)
-
-        both : length (changed 32 cutAll less) ≡ length (changed n besides less)
-        both = length-changed 32 cutAll less ∙ sym (length-changed n besides less)
-
-        at : (i : ℕ) → i < length (changed 32 cutAll less) → getD (changed 32 cutAll less) i 0 ≡ getD (changed n besides less) i 0
-        at i l =
-            let k : i < 32 = omega (arith, length-changed 32 cutAll less, long) in
-            changed-before 32 cutAll less i k (omega (arith, long)) ∙ elim (decLt i n) [
-              | yes q ↦ elim (ℕ-discrete i (c .variable)) [
-                | yes e ↦ rw (changed-before n besides less i q (omega (arith, long)), e, beside-own, eq-eqb (c .variable) (c .variable) refl) (all-common (getD less (c .variable) 0) (less-word (c .variable)))
-                | no w ↦ rw (changed-before n besides less i q (omega (arith, long)), ne-eqb i (c .variable) w, beside-other i q w) refl
-              ]
-              | no q ↦ rw (changed-after n besides less i (omega arith), less-past i (omega arith)) (none-common (getD beside i 0))
-            ]
-
-    -- A variable less is cut.
-    pub spread-next : (j w : ℕ) → D ≡ cutDown j → 0 < j → w ≡ getD less′ (j - 1) 0 → set D (j - 1) w ≡ cutDown (j - 1)
-    spread-next j w e l f =
-        let up : suc (j - 1) ≡ j = omega arith in
-        let one : changed j besides less ≡ set (changed (j - 1) besides less) (j - 1) (besides (j - 1) (getD less (j - 1) 0)) =
-        ap (λ (k : ℕ). changed k besides less) (sym up) ∙ sym (changed-more (j - 1) besides less) in
-        let still : w ≡ getD (changed (j - 1) besides less) (j - 1) 0 = f ∙ rw less-is (sym (changed-next (j - 1) besides less)) in
-        rw (e, cut-is j, cut-is (j - 1), one, still)
-        (set-set (changed (j - 1) besides less) (j - 1) _ _ ∙ set-getD (changed (j - 1) besides less) (j - 1) 0)
-
     -- ---- the piece of a variable
-    module _ (j w rest : ℕ) (l : 0 < j) (le : j ≤ n) (f : w ≡ getD less′ (j - 1) 0) (g : rest ≡ minus w (getD beside (j - 1) 0)) where
-      at-word : w ≡ getD less (j - 1) 0
-      at-word = f ∙ rw less-is refl
-
+    module _ (j rest : ℕ) (l : 0 < j) (le : j ≤ n) (g : rest ≡ minus (getD less′ (j - 1) 0) (getD beside (j - 1) 0)) where
       other-rest : (j - 1 ≡ c .variable → ⊥) → rest ≡ minus (getD less (j - 1) 0) (tableOf n d t (c .variable) (j - 1) (c .value))
-      other-rest k = g ∙ rw (at-word, beside-other (j - 1) (omega arith) k) refl
+      other-rest k = g ∙ rw (less-is, beside-other (j - 1) (omega arith) k) refl
 
       -- V's own has nothing left.
       pub rest-other : (rest ≡ 0 → ⊥) → j - 1 ≡ c .variable → ⊥
-      rest-other k e = k (g ∙ rw (at-word, e, beside-own) (minus-all (getD less (c .variable) 0) (less-word (c .variable))))
+      rest-other k e = k (g ∙ rw (less-is, e, beside-own) (minus-all (getD less (c .variable) 0) (less-word (c .variable))))
 
       -- The candidate in its place.
       candidate-own : j - 1 ≡ c .variable → candidate n (tableOf n d t) P r j ≡ cut P (c .variable) 0
@@ -235,18 +192,45 @@ module _ (n d : ℕ) (t : List ℕ) (P : Subproblem) (c : Choice) (below words :
           ]
 
       -- The piece that the code makes is the candidate.
-      made-is : (E : List ℕ) (Q : Subproblem) → (rest ≡ 0 → ⊥) → E ≡ cutDown (j - 1) → Q ≡ record { domains = set E (j - 1) rest; marked = P .marked }
+      made-at : (D : List ℕ) → FurtherTo less′ beside (j - 1) 16 D → (rest ≡ 0 → ⊥) → (i : ℕ) → i < 32
+          → getD D i 0 ≡ domain (disjunct (tableOf n d t) P (c .variable) (c .value) (j - 1)) i
+      unfolding furtherAt besides
+      made-at D f k i h = its-mask ∙ elim (ℕ-discrete i (j - 1)) [
+        | yes e ↦ rw (le-ltb i (j - 1) (omega arith), eq-eqb i (j - 1) e) (rw e (sym g) ∙ other-rest (rest-other k) ∙ sym here ∙ rw e refl)
+        | no w ↦ elim (decLt i (j - 1)) [
+          | yes b ↦
+              rw (lt-ltb i (j - 1) b) (rw less-is (cut-at b) ∙ sym (changed-before (j - 1) besides less i b (omega (arith, long)))
+              ∙ sym (elsewhere i w))
+          | no b ↦
+              rw (le-ltb i (j - 1) (omega arith), ne-eqb i (j - 1) w, less-is)
+              (sym (changed-after (j - 1) besides less i (omega arith)) ∙ sym (elsewhere i w))
+        ]
+      ]
+        where
+          its-mask : getD D i 0 ≡ furtherAt less′ beside (j - 1) i
+          its-mask = elim (decLt i 16) [
+            | yes a ↦ f .low i a
+            | no a ↦ let up : (i - 16) + 16 ≡ i = omega arith in subst (λ (q : ℕ). getD D q 0 ≡ furtherAt less′ beside (j - 1) q) up (f .high (i - 16) (omega arith))
+          ]
+
+          cut-at : i < j - 1 → common (getD less i 0) (getD beside i 0) ≡ cond (eqb i (c .variable)) (getD less i 0) (common (getD less i 0) (tableOf n d t (c .variable) i (c .value)))
+          cut-at b = elim (ℕ-discrete i (c .variable)) [
+            | yes e ↦ rw (eq-eqb i (c .variable) e, e, beside-own) (all-common (getD less (c .variable) 0) (less-word (c .variable)))
+            | no w ↦ rw (ne-eqb i (c .variable) w, beside-other i (omega arith) w) refl
+          ]
+
+      made-is : (D : List ℕ) (Q : Subproblem) → (rest ≡ 0 → ⊥) → FurtherTo less′ beside (j - 1) 16 D → Q ≡ record { domains = D; marked = P .marked }
           → Q ≡ candidate n (tableOf n d t) P r j
       unfolding disjunct without cutBeside
-      made-is E Q k e q =
-          let own : rest ≡ minus (getD (cutDown (j - 1)) (j - 1) 0) (tableOf n d t (c .variable) (j - 1) (c .value)) =
-          other-rest (rest-other k) ∙ ap (λ (m : ℕ). minus m (tableOf n d t (c .variable) (j - 1) (c .value))) (sym (rw (cut-is (j - 1)) (changed-next (j - 1) besides less))) in
-          let same : record { domains = set E (j - 1) rest; marked = P .marked } ≡ disjunct (tableOf n d t) P (c .variable) (c .value) (j - 1) =
-          λ i. record { domains = set (e i) (j - 1) (own i); marked = P .marked } in
+      made-is D Q k f q =
+          let all : D ≡ disjunct (tableOf n d t) P (c .variable) (c .value) (j - 1) .domains =
+          ext-getD 0 _ _ (f .long ∙ sym (length-set (cutDown (j - 1)) (j - 1) _ ∙ rw (cut-is (j - 1), length-changed (j - 1) besides less) long)) (λ i h. made-at D f k i (omega (arith, f .long))) in
+          let same : record { domains = D; marked = P .marked } ≡ disjunct (tableOf n d t) P (c .variable) (c .value) (j - 1) =
+          λ i. record { domains = all i; marked = P .marked } in
           q ∙ same ∙ sym (candidate-other (rest-other k))
 
       -- ---- a turn of the loop
-      module _ (before agenda : List ℕ) (at : ℕ) (whole : length before ≡ words) (so-far : Gathered n d t P r before below agenda at (j + 1)) where
+      module _ (before agenda : List ℕ) (at : ℕ) (whole : length before ≡ words) (room : RoomFor n d t P c 3 below words) (so-far : Gathered n d t P r before below agenda at (j + 1)) where
         back : (j + 1) - 1 ≡ j
         back = omega arith
 
@@ -260,27 +244,27 @@ module _ (n d : ℕ) (t : List ℕ) (P : Subproblem) (c : Choice) (below words :
             (candidate n (tableOf n d t) P r j) (subst (λ (k : ℕ). Piece P n d t r k (candidate n (tableOf n d t) P r j)) (sym back) (piece-of j _ (omega arith) refl))
             true (sym (none-left z)) refl)
 
-        module _ (E : List ℕ) (Q : Subproblem) (k : rest ≡ 0 → ⊥) (e : E ≡ cutDown (j - 1)) (q : Q ≡ record { domains = set E (j - 1) rest; marked = P .marked }) where
+        module _ (D : List ℕ) (Q : Subproblem) (k : rest ≡ 0 → ⊥) (f : FurtherTo less′ beside (j - 1) 16 D) (q : Q ≡ record { domains = D; marked = P .marked }) where
           its-piece : Piece P n d t r ((j + 1) - 1) Q
-          its-piece = subst (λ (i : ℕ). Piece P n d t r i Q) (sym back) (piece-of j Q (omega arith) (made-is E Q k e q))
+          its-piece = subst (λ (i : ℕ). Piece P n d t r i Q) (sym back) (piece-of j Q (omega arith) (made-is D Q k f q))
 
           its-filled : false ≡ empty n Q
-          its-filled = sym (rw (made-is E Q k e q) (some-rest k))
+          its-filled = sym (rw (made-is D Q k f q) (some-rest k))
 
           pub spread-slot : SlotIn n at (length agenda)
           spread-slot =
               gather-slot n d t P r reads before below agenda at (j + 1) so-far (n + 1) its-named (omega arith) (omega arith) Q its-piece false its-filled refl few
-              (rw whole (room))
+              (rw whole room)
 
           pub spread-keep : (after : List ℕ) → length (Q .domains) ≡ 32 → after ≡ splice agenda (at * (n + 2)) (slotWords n Q) → length after ≡ length agenda
               → Gathered n d t P r before below after (at + 1) ((j - 1) + 1)
           spread-keep after l w m =
               subst (λ (i : ℕ). Gathered n d t P r before below after (at + 1) i) down
               (gather-keep n d t P r reads before below agenda at (j + 1) so-far (n + 1) its-named (omega arith) (omega arith) Q its-piece false its-filled refl after few
-              (rw whole (room)) l w m)
+              (rw whole room) l w m)
 
   -- ---- the start and the end
-  module _ (before : List ℕ) (whole : length before ≡ words) where
+  module _ (before : List ℕ) (whole : length before ≡ words) (room : RoomFor n d t P c 3 below words) where
     pub spread-none : Gathered n d t P r before below before below (n + 1)
     spread-none = gather-none n d t P r reads before below (n + 1) (h .regular .shape .long) its-named
 
@@ -293,14 +277,63 @@ module _ (n d : ℕ) (t : List ℕ) (P : Subproblem) (c : Choice) (below words :
       is-first = q ∙ put-precluded n d t P c below words h
 
       first-filled : false ≡ empty n Q
-      first-filled = sym (rw (q ∙ put-precluded n d t P c below words h) (sym (h .found .none) ∙ several-kept c s))
+      first-filled = sym (rw (q ∙ put-precluded n d t P c below words h) (put-kept n d t P c below words h s))
 
       pub spread-last : SlotIn n at (length agenda)
       spread-last = gather-slot n d t P r reads before below agenda at 1 first (n + 1) its-named (omega arith) (omega arith) Q (piece-of 0 Q (omega arith) is-first) false first-filled refl few (rw whole room)
 
       pub spread-end : (after : List ℕ) → length (Q .domains) ≡ 32 → after ≡ splice agenda (at * (n + 2)) (slotWords n Q) → length after ≡ length agenda
-          → Placed n (pieces n (tableOf n d t) P (requestBy c)) below before after (at + 1)
+          → Placed n (pieces n (tableOf n d t) P r) below before after (at + 1)
       spread-end after l w m =
-          rw (put-three n d t P c below words h s)
-          (gather-end n d t P r reads before below after (at + 1) 0
-          (gather-keep n d t P r reads before below agenda at 1 first (n + 1) its-named (omega arith) (omega arith) Q (piece-of 0 Q (omega arith) is-first) false first-filled refl after few (rw whole room) l w m) refl)
+          gather-end n d t P r reads before below after (at + 1) 0
+          (gather-keep n d t P r reads before below agenda at 1 first (n + 1) its-named (omega arith) (omega arith) Q (piece-of 0 Q (omega arith) is-first) false first-filled refl after few (rw whole room) l w m) refl
+
+  -- ---- how many they are
+  module _ (less′ beside : List ℕ) (its : less′ ≡ without P (c .variable) (getD (c .row) (c .variable) 0) .domains) (row : beside ≡ set (c .row) (c .variable) 65535) where
+    -- One for each variable before j with values outside the row, and the first.
+    first-kept : empty n (candidate n (tableOf n d t) P r 0) ≡ false
+    unfolding candidate inferred
+    first-kept = put-kept n d t P c below words h s
+
+    outside : ℕ → ℕ
+    outside j = minus (getD less′ j 0) (getD beside j 0)
+
+    one-more : (j : ℕ) → j < n
+        → length (firsts n (candidate n (tableOf n d t) P r) (suc j + 1)) ≡ length (firsts n (candidate n (tableOf n d t) P r) (suc j)) + cond (eqb (outside j) 0) 0 1
+    unfolding outside
+    one-more j k = elim (ℕ-discrete (minus (getD less′ j 0) (getD beside j 0)) 0) [
+      | yes z ↦
+          ap length (firsts-drop n (candidate n (tableOf n d t) P r) (suc j) (none-left less′ beside its row (suc j) _ (omega arith) k at z))
+          ∙ rw (eq-eqb (minus (getD less′ j 0) (getD beside j 0)) 0 z) (omega arith)
+      | no z ↦
+          ap length (firsts-keep n (candidate n (tableOf n d t) P r) (suc j) (some-rest less′ beside its row (suc j) _ (omega arith) k at z))
+          ∙ rw (length-append, ne-eqb (minus (getD less′ j 0) (getD beside j 0)) 0 z) refl
+    ]
+      where
+        at : minus (getD less′ j 0) (getD beside j 0) ≡ minus (getD less′ (suc j - 1) 0) (getD beside (suc j - 1) 0)
+        at = let back : suc j - 1 ≡ j = omega arith in rw back refl
+
+    so-many : (j : ℕ) → j ≤ n → length (firsts n (candidate n (tableOf n d t) P r) (suc j)) ≡ exceeding less′ beside j + 1
+    unfolding exceeding total outside
+    so-many zero k = ap length (firsts-keep n (candidate n (tableOf n d t) P r) 0 first-kept) ∙ start
+      where
+        start : length (firsts n (candidate n (tableOf n d t) P r) 0 ++ (candidate n (tableOf n d t) P r 0 ∷ [])) ≡ 0 + 1
+        start = rw (length-append, firsts-start n (candidate n (tableOf n d t) P r)) refl
+    so-many (suc j) k =
+        let up : suc (suc j) ≡ suc j + 1 = omega arith in
+        ap (λ (x : ℕ). length (firsts n (candidate n (tableOf n d t) P r) x)) up ∙ one-more j k ∙ rw (so-many j (omega arith)) (omega arith)
+
+    -- None past the last variable.
+    past-none : (j : ℕ) → exceeding less′ beside (n + j) ≡ exceeding less′ beside n
+    unfolding exceeding total minus
+    past-none zero = ap (exceeding less′ beside) (add-zero n)
+    past-none (suc j) =
+        let up : n + suc j ≡ suc (n + j) = omega arith in
+        let none : getD less′ (n + j) 0 - common (getD less′ (n + j) 0) (getD beside (n + j) 0) ≡ 0 = rw (less-is less′ beside its row, less-past (n + j) (omega arith)) (omega arith) in
+        rw (up, past-none j, eq-eqb (getD less′ (n + j) 0 - common (getD less′ (n + j) 0) (getD beside (n + j) 0)) 0 none) (omega arith)
+
+    pub count-three : length (pieces n (tableOf n d t) P r) ≡ exceeding less′ beside 32 + 1
+    unfolding candidates
+    count-three =
+        let end : n + (32 - n) ≡ 32 = omega (arith, few) in
+        ap length (pieces-are n d t P r reads (h .regular .shape .long)) ∙ (let up : n + 1 ≡ suc n = omega arith in ap (λ (x : ℕ). length (firsts n (candidate n (tableOf n d t) P r) x)) up) ∙ so-many n (le-refl n) ∙ ap (λ (k : ℕ). k + 1) (sym (rw end at (past-none (32 - n))))

@@ -6,6 +6,7 @@ ghost use mathlib.Core.List.{_++_};
 ghost use lib.ListN.{length, take, drop, replicate};
 ghost use Rattle.search.specs.Agenda.{holding, slotWords, subproblemOf, slotAt, slotsIn};
 ghost use Rattle.search.specs.Work.Slots.{splice, SlotIn};
+ghost use Rattle.search.specs.Work.Lanes.{Below, Kept, KeptTo};
 
 // The subproblem of the first `n` words as domains.
 pub(crate) fn holding(n: usize, words: &[u16], marked: u32) -> Subproblem
@@ -44,6 +45,43 @@ pub(crate) fn read_slot(n: usize, agenda: &[u16], k: usize) -> Subproblem
     let at = k * (n + 2);
     let end = at + (n + 2);
     subproblem_of(n, &agenda[at..end])
+}
+
+// A word if all bits keep it, none if none does.
+fn kept(word: u16, lane: u16) -> u16
+    ensures { λ r. ⌜ Kept word lane r ⌝ }
+{
+    word & lane
+}
+
+// The first 32 words, each kept by its own.
+fn kept_words(lanes: [u16; 32], words: &[u16]) -> [u16; 32]
+    requires { ⌜ 32 ≤ length (now words) ⌝ }
+    ensures { λ r. ⌜ KeptTo lanes (now (words .entry)) 32 r ⌝ }
+{
+    let mut domains = [0u16; 32];
+    let mut i = 0;
+    while i < 32 {
+        domains[i] = kept(words[i], lanes[i]);
+        i += 1;
+    }
+    domains
+}
+
+// The same, all 32 masks at once where so many words follow; `lanes` keep those of the n variables.
+pub(crate) fn read_lanes(lanes: [u16; 32], n: usize, agenda: &[u16], k: usize) -> Subproblem
+    requires { ⌜ SlotIn n k (length (now agenda)) × Below n lanes ⌝ }
+    ensures { λ r. ⌜ r ≡ subproblemOf n (slotAt n (now (agenda .entry)) k) ⌝ }
+{
+    let at = k * (n + 2);
+    let end = at + 32;
+    if agenda.len() < end {
+        return read_slot(n, agenda, k);
+    }
+    Subproblem {
+        domains: kept_words(lanes, &agenda[at..end]),
+        marked: marked_of(agenda[at + n], agenda[at + n + 1]),
+    }
 }
 
 // A domain for each word.
@@ -91,25 +129,16 @@ pub(crate) fn write_slot(n: usize, agenda: &mut [u16], k: usize, p: Subproblem)
     put_words(n, &mut agenda[at..end], p);
 }
 
-// Zeros.
-fn put_zeros(words: &mut [u16])
-    ensures { λ r. ⌜ now (words .exit) ≡ replicate (length (now (words .entry))) 0 ⌝ }
-{
-    let mut i = 0;
-    while i < words.len() {
-        words[i] = 0;
-        i += 1;
-    }
-}
-
 // Slot `k` holds zeros.
 pub(crate) fn clear_slot(n: usize, agenda: &mut [u16], k: usize)
     requires { ⌜ SlotIn n k (length (now agenda)) ⌝ }
     ensures { λ r. ⌜ now (agenda .exit) ≡ splice (now (agenda .entry)) (k * (n + 2)) (replicate (n + 2) 0) ⌝ }
 {
-    let at = k * (n + 2);
-    let end = at + (n + 2);
-    put_zeros(&mut agenda[at..end]);
+    let none = Subproblem {
+        domains: [0u16; 32],
+        marked: 0,
+    };
+    write_slot(n, agenda, k, none);
 }
 
 // Every slot holds zeros.

@@ -1,28 +1,27 @@
 // A step of the house chooser, worked out on all masks at once.
 use crate::agenda;
-use crate::chooser;
 use crate::lanes;
 use crate::rows;
 use crate::state::Checks;
 use crate::state::Counts;
 use crate::state::State;
 use crate::state::Steps;
-use crate::step;
 use crate::step::Stop;
 use splits::mask;
 use splits::subproblem::Subproblem;
 ghost use mathlib.Core.Path.{_≡_};
 ghost use mathlib.Core.Bool.{true, false};
-ghost use Prim.Native.Nat.{ℕ, _<_, _≤_};
+ghost use Prim.Native.Nat.{ℕ, _+_, _-_, _^_, _<_, _≤_};
 ghost use lib.ListN.{length, getD, set};
-ghost use Rattle.splits.specs.Problem.{tableOf};
-ghost use Rattle.splits.specs.Subproblems.{instantiated};
+ghost use Rattle.splits.specs.Masks.{size};
+ghost use Rattle.splits.specs.Problem.{tableOf, total};
+ghost use Rattle.splits.specs.Subproblems.{domain, instantiated};
 ghost use Rattle.splits.specs.Splits.{without, pieces};
 ghost use Rattle.search.specs.Work.Slots.{SlotIn};
 ghost use Rattle.search.specs.Work.Kept.{Fitting, Regular};
 ghost use Rattle.search.specs.Work.Steps.{Replaced, Taking};
 ghost use Rattle.search.specs.Work.Lanes.{Rows};
-ghost use Rattle.search.specs.Work.Found.{Found, Putting, requestBy, precludedBy, leftBy, several, tight, TakesChosen};
+ghost use Rattle.search.specs.Work.Found.{Found, AtTop, RoomFor, Spread, Puts, requestBy, precludedBy, leftBy, several, TakesChosen};
 
 // What the chooser finds of a top subproblem: the variable and its value, how many values the variable has, what is allowed
 // beside the value, and whether the precluded piece is empty.
@@ -40,7 +39,7 @@ fn look(top: Subproblem, n: usize, d: usize, tables: &[u16], rows: &mut [[u16; 3
     ensures { λ r. ⌜ Found n d (now (tables .entry)) top r × Rows n d (now (tables .entry)) (now (rows .exit)) ⌝ }
 {
     let domains = top.domains;
-    let key = lanes::least_key(domains, top.marked);
+    let key = lanes::least_key(domains, top.marked | lanes::beyond(n));
     let variable = (key % 32) as usize;
     let value = mask::first(top.domain(variable));
     let row = rows::row(n, d, tables, rows, variable, value);
@@ -62,17 +61,6 @@ fn is_several(choice: Choice) -> bool
         return false;
     }
     choice.values != 1
-}
-
-// Whether kind 3 may want more slots than are free.
-fn is_tight(choice: Choice, n: usize, free: usize) -> bool
-    requires { ⌜ n ≤ 32 ⌝ }
-    ensures { λ r. ⌜ r ≡ tight choice n free ⌝ }
-{
-    if is_several(choice) {
-        return free < n + 1;
-    }
-    false
 }
 
 // The precluded piece.
@@ -130,17 +118,39 @@ fn beside(choice: Choice) -> [u16; 32]
     row
 }
 
-// The further piece for variable `j`: it at the values that are not allowed.
-fn further(mut domains: [u16; 32], marked: u32, j: usize, rest: u16) -> Subproblem
-    requires { ⌜ j < 32 ⌝ }
-    ensures { λ r. ⌜ r ≡ record { domains = set domains j rest; marked = marked } ⌝ }
+// Kind 3's pieces, the last named in the place of the top, the others above; the number of subproblems then.
+fn spread(
+    top: Subproblem,
+    n: usize,
+    d: usize,
+    tables: &[u16],
+    agenda: &mut [u16],
+    choice: Choice,
+    less: [u16; 32],
+    row: [u16; 32],
+    below: usize,
+) -> usize
+    requires { ⌜ AtTop n d (now tables) top choice below (length (now agenda)) × (RoomFor n d (now tables) top choice 3 below (length (now agenda)) × Spread top choice less row) ⌝ }
+    ensures { λ r. ⌜ Replaced n (pieces n (tableOf n d (now (tables .entry))) top (requestBy choice 3)) below (now (agenda .entry)) (now (agenda .exit)) r ⌝ }
 {
-    domains[j] = rest;
-    Subproblem { domains, marked }
+    agenda::clear_slot(n, agenda, below);
+    let marked = top.marked;
+    let mut at = below;
+    let mut j = n;
+    while 0 < j {
+        j -= 1;
+        if lanes::outside(less[j], row[j]) != 0 {
+            let domains = lanes::further(less, row, j);
+            agenda::write_slot(n, agenda, at, Subproblem { domains, marked });
+            at += 1;
+        }
+    }
+    agenda::write_slot(n, agenda, at, precluded(top, choice));
+    at + 1
 }
 
-// Where kind 3 leaves several pieces: the last named in the place of the top, the others above; the number of subproblems then.
-fn spread(
+// Kind 2's pieces: V without its value in the place of the top, the precluded piece above.
+fn halve(
     top: Subproblem,
     n: usize,
     d: usize,
@@ -149,31 +159,58 @@ fn spread(
     choice: Choice,
     below: usize,
 ) -> usize
-    requires { ⌜ Putting n d (now tables) top choice below (length (now agenda)) × (several choice ≡ true) ⌝ }
-    ensures { λ r. ⌜ Replaced n (pieces n (tableOf n d (now (tables .entry))) top (requestBy choice)) below (now (agenda .entry)) (now (agenda .exit)) r ⌝ }
+    requires { ⌜ AtTop n d (now tables) top choice below (length (now agenda)) × (RoomFor n d (now tables) top choice 2 below (length (now agenda)) × (several choice ≡ true)) ⌝ }
+    ensures { λ r. ⌜ Replaced n (pieces n (tableOf n d (now (tables .entry))) top (requestBy choice 2)) below (now (agenda .entry)) (now (agenda .exit)) r ⌝ }
 {
     agenda::clear_slot(n, agenda, below);
-    let marked = top.marked;
-    let less = lessened(top, choice);
-    let beside = beside(choice);
-    let mut domains = lanes::cut(less, beside);
-    let mut at = below;
-    let mut j = n;
-    while 0 < j {
-        j -= 1;
-        let whole = less[j];
-        domains[j] = whole;
-        let rest = lanes::outside(whole, beside[j]);
-        if rest != 0 {
-            agenda::write_slot(n, agenda, at, further(domains, marked, j, rest));
-            at += 1;
-        }
-    }
-    agenda::write_slot(n, agenda, at, precluded(top, choice));
-    at + 1
+    let variable = choice.variable;
+    let row = choice.row;
+    agenda::write_slot(n, agenda, below, top.without(variable, row[variable]));
+    agenda::write_slot(n, agenda, below + 1, precluded(top, choice));
+    below + 2
 }
 
-// The pieces in the place of the top, which stood in slot `below`; the number of subproblems then.
+// What came of placing pieces: a refusal, and the number of subproblems.
+pub(crate) struct Left {
+    pub(crate) refusal: u32,
+    pub(crate) subproblems: usize,
+}
+
+// Where several pieces are left: kind 3's if they have room, else kind 2's if these have.
+fn divide(
+    top: Subproblem,
+    n: usize,
+    d: usize,
+    tables: &[u16],
+    agenda: &mut [u16],
+    choice: Choice,
+    below: usize,
+) -> Left
+    requires { ⌜ AtTop n d (now tables) top choice below (length (now agenda)) × (several choice ≡ true) ⌝ }
+    ensures { λ r. ⌜ Puts n d (now (tables .entry)) top below (now (agenda .entry)) (now (agenda .exit)) r ⌝ }
+{
+    let free = agenda.len() / (n + 2) - below;
+    let less = lessened(top, choice);
+    let row = beside(choice);
+    if (lanes::exceeding(less, row) as usize) < free {
+        return Left {
+            refusal: 0,
+            subproblems: spread(top, n, d, tables, agenda, choice, less, row, below),
+        };
+    }
+    if free < 2 {
+        return Left {
+            refusal: 12,
+            subproblems: 0,
+        };
+    }
+    Left {
+        refusal: 0,
+        subproblems: halve(top, n, d, tables, agenda, choice, below),
+    }
+}
+
+// The pieces of the rule's request in the place of the top, which stood in slot `below`.
 fn put(
     top: Subproblem,
     n: usize,
@@ -182,31 +219,26 @@ fn put(
     agenda: &mut [u16],
     choice: Choice,
     below: usize,
-) -> usize
-    requires { ⌜ Putting n d (now tables) top choice below (length (now agenda)) ⌝ }
-    ensures { λ r. ⌜ Replaced n (pieces n (tableOf n d (now (tables .entry))) top (requestBy choice)) below (now (agenda .entry)) (now (agenda .exit)) r ⌝ }
+) -> Left
+    requires { ⌜ AtTop n d (now tables) top choice below (length (now agenda)) ⌝ }
+    ensures { λ r. ⌜ Puts n d (now (tables .entry)) top below (now (agenda .entry)) (now (agenda .exit)) r ⌝ }
 {
     if is_several(choice) {
-        return spread(top, n, d, tables, agenda, choice, below);
+        return divide(top, n, d, tables, agenda, choice, below);
     }
-    settle(top, n, agenda, choice, below)
+    Left {
+        refusal: 0,
+        subproblems: settle(top, n, agenda, choice, below),
+    }
 }
 
-// The chooser's request taken as any other is.
-fn take_as_any(
-    top: Subproblem,
-    n: usize,
-    d: usize,
-    tables: &[u16],
-    agenda: &mut [u16],
-    state: State,
-) -> Stop
-    requires { ⌜ Taking n d (now tables) (now agenda) top state ⌝ }
-    ensures { λ r. ⌜ TakesChosen n d (now (tables .entry)) top (now (agenda .entry)) (now (agenda .exit)) state r ⌝ }
+// The checks so far with those of the step: the values of all variables but V.
+fn with_checks(top: Subproblem, choice: Choice, before: u64) -> u64
+    requires { ⌜ (choice .values ≤ total 32 (λ j. size (domain top j))) × (before < 2 ^ 63) ⌝ }
+    ensures { λ r. ⌜ r ≡ before + (total 32 (λ j. size (domain top j)) - choice .values) ⌝ }
 {
-    let free = agenda.len() / (n + 2) - (state.subproblems - 1);
-    let request = chooser::chosen(top, n, d, tables, free);
-    step::take(top, n, d, tables, agenda, &request, state)
+    let domains = top.domains;
+    before + ((lanes::values(domains) - choice.values) as u64)
 }
 
 // One step of the chooser by a search that runs and whose top is `top`.
@@ -222,11 +254,6 @@ pub(crate) fn take_chosen(
     requires { ⌜ Taking n d (now tables) (now agenda) top state × Rows n d (now tables) (now rows) ⌝ }
     ensures { λ r. ⌜ TakesChosen n d (now (tables .entry)) top (now (agenda .entry)) (now (agenda .exit)) state r × Rows n d (now (tables .entry)) (now (rows .exit)) ⌝ }
 {
-    let choice = look(top, n, d, tables, rows);
-    let below = state.subproblems - 1;
-    if is_tight(choice, n, agenda.len() / (n + 2) - below) {
-        return take_as_any(top, n, d, tables, agenda, state);
-    }
     let steps = state.counts.steps.0;
     if steps == 4294967295 {
         return Stop {
@@ -235,10 +262,16 @@ pub(crate) fn take_chosen(
             state,
         };
     }
-    let domains = top.domains;
-    let counted = lanes::values(domains) - choice.values;
-    let checks = state.counts.checks.0 + (counted as u64);
-    let subproblems = put(top, n, d, tables, agenda, choice, below);
+    let choice = look(top, n, d, tables, rows);
+    let checks = with_checks(top, choice, state.counts.checks.0);
+    let left = put(top, n, d, tables, agenda, choice, state.subproblems - 1);
+    if left.refusal != 0 {
+        return Stop {
+            refusal: left.refusal,
+            taken: 0,
+            state,
+        };
+    }
     Stop {
         refusal: 0,
         taken: 1,
@@ -247,7 +280,7 @@ pub(crate) fn take_chosen(
                 steps: Steps(steps + 1),
                 checks: Checks(checks),
             },
-            subproblems,
+            subproblems: left.subproblems,
         },
     }
 }

@@ -1,11 +1,12 @@
 // Loops over all 32 masks of a subproblem, with a fixed number of turns and no way out of them, so that the machine takes eight masks at once.
 ghost use mathlib.Core.Path.{_≡_};
 ghost use mathlib.Core.Bool.{cond};
-ghost use Prim.Native.Nat.{ℕ, _<_, _≤_, min};
+ghost use Prim.Native.Nat.{ℕ, _+_, _*_, _<_, _≤_, min};
 ghost use lib.ListN.{getD};
-ghost use Rattle.splits.specs.Masks.{minus, size};
+ghost use lib.Dec.{eqb};
+ghost use Rattle.splits.specs.Masks.{bit, minus, size};
 ghost use Rattle.splits.specs.Problem.{total};
-ghost use Rattle.search.specs.Work.Lanes.{keyOf, leastKey, lost, loses, cutTo};
+ghost use Rattle.search.specs.Work.Lanes.{Half, Beyond, Below, LeastKey, lost, loses, cutTo, partOf, FurtherTo, exceeding};
 
 fn least(a: u16, b: u16) -> u16
     ensures { λ r. ⌜ r ≡ min a b ⌝ }
@@ -20,28 +21,68 @@ fn count(domain: u16) -> u16
     u16::count_ones(domain) as u16
 }
 
-// The key of a variable: the fewer values the less, then the lower number; 1024 where it is empty or instantiated.
-fn key(domain: u16, marked: u32, i: usize) -> u16
-    requires { ⌜ i < 32 ⌝ }
-    ensures { λ r. ⌜ r ≡ keyOf domain marked i ⌝ }
+// The low half of a set of variables, and the high half.
+fn low_of(set: u32) -> u16
+    ensures { λ r. ⌜ Half set 0 r ⌝ }
 {
-    if domain == 0 {
-        return 1024;
+    (set % 65536) as u16
+}
+
+fn high_of(set: u32) -> u16
+    ensures { λ r. ⌜ Half set 16 r ⌝ }
+{
+    (set / 65536) as u16
+}
+
+// The variables from one on, up to the last of 32.
+pub(crate) fn beyond(i: usize) -> u32
+    requires { ⌜ i ≤ 32 ⌝ }
+    ensures { λ r. ⌜ Beyond i r ⌝ }
+{
+    (4294967296u64 - (1 << i)) as u32
+}
+
+// All bits for each of the first `n` variables, none for the others.
+pub(crate) fn below(n: usize) -> [u16; 32]
+    requires { ⌜ n ≤ 32 ⌝ }
+    ensures { λ r. ⌜ Below n r ⌝ }
+{
+    let mut lanes = [0u16; 32];
+    let mut i = 0;
+    while i < n {
+        lanes[i] = 65535;
+        i += 1;
     }
-    if (marked >> i) % 2 == 1 {
-        return 1024;
-    }
-    count(domain) * 32 + (i as u16)
+    lanes
+}
+
+// What puts an instantiated variable after all others.
+fn far(half: u16, i: usize) -> u16
+    requires { ⌜ i < 16 ⌝ }
+    ensures { λ r. ⌜ r ≡ 1024 * bit half i ⌝ }
+{
+    if (half >> i) % 2 == 1 { 1024 } else { 0 }
+}
+
+// The key of a variable, `i` in its half of the instantiated: the fewer values the less, then the lower number.
+fn key(domain: u16, half: u16, i: usize, variable: usize) -> u16
+    requires { ⌜ (i < 16) × (variable < 32) ⌝ }
+    ensures { λ r. ⌜ r ≡ size domain * 32 + variable + 1024 * bit half i ⌝ }
+{
+    count(domain) * 32 + (variable as u16) + far(half, i)
 }
 
 // The least key of all.
 pub(crate) fn least_key(domains: [u16; 32], marked: u32) -> u16
-    ensures { λ r. ⌜ r ≡ leastKey domains marked 32 ⌝ }
+    ensures { λ r. ⌜ LeastKey domains marked 16 r ⌝ }
 {
-    let mut best: u16 = 1024;
+    let low = low_of(marked);
+    let high = high_of(marked);
+    let mut best: u16 = 2047;
     let mut i = 0;
-    while i < 32 {
-        best = least(best, key(domains[i], marked, i));
+    while i < 16 {
+        best = least(best, key(domains[i], low, i, i));
+        best = least(best, key(domains[i + 16], high, i, i + 16));
         i += 1;
     }
     best
@@ -100,4 +141,61 @@ pub(crate) fn cut(mut domains: [u16; 32], row: [u16; 32]) -> [u16; 32]
         i += 1;
     }
     domains
+}
+
+// A domain of the piece for a variable: cut to its mask before it, at the values outside the mask for it, whole after it.
+fn part(whole: u16, mask: u16, i: usize, from: u16, after: u16) -> u16
+    requires { ⌜ i < 16 ⌝ }
+    ensures { λ r. ⌜ r ≡ partOf whole mask (bit from i) (bit after i) ⌝ }
+{
+    if (after >> i) % 2 == 1 {
+        return whole;
+    }
+    if (from >> i) % 2 == 1 {
+        return outside(whole, mask);
+    }
+    whole & mask
+}
+
+// All of them, for variable `j`.
+pub(crate) fn further(domains: [u16; 32], row: [u16; 32], j: usize) -> [u16; 32]
+    requires { ⌜ j < 32 ⌝ }
+    ensures { λ r. ⌜ FurtherTo domains row j 16 r ⌝ }
+{
+    let from = beyond(j);
+    let after = beyond(j + 1);
+    let mut piece = domains;
+    let mut i = 0;
+    while i < 16 {
+        piece[i] = part(domains[i], row[i], i, low_of(from), low_of(after));
+        piece[i + 16] = part(
+            domains[i + 16],
+            row[i + 16],
+            i,
+            high_of(from),
+            high_of(after),
+        );
+        i += 1;
+    }
+    piece
+}
+
+// Whether a domain has values outside a mask: 1 if so, else 0.
+fn excess(domain: u16, mask: u16) -> u16
+    ensures { λ r. ⌜ (r ≡ cond (eqb (minus domain mask) 0) 0 1) × (r ≤ 1) ⌝ }
+{
+    if outside(domain, mask) == 0 { 0 } else { 1 }
+}
+
+// How many have, each outside its own.
+pub(crate) fn exceeding(domains: [u16; 32], row: [u16; 32]) -> u16
+    ensures { λ r. ⌜ r ≡ exceeding domains row 32 ⌝ }
+{
+    let mut sum: u16 = 0;
+    let mut i = 0;
+    while i < 32 {
+        sum += excess(domains[i], row[i]);
+        i += 1;
+    }
+    sum
 }

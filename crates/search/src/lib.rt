@@ -1,7 +1,6 @@
 // The search: the lent agenda, the first checks, opening, a run, the house chooser.
 mod agenda;
 mod choice;
-mod chooser;
 pub mod first;
 mod lanes;
 pub mod matrix;
@@ -24,7 +23,7 @@ ghost use Rattle.search.specs.Verdicts.{verdictOf};
 ghost use Rattle.search.specs.Calls.{opening, searchOf, Opens, Runs, Chooses};
 ghost use Rattle.search.specs.Work.Kept.{Ready};
 ghost use Rattle.search.specs.Work.Steps.{TakesOne, TakesAll, ChoosesOne, ChoosesAll};
-ghost use Rattle.search.specs.Work.Lanes.{Rows};
+ghost use Rattle.search.specs.Work.Lanes.{Rows, Below};
 ghost use Rattle.search.specs.Work.Ends.{Openable, Used, endedBy};
 
 // Opens a search.
@@ -205,8 +204,9 @@ fn choose_on(
     let mut taken = 0;
     let none = [0u16; 32];
     let mut rows = [none; 512];
+    let below = lanes::below(n);
     while taken < limit {
-        let stop = step_chosen(n, d, tables, agenda, &mut rows, state);
+        let stop = step_chosen(below, n, d, tables, agenda, &mut rows, state);
         state = stop.state;
         if stop.taken == 0 {
             return Stop {
@@ -226,6 +226,7 @@ fn choose_on(
 
 // One step of the chooser, unless the search is finished.
 fn step_chosen(
+    below: [u16; 32],
     n: usize,
     d: usize,
     tables: &[u16],
@@ -233,7 +234,7 @@ fn step_chosen(
     rows: &mut [[u16; 32]],
     state: State,
 ) -> Stop
-    requires { ⌜ Ready n d (now tables) (now agenda) (searchOf n (now agenda) state) × Rows n d (now tables) (now rows) ⌝ }
+    requires { ⌜ Ready n d (now tables) (now agenda) (searchOf n (now agenda) state) × (Rows n d (now tables) (now rows) × Below n below) ⌝ }
     ensures { λ r. ⌜ ChoosesOne n d (now (tables .entry)) (now (agenda .entry)) (now (agenda .exit)) state r × Rows n d (now (tables .entry)) (now (rows .exit)) ⌝ }
 {
     let subproblems = state.subproblems;
@@ -244,7 +245,7 @@ fn step_chosen(
             state,
         };
     }
-    let top = agenda::read_slot(n, agenda, subproblems - 1);
+    let top = agenda::read_lanes(below, n, agenda, subproblems - 1);
     if top.all_instantiated(n) {
         return Stop {
             refusal: 0,

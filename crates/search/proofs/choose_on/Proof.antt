@@ -11,19 +11,22 @@ use Rattle.search.proofs.choose_on.Statement.{statement}
 use Rattle.search.proofs.choose_on.Tie as tie
 
 abbrev Inv-loop : tie.InvT-loop
-Inv-loop n d tables agenda₀ limit state₀ taken₀ rows₀ agenda state taken rows = (taken ≤ limit) × (GoingChosen n d tables limit agenda₀ state₀ agenda state taken × Rows n d tables rows)
+Inv-loop n d tables agenda₀ limit state₀ taken₀ rows₀ below agenda state taken rows = (taken ≤ limit) × (GoingChosen n d tables limit agenda₀ state₀ agenda state taken × Rows n d tables rows)
 
 abbrev μ-loop : tie.MeasureT-loop
-μ-loop n d tables agenda₀ limit state₀ taken₀ rows₀ agenda state taken rows = limit - taken
+μ-loop n d tables agenda₀ limit state₀ taken₀ rows₀ below agenda state taken rows = limit - taken
+
+below-requires : tie.Need-below-requires Inv-loop μ-loop
+below-requires c κs = c .before .before .pre .fitting .few
 
 loop-holds : tie.Need-loop-holds Inv-loop μ-loop
-loop-holds c = (search needs, (choosing-none _ _ _ _ _ _ (c .before .before .pre), rows-none _ _ _ (c .before .before .pre .fitting .few) (c .before .before .pre .fitting .small)))
+loop-holds c = (search needs, (choosing-none _ _ _ _ _ _ (c .before .before .before .pre), rows-none _ _ _ (c .before .before .before .pre .fitting .few) (c .before .before .before .pre .fitting .small)))
 
 slice-aggregate-step-chosen : tie.Need-slice-aggregate-step-chosen Inv-loop μ-loop
 slice-aggregate-step-chosen c = search needs
 
 step-chosen-requires : tie.Need-step-chosen-requires Inv-loop μ-loop
-step-chosen-requires c κs = (c .before .before .before .loop .inv .1 .0 .ready, c .before .before .before .loop .inv .1 .1)
+step-chosen-requires c κs = (c .before .before .before .loop .inv .1 .0 .ready, (c .before .before .before .loop .inv .1 .1, c .before .before .before .before .below .ensures))
 
 same-length : tie.Need-same-length Inv-loop μ-loop
 same-length c = c .before .before .before .before .before .before .step-chosen .ensures .0 .same ∙ c .before .before .before .before .before .before .before .before .before .before .loop .inv .1 .0 .room
@@ -52,6 +55,7 @@ choose-on-spec =
     (tie.spec
     Inv-loop
     μ-loop
+    below-requires
     loop-holds
     slice-aggregate-step-chosen
     step-chosen-requires

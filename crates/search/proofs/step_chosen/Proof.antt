@@ -7,13 +7,13 @@ use Rattle.search.proofs.step_chosen.Statement.{statement}
 use Rattle.search.proofs.step_chosen.Tie as tie
 
 returns : tie.Need-returns
-returns c = (stays-chosen _ _ _ _ _ (c .before .before .before .pre .0) (finished-empty _ _ _ (c .if1 .taken)), c .before .before .before .pre .1)
+returns c = (stays-chosen _ _ _ _ _ (c .before .before .before .pre .0) (finished-empty _ _ _ (c .if1 .taken)), c .before .before .before .pre .1 .0)
 
-sub-read-slot : tie.Need-sub-read-slot
-sub-read-slot c = search needs
+sub-read-lanes : tie.Need-sub-read-lanes
+sub-read-lanes c = search needs
 
-read-slot-requires : tie.Need-read-slot-requires
-read-slot-requires c κs = used-slot _ _ _ (ready-used _ _ (c .before .before .before .before .args .tables .now) _ _ (c .before .before .before .before .pre .0)) (c .before .if1 .left)
+read-lanes-requires : tie.Need-read-lanes-requires
+read-lanes-requires c κs = (used-slot _ _ _ (ready-used _ _ (c .before .before .before .before .args .tables .now) _ _ (c .before .before .before .before .pre .0)) (c .before .if1 .left), c .before .before .before .before .pre .1 .1)
 
 all-instantiated-requires : tie.Need-all-instantiated-requires
 all-instantiated-requires c κs = search needs
@@ -22,10 +22,10 @@ same-length : tie.Need-same-length
 same-length c = search needs
 
 returns-2 : tie.Need-returns-2
-returns-2 c = (stays-chosen _ _ _ _ _ (c .before .before .before .before .before .before .before .pre .0) (finished-is _ _ _ (c .before .before .before .before .if1 .left) _ (c .before .before .read-slot .ensures) _ (c .before .all-instantiated .ensures) ∙ c .if2 .taken), c .before .before .before .before .before .before .before .pre .1)
+returns-2 c = (stays-chosen _ _ _ _ _ (c .before .before .before .before .before .before .before .pre .0) (finished-is _ _ _ (c .before .before .before .before .if1 .left) _ (c .before .before .read-lanes .ensures) _ (c .before .all-instantiated .ensures) ∙ c .if2 .taken), c .before .before .before .before .before .before .before .pre .1 .0)
 
 take-chosen-requires : tie.Need-take-chosen-requires
-take-chosen-requires c κs = (taking _ _ _ _ _ (c .before .before .before .before .before .before .before .before .before .pre .0) _ _ (c .before .before .before .before .before .before .if1 .left) (c .before .before .before .before .read-slot .ensures) (c .before .before .before .all-instantiated .ensures) (c .before .before .if2 .left), c .before .before .before .before .before .before .before .before .before .pre .1)
+take-chosen-requires c κs = (taking _ _ _ _ _ (c .before .before .before .before .before .before .before .before .before .pre .0) _ _ (c .before .before .before .before .before .before .if1 .left) (c .before .before .before .before .read-lanes .ensures) (c .before .before .before .all-instantiated .ensures) (c .before .before .if2 .left), c .before .before .before .before .before .before .before .before .before .pre .1 .0)
 
 same-length-2 : tie.Need-same-length-2
 same-length-2 c = search needs
@@ -34,15 +34,15 @@ same-length-3 : tie.Need-same-length-3
 same-length-3 c = search needs
 
 returns-3 : tie.Need-returns-3
-returns-3 c = (chosen-stops _ _ _ _ _ (c .before .before .before .before .before .before .before .before .before .before .before .before .before .pre .0) _ (c .before .before .before .before .before .before .before .before .before .before .if1 .left) (c .before .before .before .before .before .before .before .before .read-slot .ensures) _ _ _ refl (c .before .before .before .take-chosen .ensures .0), c .before .before .before .take-chosen .ensures .1)
+returns-3 c = (chosen-stops _ _ _ _ _ (c .before .before .before .before .before .before .before .before .before .before .before .before .before .pre .0) _ (c .before .before .before .before .before .before .before .before .before .before .if1 .left) (c .before .before .before .before .before .before .before .before .read-lanes .ensures) _ _ _ refl (c .before .before .before .take-chosen .ensures .0), c .before .before .before .take-chosen .ensures .1)
 
 pub step-chosen-spec : {M : Type 1} → statement M
 step-chosen-spec =
     tie.close
     (tie.spec
     returns
-    sub-read-slot
-    read-slot-requires
+    sub-read-lanes
+    read-lanes-requires
     all-instantiated-requires
     same-length
     returns-2

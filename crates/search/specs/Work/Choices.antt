@@ -1,4 +1,4 @@
--- What the chooser's loop and tests find of a top subproblem.
+-- The request that the chooser's rule makes of a top subproblem, by the number of slots that its pieces may take.
 use mathlib.Core.Bool.{Bool, cond, _&&_, _||_}
 use mathlib.Core.List.{List}
 use Prim.Native.Nat.{ℕ}
@@ -10,10 +10,6 @@ use Rattle.splits.specs.Subproblems.{domain, empty}
 use Rattle.splits.specs.Splits.{precluded, pieces}
 use Rattle.splits.specs.declared.subproblem.Subproblem.{Subproblem}
 use Rattle.search.specs.Chooser.{fewest, request}
-
--- Variable i comes before the best so far; n says that there is none yet.
-unfoldable pub better : ℕ → Subproblem → ℕ → ℕ → Bool
-better n P best i = eqb (bit (P .marked) i) 0 && (eqb best n || ltb (size (domain P i)) (size (domain P best)))
 
 -- Kind 2 if the precluded piece is empty or if kind 3 has no room in the free slots, else kind 3.
 unfoldable pub kindFor : ℕ → ℕ → List ℕ → Subproblem → ℕ → ℕ → ℕ → ℕ

@@ -4,7 +4,7 @@ use mathlib.Core.Bool.{Bool, true, false, cond}
 use mathlib.Core.List.{List, [], _∷_}
 use Prim.Native.Nat.{ℕ, _+_, _-_, _*_, _≤_}
 use lib.Bits.{bitOr}
-use lib.ListN.{length, getD}
+use lib.ListN.{length, getD, set}
 use lib.Dec.{eqb, ltb}
 use Rattle.splits.specs.Masks.{single, size, lowest}
 use Rattle.splits.specs.Problem.{tableOf}
@@ -16,11 +16,12 @@ use Rattle.search.specs.Chooser.{fewest, request}
 use Rattle.search.specs.Work.Slots.{SlotIn}
 use Rattle.search.specs.Work.Kept.{Fitting, Regular}
 use Rattle.search.specs.Work.Choices.{chosenFor}
-use Rattle.search.specs.Work.Steps.{TakesOne}
+use Rattle.search.specs.Work.Steps.{TakesOne, Replaced}
 use Rattle.search.specs.Work.Lanes.{RowOf, cutTo}
 use Rattle.search.specs.declared.state.State.{State}
 use Rattle.search.specs.declared.step.Stop.{Stop}
 use Rattle.search.specs.declared.choice.Choice.{Choice}
+use Rattle.search.specs.declared.choice.Left.{Left}
 
 -- The variable and the value by the rule, how many values the variable has, the row of the value, and whether the precluded piece is empty.
 pub record Found (n d : ℕ) (tables : List ℕ) (P : Subproblem) (c : Choice) : Type 0 where
@@ -43,22 +44,35 @@ leftBy P c =
 unfoldable pub several : Choice → Bool
 several c = cond (c .lost) false (cond (eqb (c .values) 1) false true)
 
--- Kind 3 may want more slots than are free.
-unfoldable pub tight : Choice → ℕ → ℕ → Bool
-tight c n free = cond (several c) (ltb free (n + 1)) false
+-- A request of a kind for the variable and the value.
+abbrev pub requestBy : Choice → ℕ → List ℕ
+requestBy c kind = request kind (c .variable) (c .value)
 
--- The request: kind 2 where the precluded piece is empty, else kind 3.
-unfoldable pub requestBy : Choice → List ℕ
-requestBy c = request (cond (c .lost) 2 3) (c .variable) (c .value)
-
--- Its pieces are to stand in the place of a top P that runs, in a slot, and there is room.
-pub record Putting (n d : ℕ) (tables : List ℕ) (P : Subproblem) (c : Choice) (below words : ℕ) : Type 0 where
+-- A top P that runs stands in a slot, with what is found of it.
+pub record AtTop (n d : ℕ) (tables : List ℕ) (P : Subproblem) (c : Choice) (below words : ℕ) : Type 0 where
   pub fitting : Fitting n d tables
   pub regular : Regular n d P
   pub runs : instantiated n P ≡ false
   pub found : Found n d tables P c
   pub slot : SlotIn n below words
-  pub room : (below + length (pieces n (tableOf n d tables) P (requestBy c))) * (n + 2) ≤ words
+
+-- The slots from there on hold the pieces of a kind.
+abbrev pub RoomFor : ℕ → ℕ → List ℕ → Subproblem → Choice → ℕ → ℕ → ℕ → Type 0
+RoomFor n d tables P c kind below words = (below + length (pieces n (tableOf n d tables) P (requestBy c kind))) * (n + 2) ≤ words
+
+-- What kind 3's further pieces are made of, where several may be left: the domains with V's without its value, and the row with every value for V itself.
+pub record Spread (P : Subproblem) (c : Choice) (less row : List ℕ) : Type 0 where
+  pub several : several c ≡ true
+  pub domains : less ≡ without P (c .variable) (getD (c .row) (c .variable) 0) .domains
+  pub beside : row ≡ set (c .row) (c .variable) 65535
+
+-- The pieces of the request that the rule chooses in the place of the top, if they have room.
+pub record Puts (n d : ℕ) (tables : List ℕ) (P : Subproblem) (below : ℕ) (before after : List ℕ) (r : Left) : Type 0 where
+  pub refusal : r .refusal
+      ≡ cond (ltb (slotsIn n (length before) - below) (length (pieces n (tableOf n d tables) P (chosenFor n d tables P (slotsIn n (length before) - below))))) 12 0
+  pub placed : r .refusal ≡ 0
+      → Replaced n (pieces n (tableOf n d tables) P (chosenFor n d tables P (slotsIn n (length before) - below))) below before after (r .subproblems)
+  pub kept : (r .refusal ≡ 0 → ⊥) → after ≡ before
 
 -- One request taken, the one that the rule chooses.
 abbrev pub TakesChosen : ℕ → ℕ → List ℕ → Subproblem → List ℕ → List ℕ → State → Stop → Type 0

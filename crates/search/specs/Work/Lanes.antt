@@ -1,24 +1,49 @@
--- What the loops over all 32 masks at once find, and what is allowed beside a value of a variable, mask by mask.
+-- What the loops over all 32 masks at once find and make, and what is allowed beside a value of a variable, mask by mask.
 use mathlib.Core.Path.{_≡_}
 use mathlib.Core.Logic.{_⊎_}
 use mathlib.Core.Bool.{Bool, not, cond, _&&_}
 use mathlib.Core.List.{List, []}
-use Prim.Native.Nat.{ℕ, zero, suc, _+_, _*_, _<_, min}
+use Prim.Native.Nat.{ℕ, _+_, _*_, _≤_, _<_}
 use lib.ListN.{length, getD}
-use lib.Dec.{eqb}
-use Rattle.splits.specs.Masks.{bit, single, common, size}
-use Rattle.splits.specs.Problem.{Table, tableOf}
+use lib.Dec.{eqb, ltb}
+use Rattle.splits.specs.Masks.{bit, single, common, minus, size}
+use Rattle.splits.specs.Problem.{Table, tableOf, total}
 use Rattle.splits.specs.Subproblems.{some}
 use Rattle.splits.specs.Splits.{changed}
 
--- The key of a variable: the fewer values the less, then the lower number; 1024 where it is empty or instantiated.
-unfoldable pub keyOf : ℕ → ℕ → ℕ → ℕ
-keyOf m marked i = cond (eqb m 0) 1024 (cond (eqb (bit marked i) 1) 1024 (size m * 32 + i))
+-- Sixteen variables of a set, from one on.
+abbrev pub Half : ℕ → ℕ → ℕ → Type 0
+Half set from r = (i : ℕ) → i < 16 → bit r i ≡ bit set (from + i)
 
--- The least key of the first i variables.
-unfoldable pub leastKey : List ℕ → ℕ → ℕ → ℕ
-leastKey masks marked zero = 1024
-leastKey masks marked (suc i) = min (leastKey masks marked i) (keyOf (getD masks i 0) marked i)
+-- The set of all of 32 variables from i on.
+pub record Beyond (i set : ℕ) : Type 0 where
+  pub before : (j : ℕ) → j < i → bit set j ≡ 0
+  pub after : (j : ℕ) → i ≤ j → j < 32 → bit set j ≡ 1
+
+-- All bits for each of the first n of 32 variables, none for the others.
+pub record Below (n : ℕ) (lanes : List ℕ) : Type 0 where
+  pub long : length lanes ≡ 32
+  pub all : (i : ℕ) → i < n → getD lanes i 0 ≡ 65535
+  pub none : (i : ℕ) → n ≤ i → getD lanes i 0 ≡ 0
+
+-- A word kept by all bits, and by none.
+abbrev pub Kept : ℕ → ℕ → ℕ → Type 0
+Kept word lane r = (lane ≡ 65535 → r ≡ word) × (lane ≡ 0 → r ≡ 0)
+
+-- The first i of 32 words kept, each by its own.
+pub record KeptTo (lanes words : List ℕ) (i : ℕ) (r : List ℕ) : Type 0 where
+  pub long : length r ≡ 32
+  pub each : (j : ℕ) → j < i → Kept (getD words j 0) (getD lanes j 0) (getD r j 0)
+
+-- The key of a variable: the fewer values the less, then the lower number; those of a set come after all others.
+unfoldable pub keyOf : ℕ → ℕ → ℕ → ℕ
+keyOf m set i = size m * 32 + i + 1024 * bit set i
+
+-- The least key of the first i variables and of the i from 16 on; 2047 of none.
+pub record LeastKey (masks : List ℕ) (set i r : ℕ) : Type 0 where
+  pub low : (j : ℕ) → j < i → r ≤ keyOf (getD masks j 0) set j
+  pub high : (j : ℕ) → j < i → r ≤ keyOf (getD masks (j + 16) 0) set (j + 16)
+  pub some : (r ≡ 2047) ⊎ ((j : ℕ) × (j < 32) × (r ≡ keyOf (getD masks j 0) set j))
 
 -- A mask loses all its values if it is cut.
 unfoldable pub lost : ℕ → ℕ → Bool
@@ -32,6 +57,25 @@ loses masks row = some 32 (λ i. lost (getD masks i 0) (getD row i 0))
 unfoldable pub cutTo : List ℕ → List ℕ → ℕ → List ℕ
 cutTo masks row i = changed i (λ j m. common m (getD row j 0)) masks
 
+-- A mask of the piece for a variable, by whether it is that variable's or a later one's, and whether a later one's: cut to its own before it, the rest for it, whole after it.
+unfoldable pub partOf : ℕ → ℕ → ℕ → ℕ → ℕ
+partOf m mask from after = cond (eqb after 1) m (cond (eqb from 1) (minus m mask) (common m mask))
+
+-- The piece for variable j: mask i of it.
+unfoldable pub furtherAt : List ℕ → List ℕ → ℕ → ℕ → ℕ
+furtherAt masks row j i =
+    cond (ltb i j) (common (getD masks i 0) (getD row i 0)) (cond (eqb i j) (minus (getD masks i 0) (getD row i 0)) (getD masks i 0))
+
+-- Its first i masks and the i from 16 on.
+pub record FurtherTo (masks row : List ℕ) (j i : ℕ) (r : List ℕ) : Type 0 where
+  pub long : length r ≡ 32
+  pub low : (k : ℕ) → k < i → getD r k 0 ≡ furtherAt masks row j k
+  pub high : (k : ℕ) → k < i → getD r (k + 16) 0 ≡ furtherAt masks row j (k + 16)
+
+-- How many of the first i masks have values outside their own of a row.
+unfoldable pub exceeding : List ℕ → List ℕ → ℕ → ℕ
+exceeding masks row i = total i (λ j. cond (eqb (minus (getD masks j 0) (getD row j 0)) 0) 0 1)
+
 -- The row of v of V: what each other variable may hold beside it, and for V itself v alone.
 pub record RowOf (n : ℕ) (allowed : Table) (V′ v : ℕ) (row : List ℕ) : Type 0 where
   pub long : length row ≡ 32
@@ -43,3 +87,8 @@ pub record Rows (n d : ℕ) (tables : List ℕ) (rows : List (List ℕ)) : Type 
   pub long : length rows ≡ 512
   pub each : (V′ v : ℕ) → V′ < n → v < d
       → (getD (getD rows (V′ * 16 + v) []) V′ 0 ≡ 0) ⊎ RowOf n (tableOf n d tables) V′ v (getD rows (V′ * 16 + v) [])
+
+-- The row of v of V among them.
+pub record RowKept (n d : ℕ) (tables : List ℕ) (V′ v : ℕ) (rows : List (List ℕ)) : Type 0 where
+  pub all : Rows n d tables rows
+  pub row : RowOf n (tableOf n d tables) V′ v (getD rows (V′ * 16 + v) [])

@@ -6,6 +6,9 @@ use borrow.Author.Needs.{needs}
 use Rattle.search.proofs.choice.look.Statement.{statement}
 use Rattle.search.proofs.choice.look.Tie as tie
 
+beyond-requires : tie.Need-beyond-requires
+beyond-requires c κs = c .before .before .pre .0 .few
+
 least-key-requires : tie.Need-least-key-requires
 least-key-requires c κs = search needs
 
@@ -19,7 +22,7 @@ first-requires : tie.Need-first-requires
 first-requires c κs = search needs
 
 row-requires : tie.Need-row-requires
-row-requires c κs = let k = c .before .before .before .before .before .before .pre in (found-inside _ _ _ _ (k .0) (k .1 .0) (k .1 .1 .0) _ _ _ _ (c .before .before .before .least-key .ensures) refl (c .before .before .domain .ensures) (c .before .first .ensures), k .1 .1 .1)
+row-requires c κs = let k = c .before .before .before .before .before .before .before .before .pre in (found-inside _ _ _ _ (k .0) (k .1 .0) (k .1 .1 .0) _ _ _ _ _ (c .before .before .before .before .before .beyond .ensures) (c .before .before .before .least-key .ensures) refl (c .before .before .domain .ensures) (c .before .first .ensures), k .1 .1 .1)
 
 loses-requires : tie.Need-loses-requires
 loses-requires c κs = search needs
@@ -28,12 +31,13 @@ same-length : tie.Need-same-length
 same-length c = search needs
 
 returns : tie.Need-returns
-returns c = let k = c .before .before .before .before .before .before .before .before .before .pre in (found-is _ _ _ _ (k .0) (k .1 .0) (k .1 .1 .0) _ _ _ _ (c .before .before .before .before .before .before .least-key .ensures) refl (c .before .before .before .before .before .domain .ensures) (c .before .before .before .before .first .ensures) _ _ (c .before .before .row .ensures .0) (c .loses .ensures), c .before .before .row .ensures .1)
+returns c = let k = c .before .before .before .before .before .before .before .before .before .before .before .pre in (found-is _ _ _ _ (k .0) (k .1 .0) (k .1 .1 .0) _ _ _ _ _ (c .before .before .before .before .before .before .before .before .beyond .ensures) (c .before .before .before .before .before .before .least-key .ensures) refl (c .before .before .before .before .before .domain .ensures) (c .before .before .before .before .first .ensures) _ _ (c .before .before .row .ensures .0) (c .loses .ensures), c .before .before .row .ensures .1)
 
 pub look-spec : {M : Type 1} → statement M
 look-spec =
     tie.close
     (tie.spec
+    beyond-requires
     least-key-requires
     cast-variable
     domain-requires

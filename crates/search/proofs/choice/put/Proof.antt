@@ -2,7 +2,8 @@
 -- Assumes nothing.
 use mathlib.Core.Path.{sym, _∙_}
 use native.Mathlib.Omega.{arith}
-use Rattle.search.proofs.Settling.{put-variable, put-left}
+use Rattle.search.proofs.Settling.{put-variable}
+use Rattle.search.proofs.Dividing.{puts-left}
 use borrow.Author.Needs.{needs}
 use Rattle.search.proofs.choice.put.Statement.{statement}
 use Rattle.search.proofs.choice.put.Tie as tie
@@ -10,8 +11,8 @@ use Rattle.search.proofs.choice.put.Tie as tie
 is-several-requires : tie.Need-is-several-requires
 is-several-requires c κs = search needs
 
-spread-requires : tie.Need-spread-requires
-spread-requires c κs = (c .before .before .before .before .before .pre, sym (c .before .before .is-several .ensures) ∙ c .before .if1 .taken)
+divide-requires : tie.Need-divide-requires
+divide-requires c κs = (c .before .before .before .before .before .pre, sym (c .before .before .is-several .ensures) ∙ c .before .if1 .taken)
 
 same-length : tie.Need-same-length
 same-length c = search needs
@@ -26,14 +27,14 @@ same-length-2 : tie.Need-same-length-2
 same-length-2 c = search needs
 
 returns-2 : tie.Need-returns-2
-returns-2 c = rw (put-left _ _ _ _ _ _ _ (c .before .before .before .before .before .before .before .before .pre) (sym (c .before .before .before .before .before .is-several .ensures) ∙ c .before .before .before .before .if1 .left)) (c .before .before .settle .ensures)
+returns-2 c = puts-left _ _ _ _ _ _ _ (c .before .before .before .before .before .before .before .before .pre) (sym (c .before .before .before .before .before .is-several .ensures) ∙ c .before .before .before .before .if1 .left) _ _ (c .before .before .settle .ensures)
 
 pub put-spec : {M : Type 1} → statement M
 put-spec =
     tie.close
     (tie.spec
     is-several-requires
-    spread-requires
+    divide-requires
     same-length
     returns
     settle-requires

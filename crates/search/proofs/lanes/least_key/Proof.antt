@@ -1,23 +1,30 @@
--- `search::lanes::least_key` meets its contract. The invariant: the best is the least of the first i keys.
+-- `search::lanes::least_key` meets its contract. The invariant: the best is the least of the keys of the first i and of the i from 16 on.
 -- Assumes nothing.
-use mathlib.Core.Path.{_≡_, refl}
-use Prim.Native.Nat.{_≤_, _-_}
+use mathlib.Core.Path.{_≡_, ap, _∙_}
+use Prim.Native.Nat.{_≤_, _-_, _+_, _*_}
 use native.Mathlib.Omega.{arith}
-use Rattle.search.specs.Work.Lanes.{leastKey}
-use Rattle.search.proofs.AtOnce.{least-more}
+use Rattle.splits.specs.Masks.{bit, size}
+use Rattle.search.specs.Work.Lanes.{LeastKey, keyOf}
+use Rattle.search.proofs.AtOnce.{least-none, least-more}
+use Rattle.search.proofs.Halves.{key-in}
 use borrow.Author.Needs.{needs}
 use Rattle.search.proofs.lanes.least_key.Statement.{statement}
 use Rattle.search.proofs.lanes.least_key.Tie as tie
 
 abbrev Inv-loop : tie.InvT-loop
-Inv-loop marked domains best₀ i₀ best i = (i ≤ 32) × (best ≡ leastKey domains marked i)
+Inv-loop marked domains low high best₀ i₀ best i = (i ≤ 16) × LeastKey domains marked i best
 
 abbrev μ-loop : tie.MeasureT-loop
-μ-loop marked domains best₀ i₀ best i = 32 - i
+μ-loop marked domains low high best₀ i₀ best i = 16 - i
+
+low-of-requires : tie.Need-low-of-requires Inv-loop μ-loop
+low-of-requires c κs = search needs
+
+high-of-requires : tie.Need-high-of-requires Inv-loop μ-loop
+high-of-requires c κs = search needs
 
 loop-holds : tie.Need-loop-holds Inv-loop μ-loop
-unfolding leastKey
-loop-holds c = (search needs, refl)
+loop-holds c = (search needs, least-none _ _)
 
 mul-key : tie.Need-mul-key Inv-loop μ-loop
 mul-key c = search needs
@@ -31,6 +38,24 @@ key-requires c κs = search needs
 least-requires : tie.Need-least-requires Inv-loop μ-loop
 least-requires c κs = search needs
 
+add-key : tie.Need-add-key Inv-loop μ-loop
+add-key c = search needs
+
+mul-key-2 : tie.Need-mul-key-2 Inv-loop μ-loop
+mul-key-2 c = search needs
+
+array-read-key-2 : tie.Need-array-read-key-2 Inv-loop μ-loop
+array-read-key-2 c = search needs
+
+add-key-2 : tie.Need-add-key-2 Inv-loop μ-loop
+add-key-2 c = search needs
+
+key-requires-2 : tie.Need-key-requires-2 Inv-loop μ-loop
+key-requires-2 c κs = search needs
+
+least-requires-2 : tie.Need-least-requires-2 Inv-loop μ-loop
+least-requires-2 c κs = search needs
+
 add-i : tie.Need-add-i Inv-loop μ-loop
 add-i c = search needs
 
@@ -38,10 +63,10 @@ loop-less : tie.Need-loop-less Inv-loop μ-loop
 loop-less c = search needs
 
 loop-again : tie.Need-loop-again Inv-loop μ-loop
-loop-again c = (omega arith, least-more _ _ _ _ _ _ (c .before .before .before .loop .inv .1) (c .before .key .ensures) (c .least .ensures))
+loop-again c = (omega arith, least-more _ _ _ _ _ _ _ _ (c .before .before .before .before .loop-test .taken) (c .before .before .before .before .before .loop .inv .1) (key-in _ _ _ _ _ (c .before .before .before .before .before .before .before .low-of .ensures) (c .before .before .before .before .loop-test .taken) _ (omega arith) _ (c .before .before .before .key .ensures)) (key-in _ _ _ _ _ (c .before .before .before .before .before .before .high-of .ensures) (c .before .before .before .before .loop-test .taken) _ (omega arith) _ (c .before .key2 .ensures)) (c .before .before .least .ensures) (c .least2 .ensures))
 
 returns : tie.Need-returns Inv-loop μ-loop
-returns c = let end : c .before .loop .i ≡ 32 = omega arith in rw (← end) (c .before .loop .inv .1)
+returns c = let end : c .before .loop .i ≡ 16 = omega arith in rw (← end) (c .before .loop .inv .1)
 
 pub least-key-spec : {M : Type 1} → statement M
 least-key-spec =
@@ -49,11 +74,19 @@ least-key-spec =
     (tie.spec
     Inv-loop
     μ-loop
+    low-of-requires
+    high-of-requires
     loop-holds
     mul-key
     array-read-key
     key-requires
     least-requires
+    add-key
+    mul-key-2
+    array-read-key-2
+    add-key-2
+    key-requires-2
+    least-requires-2
     add-i
     loop-less
     loop-again

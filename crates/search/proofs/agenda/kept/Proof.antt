@@ -1,0 +1,13 @@
+-- `search::agenda::kept` meets its contract.
+-- Assumes nothing.
+use Prim.Native.Nat.{_<_, _^_}
+use Rattle.search.proofs.Halves.{kept-is}
+use borrow.Author.Needs.{needs}
+use Rattle.search.proofs.agenda.kept.Statement.{statement}
+use Rattle.search.proofs.agenda.kept.Tie as tie
+
+returns : tie.Need-returns
+returns c = kept-is _ _ (search needs)
+
+pub kept-spec : {M : Type 1} → statement M
+kept-spec = tie.close (tie.spec returns)

@@ -1,0 +1,15 @@
+-- `search::lanes::high_of` meets its contract.
+-- Assumes nothing.
+use Rattle.search.proofs.Halves.{half-high}
+use borrow.Author.Needs.{needs}
+use Rattle.search.proofs.lanes.high_of.Statement.{statement}
+use Rattle.search.proofs.lanes.high_of.Tie as tie
+
+cast-result : tie.Need-cast-result
+cast-result c = search needs
+
+returns : tie.Need-returns
+returns c = half-high _
+
+pub high-of-spec : {M : Type 1} → statement M
+high-of-spec = tie.close (tie.spec cast-result returns)
