@@ -65,6 +65,21 @@ splice-splice l a t ws b e h =
     ∙ drop-drop (length ws) (a + length t) l ∙ ap (λ (j : ℕ). drop j l) sum in
     rw (front, back) (simp append-assoc)
 
+-- A part written over another that is no longer.
+pub splice-cover : (l z ws : List ℕ) (a : ℕ) → length z ≤ length ws → a + length ws ≤ length l → splice (splice l a z) a ws ≡ splice l a ws
+unfolding splice
+splice-cover l z ws a h k =
+    let front : length (take a l) ≡ a = length-take-le a l (omega arith) in
+    let seam : length (take a l ++ z) ≡ a + length z = simp length-append (omega arith) in
+    let whole : take a l ++ (z ++ drop (a + length z) l) ≡ (take a l ++ z) ++ drop (a + length z) l = sym (append-assoc (take a l) z (drop (a + length z) l)) in
+    let more : a + length ws ≡ (a + length z) + (length ws - length z) = omega arith in
+    let back : drop (a + length ws) (take a l ++ (z ++ drop (a + length z) l)) ≡ drop (a + length ws) l =
+    ap (λ (j : ℕ). drop j (take a l ++ (z ++ drop (a + length z) l))) more
+    ∙ sym (drop-drop (length ws - length z) (a + length z) (take a l ++ (z ++ drop (a + length z) l)))
+    ∙ ap (drop (length ws - length z)) (rw whole (drop-at (take a l ++ z) (drop (a + length z) l) (a + length z) seam))
+    ∙ drop-drop (length ws - length z) (a + length z) l ∙ ap (λ (j : ℕ). drop j l) (sym more) in
+    rw (take-at (take a l) (z ++ drop (a + length z) l) a front, back) refl
+
 -- A part written after another was.
 pub splice-twice : (l m r z ws : List ℕ) (a : ℕ) → r ≡ splice m a ws → m ≡ splice l a z → r ≡ splice (splice l a z) a ws
 splice-twice l m r z ws a e s = rw (e, s) refl

@@ -18,11 +18,11 @@ use Rattle.splits.specs.Calls.{Piece, Candidates}
 use Rattle.splits.specs.declared.subproblem.Subproblem.{Subproblem}
 use Rattle.search.specs.Agenda.{slotWords, slotsIn}
 use Rattle.search.specs.Work.Slots.{splice, SlotIn}
-use Rattle.search.specs.Work.Steps.{Placed, Replaced}
+use Rattle.search.specs.Work.Steps.{Replaced}
 use Rattle.search.specs.Work.Choices.{chosenFor}
 use Rattle.search.specs.Work.Found.{AtTop, RoomFor, Puts, requestBy, precludedBy, leftBy, several}
 use Rattle.search.specs.declared.choice.Choice.{Choice}
-use Rattle.search.proofs.Gathering.{Gathered, gather-none, gather-slot, gather-keep, gather-end}
+use Rattle.search.proofs.Gathering.{Gathered, gather-none, gather-slot, gather-keep, gather-replaced}
 use Rattle.search.proofs.Settling.{several-kept, left-is, left-few, kindBy, chosen-by, put-reads, put-precluded, put-kept, put-rest}
 
 -- Kind 2's pieces, where several are left.
@@ -77,12 +77,12 @@ module _ (n d : ℕ) (t : List ℕ) (P : Subproblem) (c : Choice) (below words :
           (h .fitting .few) (rw whole room)
 
       pub halve-end : (after : List ℕ) → length (R .domains) ≡ 32 → after ≡ splice agenda ((below + 1) * (n + 2)) (slotWords n R) → length after ≡ length agenda
-          → Placed n (pieces n (tableOf n d t) P r) below before after (below + 2)
+          → Replaced n (pieces n (tableOf n d t) P r) below before after (below + 2)
       halve-end after l w m =
-          subst (λ (k : ℕ). Placed n (pieces n (tableOf n d t) P r) below before after k) (omega arith)
-          (gather-end n d t P r (put-reads n d t P c below words h 2 (inl refl)) before below after (below + 1 + 1) 0
+          subst (λ (k : ℕ). Replaced n (pieces n (tableOf n d t) P r) below before after k) (omega arith)
+          (gather-replaced n d t P r (put-reads n d t P c below words h 2 (inl refl)) before below after (below + 1 + 1) 0
           (gather-keep n d t P r (put-reads n d t P c below words h 2 (inl refl)) before below agenda (below + 1) 1 one 2 two-named (omega arith) (omega arith) R first-piece false first-kept refl
-          after (h .fitting .few) (rw whole room) l w m) refl)
+          after (h .fitting .few) (rw whole room) l w m) refl (omega (arith, ap length two-pieces)) (rw whole room))
 
 -- ---- room
 

@@ -5,8 +5,8 @@ use mathlib.Core.Bool.{Bool, true, false, not}
 use mathlib.Core.List.{List, [], _∷_, _++_, append-assoc, append-nil}
 use Prim.Native.Nat.{ℕ, _+_, _-_, _*_, _≤_, _<_}
 use native.Mathlib.Omega.{arith}
-use native.Mathlib.Nat.{le-antisymm, lt-of-lt-of-le, zero-mul}
-use lib.ListN.{length, length-append, take-append-drop}
+use native.Mathlib.Nat.{le-antisymm, lt-of-lt-of-le, zero-mul, mul-le-mul-right}
+use lib.ListN.{length, replicate, length-append, length-replicate, take-append-drop}
 use lib.Dec.{ltb}
 use borrow.Author.Tests.{le-leb, lt-ltb, le-ltb, not-true, not-false}
 use Rattle.splits.specs.Problem.{tableOf}
@@ -17,8 +17,8 @@ use Rattle.splits.specs.declared.subproblem.Subproblem.{Subproblem}
 use Rattle.splits.proofs.ByKind.{few}
 use Rattle.search.specs.Agenda.{slotWords, stackWords}
 use Rattle.search.specs.Work.Slots.{splice, SlotIn}
-use Rattle.search.specs.Work.Steps.{Placed}
-use Rattle.search.proofs.Copies.{splice-splice, slot-below}
+use Rattle.search.specs.Work.Steps.{Placed, Replaced}
+use Rattle.search.proofs.Copies.{splice-splice, splice-cover, slot-below}
 use Rattle.search.proofs.Encoding.{length-slot}
 use Rattle.search.proofs.Candidates.{firsts, firsts-le, firsts-more, firsts-drop, firsts-keep, pieces-are}
 
@@ -155,3 +155,18 @@ module _ (n d : ℕ) (t : List ℕ) (P : Subproblem) (r : List ℕ) (fits : read
   gather-end before from agenda at k g e =
       let rest : pieces n (tableOf n d t) P r ≡ g .rest = g .all ∙ rw e refl in
       record { count = rw rest (g .count); words = rw rest (g .words) }
+
+  -- So they stand in the place of the top, if there are some.
+  pub gather-replaced : (before : List ℕ) (from : ℕ) (agenda : List ℕ) (at k : ℕ) → Gathered n d t P r before from agenda at k → k ≡ 0
+      → 1 ≤ length (pieces n (tableOf n d t) P r) → (from + length (pieces n (tableOf n d t) P r)) * (n + 2) ≤ length before
+      → Replaced n (pieces n (tableOf n d t) P r) from before agenda at
+  unfolding firsts
+  gather-replaced before from agenda at k g e some room =
+      let rest : pieces n (tableOf n d t) P r ≡ g .rest = g .all ∙ rw e refl in
+      let none : length {A = ℕ} (replicate (n + 2) 0) ≡ n + 2 = length-replicate (n + 2) 0 in
+      let least : 1 * (n + 2) ≤ length (g .rest) * (n + 2) = mul-le-mul-right (n + 2) (rw rest at some) in
+      let inside : (from + length (g .rest)) * (n + 2) ≤ length before = rw rest at room in
+      record {
+        count = rw rest (g .count);
+        words = rw rest (g .words ∙ sym (splice-cover before (replicate (n + 2) 0) (stackWords n (g .rest)) (from * (n + 2)) (omega (arith, g .sized)) (omega (arith, g .sized))));
+      }

@@ -27,12 +27,12 @@ use Rattle.splits.proofs.Subproblems.{empty-at, precluded-empty}
 use Rattle.search.specs.Agenda.{slotWords}
 use Rattle.search.specs.Chooser.{request}
 use Rattle.search.specs.Work.Slots.{splice, SlotIn}
-use Rattle.search.specs.Work.Steps.{Placed}
+use Rattle.search.specs.Work.Steps.{Replaced}
 use Rattle.search.specs.Work.Lanes.{furtherAt, FurtherTo, exceeding}
 use Rattle.search.specs.Work.Found.{AtTop, RoomFor, precludedBy, several}
 use Rattle.search.specs.declared.choice.Choice.{Choice}
 use Rattle.search.proofs.Candidates.{firsts, firsts-start, firsts-drop, firsts-keep, pieces-are}
-use Rattle.search.proofs.Gathering.{Gathered, gather-none, gather-drop, gather-slot, gather-keep, gather-end}
+use Rattle.search.proofs.Gathering.{Gathered, gather-none, gather-drop, gather-slot, gather-keep, gather-replaced}
 use Rattle.search.proofs.AtOnce.{word}
 use Rattle.search.proofs.Halves.{all-common, minus-all}
 use Rattle.search.proofs.Lone.{some-left}
@@ -282,11 +282,19 @@ module _ (n d : ℕ) (t : List ℕ) (P : Subproblem) (c : Choice) (below words :
       pub spread-last : SlotIn n at (length agenda)
       spread-last = gather-slot n d t P r reads before below agenda at 1 first (n + 1) its-named (omega arith) (omega arith) Q (piece-of 0 Q (omega arith) is-first) false first-filled refl few (rw whole room)
 
+      some : 1 ≤ length (pieces n (tableOf n d t) P r)
+      some =
+          let all : length (pieces n (tableOf n d t) P r) ≡ length (firsts n (candidate n (tableOf n d t) P r) 1) + length (first .rest) = ap length (first .all) ∙ simp length-append in
+          let one : length (firsts n (candidate n (tableOf n d t) P r) 1) ≡ 1 =
+          ap length (firsts-keep n (candidate n (tableOf n d t) P r) 0 (rw is-first at (sym first-filled))) ∙ rw (length-append, firsts-start n (candidate n (tableOf n d t) P r)) refl in
+          omega arith
+
       pub spread-end : (after : List ℕ) → length (Q .domains) ≡ 32 → after ≡ splice agenda (at * (n + 2)) (slotWords n Q) → length after ≡ length agenda
-          → Placed n (pieces n (tableOf n d t) P r) below before after (at + 1)
+          → Replaced n (pieces n (tableOf n d t) P r) below before after (at + 1)
       spread-end after l w m =
-          gather-end n d t P r reads before below after (at + 1) 0
+          gather-replaced n d t P r reads before below after (at + 1) 0
           (gather-keep n d t P r reads before below agenda at 1 first (n + 1) its-named (omega arith) (omega arith) Q (piece-of 0 Q (omega arith) is-first) false first-filled refl after few (rw whole room) l w m) refl
+          some (rw whole room)
 
   -- ---- how many they are
   module _ (less′ beside : List ℕ) (its : less′ ≡ without P (c .variable) (getD (c .row) (c .variable) 0) .domains) (row : beside ≡ set (c .row) (c .variable) 65535) where

@@ -133,7 +133,6 @@ fn spread(
     requires { ⌜ AtTop n d (now tables) top choice below (length (now agenda)) × (RoomFor n d (now tables) top choice 3 below (length (now agenda)) × Spread top choice less row) ⌝ }
     ensures { λ r. ⌜ Replaced n (pieces n (tableOf n d (now (tables .entry))) top (requestBy choice 3)) below (now (agenda .entry)) (now (agenda .exit)) r ⌝ }
 {
-    agenda::clear_slot(n, agenda, below);
     let marked = top.marked;
     let mut at = below;
     let mut j = n;
@@ -162,7 +161,6 @@ fn halve(
     requires { ⌜ AtTop n d (now tables) top choice below (length (now agenda)) × (RoomFor n d (now tables) top choice 2 below (length (now agenda)) × (several choice ≡ true)) ⌝ }
     ensures { λ r. ⌜ Replaced n (pieces n (tableOf n d (now (tables .entry))) top (requestBy choice 2)) below (now (agenda .entry)) (now (agenda .exit)) r ⌝ }
 {
-    agenda::clear_slot(n, agenda, below);
     let variable = choice.variable;
     let row = choice.row;
     agenda::write_slot(n, agenda, below, top.without(variable, row[variable]));

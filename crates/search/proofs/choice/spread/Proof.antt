@@ -19,11 +19,8 @@ Inv-loop top n d tables agenda₀ choice below less row marked at₀ j₀ agenda
 abbrev μ-loop : tie.MeasureT-loop
 μ-loop top n d tables agenda₀ choice below less row marked at₀ j₀ agenda at j = j
 
-clear-slot-requires : tie.Need-clear-slot-requires Inv-loop μ-loop
-clear-slot-requires c κs = c .before .before .before .pre .0 .slot
-
 loop-holds : tie.Need-loop-holds Inv-loop μ-loop
-loop-holds c = let k = c .before .before .before .before .before .before .pre in (search needs, spread-none _ _ _ _ _ _ _ (k .0) (k .1 .1 .several) _ (omega arith) (k .1 .0))
+loop-holds c = let k = c .before .before .pre in (search needs, spread-none _ _ _ _ _ _ _ (k .0) (k .1 .1 .several) _ (omega arith) (k .1 .0))
 
 sub-j : tie.Need-sub-j Inv-loop μ-loop
 sub-j c = search needs
@@ -32,52 +29,52 @@ mul-outside : tie.Need-mul-outside Inv-loop μ-loop
 mul-outside c = search needs
 
 array-read-outside : tie.Need-array-read-outside Inv-loop μ-loop
-array-read-outside c = let k = c .before .before .before .before .before .before .before .before .pre .0 .fitting .few in search needs
+array-read-outside c = let k = c .before .before .before .before .pre .0 .fitting .few in search needs
 
 mul-outside-2 : tie.Need-mul-outside-2 Inv-loop μ-loop
 mul-outside-2 c = search needs
 
 array-read-outside-2 : tie.Need-array-read-outside-2 Inv-loop μ-loop
-array-read-outside-2 c = let k = c .before .before .before .before .before .before .before .before .pre .0 .fitting .few in search needs
+array-read-outside-2 c = let k = c .before .before .before .before .pre .0 .fitting .few in search needs
 
 outside-requires : tie.Need-outside-requires Inv-loop μ-loop
 outside-requires c κs = search needs
 
 further-requires : tie.Need-further-requires Inv-loop μ-loop
-further-requires c κs = let k = c .before .before .before .before .before .before .before .before .before .before .pre .0 .fitting .few in omega arith
+further-requires c κs = let k = c .before .before .before .before .before .before .pre .0 .fitting .few in omega arith
 
 write-slot-requires : tie.Need-write-slot-requires Inv-loop μ-loop
-write-slot-requires c κs = let k = c .before .before .before .before .before .before .before .before .before .before .before .before .pre in let inv = c .before .before .before .before .before .loop .inv in spread-slot _ _ _ _ _ _ _ (k .0) (k .1 .1 .several) _ _ (k .1 .1 .domains) (k .1 .1 .beside) _ _ (c .before .before .before .before .loop-test .taken) (inv .0) (c .before .before .before .outside .ensures) _ _ _ (omega arith) (k .1 .0) (inv .1) _ _ (c .before .before .if1 .taken) (c .before .further .ensures) refl
+write-slot-requires c κs = let k = c .before .before .before .before .before .before .before .before .pre in let inv = c .before .before .before .before .before .loop .inv in spread-slot _ _ _ _ _ _ _ (k .0) (k .1 .1 .several) _ _ (k .1 .1 .domains) (k .1 .1 .beside) _ _ (c .before .before .before .before .loop-test .taken) (inv .0) (c .before .before .before .outside .ensures) _ _ _ (omega arith) (k .1 .0) (inv .1) _ _ (c .before .before .if1 .taken) (c .before .further .ensures) refl
 
 add-at : tie.Need-add-at Inv-loop μ-loop
-add-at c = let k = c .before .before .before .before .before .before .before .before .before .before .before .before .before .before .before .pre in let inv = c .before .before .before .before .before .before .before .before .loop .inv in let slot = spread-slot _ _ _ _ _ _ _ (k .0) (k .1 .1 .several) _ _ (k .1 .1 .domains) (k .1 .1 .beside) _ _ (c .before .before .before .before .before .before .before .loop-test .taken) (inv .0) (c .before .before .before .before .before .before .outside .ensures) _ _ _ (omega arith) (k .1 .0) (inv .1) _ _ (c .before .before .before .before .before .if1 .taken) (c .before .before .before .before .further .ensures) refl in let inside : c .before .before .before .before .before .before .before .before .loop .at + 1 ≤ length (c .before .before .before .before .before .before .before .before .before .before .before .before .before .before .before .args .agenda .now) = omega (arith, slot-end _ _ _ slot, inv .1 .same) in let good = c .before .before .before .before .before .before .before .before .before .before .before .before .before .before .before .good in let blocks = c .before .before .before .before .before .before .before .before .before .before .before .before .before .before .before .blocks in search needs
+add-at c = let k = c .before .before .before .before .before .before .before .before .before .before .before .pre in let inv = c .before .before .before .before .before .before .before .before .loop .inv in let slot = spread-slot _ _ _ _ _ _ _ (k .0) (k .1 .1 .several) _ _ (k .1 .1 .domains) (k .1 .1 .beside) _ _ (c .before .before .before .before .before .before .before .loop-test .taken) (inv .0) (c .before .before .before .before .before .before .outside .ensures) _ _ _ (omega arith) (k .1 .0) (inv .1) _ _ (c .before .before .before .before .before .if1 .taken) (c .before .before .before .before .further .ensures) refl in let inside : c .before .before .before .before .before .before .before .before .loop .at + 1 ≤ length (c .before .before .before .before .before .before .before .before .before .before .before .args .agenda .now) = omega (arith, slot-end _ _ _ slot, inv .1 .same) in let good = c .before .before .before .before .before .before .before .before .before .before .before .good in let blocks = c .before .before .before .before .before .before .before .before .before .before .before .blocks in search needs
 
 loop-less : tie.Need-loop-less Inv-loop μ-loop
 loop-less c = search needs
 
 loop-again : tie.Need-loop-again Inv-loop μ-loop
-loop-again c = let k = c .before .before .before .before .before .before .before .before .before .before .before .before .before .before .before .pre in let inv = c .before .before .before .before .before .before .before .before .loop .inv in (omega arith, spread-keep _ _ _ _ _ _ _ (k .0) (k .1 .1 .several) _ _ (k .1 .1 .domains) (k .1 .1 .beside) _ _ (c .before .before .before .before .before .before .before .loop-test .taken) (inv .0) (c .before .before .before .before .before .before .outside .ensures) _ _ _ (omega arith) (k .1 .0) (inv .1) _ _ (c .before .before .before .before .before .if1 .taken) (c .before .before .before .before .further .ensures) refl _ (c .before .before .before .before .further .ensures .long) (c .before .before .write-slot .ensures) (search needs))
+loop-again c = let k = c .before .before .before .before .before .before .before .before .before .before .before .pre in let inv = c .before .before .before .before .before .before .before .before .loop .inv in (omega arith, spread-keep _ _ _ _ _ _ _ (k .0) (k .1 .1 .several) _ _ (k .1 .1 .domains) (k .1 .1 .beside) _ _ (c .before .before .before .before .before .before .before .loop-test .taken) (inv .0) (c .before .before .before .before .before .before .outside .ensures) _ _ _ (omega arith) (k .1 .0) (inv .1) _ _ (c .before .before .before .before .before .if1 .taken) (c .before .before .before .before .further .ensures) refl _ (c .before .before .before .before .further .ensures .long) (c .before .before .write-slot .ensures) (search needs))
 
 loop-less-2 : tie.Need-loop-less-2 Inv-loop μ-loop
 loop-less-2 c = search needs
 
 loop-again-2 : tie.Need-loop-again-2 Inv-loop μ-loop
-loop-again-2 c = let k = c .before .before .before .before .before .before .before .before .before .before .pre in let inv = c .before .before .before .loop .inv in (omega arith, spread-drop _ _ _ _ _ _ _ (k .0) (k .1 .1 .several) _ _ (k .1 .1 .domains) (k .1 .1 .beside) _ _ (c .before .before .loop-test .taken) (inv .0) (c .before .outside .ensures) _ _ _ (omega arith) (k .1 .0) (inv .1) (c .if1 .left))
+loop-again-2 c = let k = c .before .before .before .before .before .before .pre in let inv = c .before .before .before .loop .inv in (omega arith, spread-drop _ _ _ _ _ _ _ (k .0) (k .1 .1 .several) _ _ (k .1 .1 .domains) (k .1 .1 .beside) _ _ (c .before .before .loop-test .taken) (inv .0) (c .before .outside .ensures) _ _ _ (omega arith) (k .1 .0) (inv .1) (c .if1 .left))
 
 precluded-requires : tie.Need-precluded-requires Inv-loop μ-loop
-precluded-requires c κs = let v = put-variable _ _ _ _ _ _ _ (c .before .before .before .before .before .before .before .before .before .pre .0) in omega (arith, c .before .before .before .before .before .before .before .before .before .pre .0 .fitting .few)
+precluded-requires c κs = let v = put-variable _ _ _ _ _ _ _ (c .before .before .before .before .before .pre .0) in omega (arith, c .before .before .before .before .before .pre .0 .fitting .few)
 
 write-slot-requires-2 : tie.Need-write-slot-requires-2 Inv-loop μ-loop
-write-slot-requires-2 c κs = let k = c .before .before .before .before .before .before .before .before .before .before .pre in let inv = c .before .before .before .loop .inv in spread-last _ _ _ _ _ _ _ (k .0) (k .1 .1 .several) _ (omega arith) (k .1 .0) _ _ _ (inv .1) (omega arith) _ (c .precluded .ensures)
+write-slot-requires-2 c κs = let k = c .before .before .before .before .before .before .pre in let inv = c .before .before .before .loop .inv in spread-last _ _ _ _ _ _ _ (k .0) (k .1 .1 .several) _ (omega arith) (k .1 .0) _ _ _ (inv .1) (omega arith) _ (c .precluded .ensures)
 
 add-result : tie.Need-add-result Inv-loop μ-loop
-add-result c = let k = c .before .before .before .before .before .before .before .before .before .before .before .before .before .pre in let inv = c .before .before .before .before .before .before .loop .inv in let slot = spread-last _ _ _ _ _ _ _ (k .0) (k .1 .1 .several) _ (omega arith) (k .1 .0) _ _ _ (inv .1) (omega arith) _ (c .before .before .before .precluded .ensures) in let inside : c .before .before .before .before .before .before .loop .at + 1 ≤ length (c .before .before .before .before .before .before .before .before .before .before .before .before .before .args .agenda .now) = omega (arith, slot-end _ _ _ slot, inv .1 .same) in let good = c .before .before .before .before .before .before .before .before .before .before .before .before .before .good in let blocks = c .before .before .before .before .before .before .before .before .before .before .before .before .before .blocks in search needs
+add-result c = let k = c .before .before .before .before .before .before .before .before .before .pre in let inv = c .before .before .before .before .before .before .loop .inv in let slot = spread-last _ _ _ _ _ _ _ (k .0) (k .1 .1 .several) _ (omega arith) (k .1 .0) _ _ _ (inv .1) (omega arith) _ (c .before .before .before .precluded .ensures) in let inside : c .before .before .before .before .before .before .loop .at + 1 ≤ length (c .before .before .before .before .before .before .before .before .before .args .agenda .now) = omega (arith, slot-end _ _ _ slot, inv .1 .same) in let good = c .before .before .before .before .before .before .before .before .before .good in let blocks = c .before .before .before .before .before .before .before .before .before .blocks in search needs
 
 same-length : tie.Need-same-length Inv-loop μ-loop
 same-length c = search needs
 
 returns : tie.Need-returns Inv-loop μ-loop
-returns c = let k = c .before .before .before .before .before .before .before .before .before .before .before .before .before .pre in let inv = c .before .before .before .before .before .before .loop .inv in let long : length (c .before .before .before .precluded .result .domains) ≡ 32 = search needs in rw (← c .before .before .before .before .before .before .before .before .before .clear-slot .ensures) (spread-end _ _ _ _ _ _ _ (k .0) (k .1 .1 .several) _ (omega arith) (k .1 .0) _ _ _ (inv .1) (omega arith) _ (c .before .before .before .precluded .ensures) _ long (c .before .before .write-slot2 .ensures) (search needs))
+returns c = let k = c .before .before .before .before .before .before .before .before .before .pre in let inv = c .before .before .before .before .before .before .loop .inv in let long : length (c .before .before .before .precluded .result .domains) ≡ 32 = search needs in spread-end _ _ _ _ _ _ _ (k .0) (k .1 .1 .several) _ (omega arith) (k .1 .0) _ _ _ (inv .1) (omega arith) _ (c .before .before .before .precluded .ensures) _ long (c .before .before .write-slot2 .ensures) (search needs)
 
 pub spread-spec : {M : Type 1} → statement M
 spread-spec =
@@ -85,7 +82,6 @@ spread-spec =
     (tie.spec
     Inv-loop
     μ-loop
-    clear-slot-requires
     loop-holds
     sub-j
     mul-outside
