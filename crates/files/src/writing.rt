@@ -80,7 +80,7 @@ fn put_block(
     ensures { λ r. ⌜ now (block .exit) ≡ bytesOf (blockWords blocks (handed n d (now (domains .entry)) (now (tables .entry)) (now (agenda .entry)) state) b) ⌝ }
 {
     put_head(n, d, domains, tables, agenda, state, blocks, b, block);
-    let check = checksum::check(block, 0);
+    let check = checksum::check(block);
     put_word(block, 255, check);
 }
 

@@ -2,12 +2,14 @@
 -- Assumes nothing.
 use borrow.Author.Needs.{needs}
 use mathlib.Core.Path.{_≡_}
-use Prim.Native.Nat.{_-_, _≤_}
-use native.Mathlib.Omega.{arith}
 use mathlib.Core.Bool.{true}
+use Prim.Native.Nat.{_+_, _-_, _*_, _≤_}
+use native.Mathlib.Omega.{arith}
 use Rattle.splits.specs.Subproblems.{every}
 use Rattle.search.proofs.FirstLoops.{every-start, every-stop, every-turn, every-end}
 use Rattle.files.specs.Reading.{goodBlock}
+use Rattle.files.proofs.Mirrors.{part-long}
+use Rattle.files.proofs.Found.{good-part}
 use Rattle.files.proofs.reading.all_good.Statement.{statement}
 use Rattle.files.proofs.reading.all_good.Tie as tie
 
@@ -20,11 +22,26 @@ abbrev μ-loop : tie.MeasureT-loop
 loop-holds : tie.Need-loop-holds Inv-loop μ-loop
 loop-holds c = (omega arith, every-start _)
 
+mul-at : tie.Need-mul-at Inv-loop μ-loop
+mul-at c = search needs
+
+add-end : tie.Need-add-end Inv-loop μ-loop
+add-end c = search needs
+
+sub-is-good : tie.Need-sub-is-good Inv-loop μ-loop
+sub-is-good c = search needs
+
+part-is-good-start : tie.Need-part-is-good-start Inv-loop μ-loop
+part-is-good-start c = search needs
+
+part-is-good-end : tie.Need-part-is-good-end Inv-loop μ-loop
+part-is-good-end c = search needs
+
 is-good-requires : tie.Need-is-good-requires Inv-loop μ-loop
-is-good-requires c κs = search needs
+is-good-requires c κs = (part-long (c .before .before .before .before .args .file .now) (c .before .before .loop .b * 512) 512 (omega arith), omega arith)
 
 returns : tie.Need-returns Inv-loop μ-loop
-returns c = every-stop _ _ _ _ (c .before .before .loop-test .taken) (c .before .is-good .ensures) (c .if1 .taken)
+returns c = every-stop _ _ _ _ (c .before .before .before .loop-test .taken) (good-part _ _ _ _ (c .before .before .before .before .before .before .pre .0) (c .before .is-good .ensures)) (c .if1 .taken)
 
 add-b : tie.Need-add-b Inv-loop μ-loop
 add-b c = search needs
@@ -33,7 +50,7 @@ loop-less : tie.Need-loop-less Inv-loop μ-loop
 loop-less c = search needs
 
 loop-again : tie.Need-loop-again Inv-loop μ-loop
-loop-again c = (omega arith, every-turn _ _ _ (c .before .before .before .loop .inv .1) (c .before .is-good .ensures) (c .if1 .left))
+loop-again c = (omega arith, every-turn _ _ _ (c .before .before .before .before .loop .inv .1) (good-part _ _ _ _ (c .before .before .before .before .before .before .pre .0) (c .before .is-good .ensures)) (c .if1 .left))
 
 returns-2 : tie.Need-returns-2 Inv-loop μ-loop
 returns-2 c = every-end _ _ _ (c .before .loop .inv .0) (c .loop-test .left) (c .before .loop .inv .1)
@@ -45,6 +62,11 @@ all-good-spec =
     Inv-loop
     μ-loop
     loop-holds
+    mul-at
+    add-end
+    sub-is-good
+    part-is-good-start
+    part-is-good-end
     is-good-requires
     returns
     add-b
