@@ -63,21 +63,32 @@ part-more p q l m ys a w e s y k h =
     put-part m ys q a w y k ∙ rw (e ∙ ap (λ (t : List ℕ). p ++ t) parts) (splice-between p old (drop w (drop a l)) q a s fits)
     ∙ sym (append-assoc p q (drop w (drop a l))) ∙ ap (λ (t : List ℕ). (p ++ q) ++ t) (drop-drop w a l)
 
--- ---- zeros after a part
+-- ---- the front and the rest
 
--- What a callee left in the front, and zeros in what was lent after it.
+-- What a callee left in the front, and another in what was lent after it.
+pub front-rest : (l ys zs : List ℕ) (used : ℕ) → length ys ≡ used → used ≤ length l
+    → putMid used (length (ys ++ drop used l) - used) (ys ++ drop used l) zs ≡ ys ++ zs
+front-rest l ys zs used seam h =
+    let whole : List ℕ = ys ++ drop used l in
+    let long : length whole ≡ length l = length-append ys (drop used l) ∙ omega (arith, length-drop used l) in
+    let past : postOf used (length whole - used) whole ≡ [] = post-is used (length whole) whole (omega arith) ∙ drop-length whole in
+    ap (λ (t : List ℕ). take used whole ++ (zs ++ t)) past ∙ ap (λ (t : List ℕ). take used whole ++ t) (append-nil zs)
+    ∙ ap (λ (t : List ℕ). t ++ zs) (take-at ys (drop used l) used seam)
+
+-- How long the rest is.
+pub rest-long : (l ys : List ℕ) (used : ℕ) → length ys ≡ used → used ≤ length l
+    → length (midOf used (length (ys ++ drop used l) - used) (ys ++ drop used l)) ≡ length l - used
+rest-long l ys used seam h =
+    let whole : List ℕ = ys ++ drop used l in
+    let long : length whole ≡ length l = length-append ys (drop used l) ∙ omega (arith, length-drop used l) in
+    mid-len used (length whole) whole (omega arith) ∙ omega arith
+
+-- Zeros in the rest.
 pub padded-made : (l ys zs : List ℕ) (used : ℕ) → length ys ≡ used → used ≤ length l
     → zs ≡ replicate (length (midOf used (length (ys ++ drop used l) - used) (ys ++ drop used l))) 0
     → putMid used (length (ys ++ drop used l) - used) (ys ++ drop used l) zs ≡ ys ++ replicate (length l - used) 0
 padded-made l ys zs used seam h z =
-    let whole : List ℕ = ys ++ drop used l in
-    let long : length whole ≡ length l = length-append ys (drop used l) ∙ omega (arith, length-drop used l) in
-    let past : postOf used (length whole - used) whole ≡ [] = post-is used (length whole) whole (omega arith) ∙ drop-length whole in
-    let left : length whole - used ≡ length l - used = omega arith in
-    let zeros : zs ≡ replicate (length l - used) 0 =
-    z ∙ ap (λ (k : ℕ). replicate {A = ℕ} k 0) (mid-len used (length whole) whole (omega arith) ∙ left) in
-    ap (λ (t : List ℕ). take used whole ++ (zs ++ t)) past ∙ ap (λ (t : List ℕ). take used whole ++ t) (append-nil zs)
-    ∙ ap (λ (t : List ℕ). t ++ zs) (take-at ys (drop used l) used seam) ∙ rw zeros refl
+    front-rest l ys zs used seam h ∙ ap (λ (t : List ℕ). ys ++ t) (z ∙ ap (λ (k : ℕ). replicate {A = ℕ} k 0) (rest-long l ys used seam h))
 
 -- The same of a copy.
 pub padded-copy : (src l ys zs : List ℕ) → length src ≤ length l → ys ≡ src

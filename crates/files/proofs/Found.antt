@@ -51,31 +51,33 @@ check-whole bytes block r e h =
 
 -- ---- 14: one block
 
-module _ (block : List ℕ) (b blocks : ℕ) where
+module _ (block : List ℕ) (number blocks : ℕ) where
   -- its number is wrong; the number of blocks is; else the check decides
-  pub bad-number : (w : ℕ) → w ≡ blockWord block 0 0 → (w ≡ b + 1 → ⊥) → false ≡ goodIn block b blocks
+  pub bad-number : (w : ℕ) → w ≡ blockWord block 0 0 → (w ≡ number → ⊥) → false ≡ goodIn block number blocks
   unfolding goodIn
-  bad-number w e f = simp (ne-eqb (blockWord block 0 0) (b + 1) (λ z. f (e ∙ z)))
+  bad-number w e f = simp (ne-eqb (blockWord block 0 0) number (λ z. f (e ∙ z)))
 
   -- The number of blocks is wrong.
-  pub bad-count : (w : ℕ) → w ≡ blockWord block 0 1 → (w ≡ blocks → ⊥) → false ≡ goodIn block b blocks
+  pub bad-count : (w : ℕ) → w ≡ blockWord block 0 1 → (w ≡ blocks → ⊥) → false ≡ goodIn block number blocks
   unfolding goodIn
   bad-count w e f = simp (ne-eqb (blockWord block 0 1) blocks (λ z. f (e ∙ z)), and-false)
 
   -- Both are right: the check decides.
-  pub good-check : (v w x y : ℕ) → v ≡ blockWord block 0 0 → v ≡ b + 1 → w ≡ blockWord block 0 1 → w ≡ blocks → x ≡ blockWord block 0 255
-      → y ≡ checkOf (headOf block 0) → eqb x y ≡ goodIn block b blocks
+  pub good-check : (v w x y : ℕ) → v ≡ blockWord block 0 0 → v ≡ number → w ≡ blockWord block 0 1 → w ≡ blocks → x ≡ blockWord block 0 255
+      → y ≡ checkOf (headOf block 0) → eqb x y ≡ goodIn block number blocks
   unfolding goodIn
-  good-check v w x y a b′ c d e f =
-      simp (eq-eqb (blockWord block 0 0) (b + 1) (sym a ∙ b′), eq-eqb (blockWord block 0 1) blocks (sym c ∙ d), sym e, sym f)
+  good-check v w x y a b c d e f =
+      simp (eq-eqb (blockWord block 0 0) number (sym a ∙ b), eq-eqb (blockWord block 0 1) blocks (sym c ∙ d), sym e, sym f)
 
 -- A block that was cut out of a file of so many.
-pub good-part : (file : List ℕ) (b blocks : ℕ) (r : Bool) → length file ≡ blocks * 512
-    → r ≡ goodIn (take ((b * 512 + 512) - b * 512) (drop (b * 512) file)) b blocks → r ≡ goodBlock file b
+pub good-part : (file : List ℕ) (number blocks : ℕ) (r : Bool) → 1 ≤ number → length file ≡ blocks * 512
+    → r ≡ goodIn (take (((number - 1) * 512 + 512) - (number - 1) * 512) (drop ((number - 1) * 512) file)) number blocks → r ≡ goodBlock file (number - 1)
 unfolding goodIn goodBlock
-good-part file b blocks r e h =
+good-part file number blocks r some e h =
+    let b : ℕ = number - 1 in
     let count : length file / 512 ≡ blocks = omega arith in
-    h ∙ rw (part-words file b 0 (omega arith), part-words file b 1 (omega arith), part-words file b 255 (omega arith), heads-same _ file b (part-words file b), count) refl
+    let next : b + 1 ≡ number = omega arith in
+    h ∙ rw (part-words file b 0 (omega arith), part-words file b 1 (omega arith), part-words file b 255 (omega arith), heads-same _ file b (part-words file b), count, next) refl
 
 -- ---- 14: all
 

@@ -42,7 +42,9 @@ pub fn save(
             blocks: 0,
         };
     }
-    writing::put_blocks(n, d, domains, tables, agenda, state, blocks, file);
+    let mut words = room_for_content();
+    content::put(n, d, domains, tables, agenda, state, &mut words[..25553]);
+    writing::put_blocks(&words[..25553], blocks, file);
     Saved { refusal: 0, blocks }
 }
 

@@ -14,11 +14,11 @@ ghost use Rattle.files.specs.Calls.{loadRefusal};
 ghost use Rattle.files.specs.Work.Said.{goodIn, numbersSaid, zeroIn, filled, sizedIn, Ready};
 
 // Whether a block has its number, that of blocks and its check.
-fn is_good(block: &[u8], b: usize, blocks: usize) -> bool
-    requires { ⌜ (length (now block) ≡ 512) × (b < 65536) ⌝ }
-    ensures { λ r. ⌜ r ≡ goodIn (now (block .entry)) b blocks ⌝ }
+fn is_good(block: &[u8], number: usize, blocks: usize) -> bool
+    requires { ⌜ length (now block) ≡ 512 ⌝ }
+    ensures { λ r. ⌜ r ≡ goodIn (now (block .entry)) number blocks ⌝ }
 {
-    if (block::word_in(block, 0) as usize) != b + 1 {
+    if (block::word_in(block, 0) as usize) != number {
         return false;
     }
     if (block::word_in(block, 1) as usize) != blocks {
@@ -32,14 +32,14 @@ fn all_good(file: &[u8], blocks: usize) -> bool
     requires { ⌜ (length (now file) ≡ blocks * 512) × (blocks ≤ 101) ⌝ }
     ensures { λ r. ⌜ r ≡ every blocks (goodBlock (now (file .entry))) ⌝ }
 {
-    let mut b = 0;
-    while b < blocks {
-        let at = b * 512;
+    let mut number = 1;
+    while number <= blocks {
+        let at = (number - 1) * 512;
         let end = at + 512;
-        if !is_good(&file[at..end], b, blocks) {
+        if !is_good(&file[at..end], number, blocks) {
             return false;
         }
-        b += 1;
+        number += 1;
     }
     true
 }

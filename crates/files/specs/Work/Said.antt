@@ -38,14 +38,14 @@ pub record Numbers (n d : ℕ) : Type 0 where
   pub some-value : 1 ≤ d
   pub values : d ≤ 16
 
--- A byte; 0 past the end.
+-- The byte at a place; 0 past the end.
 unfoldable pub byteOf : List ℕ → ℕ → ℕ
 byteOf bytes i = getD bytes i 0
 
--- 14: one block with its number from 0, of so many.
+-- 14: one block with its number, of so many.
 unfoldable pub goodIn : List ℕ → ℕ → ℕ → Bool
-goodIn block b blocks =
-    eqb (blockWord block 0 0) (b + 1) && eqb (blockWord block 0 1) blocks && eqb (blockWord block 0 255) (checkOf (headOf block 0))
+goodIn block number blocks =
+    eqb (blockWord block 0 0) number && eqb (blockWord block 0 1) blocks && eqb (blockWord block 0 255) (checkOf (headOf block 0))
 
 -- The two counts and the number of subproblems.
 pub record StateSaid (file : List ℕ) (s : State) : Type 0 where

@@ -11,9 +11,6 @@ word-in-requires c κs = search needs
 cast-if1 : tie.Need-cast-if1
 cast-if1 c = search needs
 
-add-if1 : tie.Need-add-if1
-add-if1 c = search needs
-
 returns : tie.Need-returns
 returns c = bad-number _ _ _ _ (c .before .word-in .ensures) (c .if1 .taken)
 
@@ -41,7 +38,6 @@ is-good-spec =
     (tie.spec
     word-in-requires
     cast-if1
-    add-if1
     returns
     word-in-requires-2
     cast-if2
