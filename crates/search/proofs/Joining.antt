@@ -23,7 +23,8 @@ use Rattle.splits.specs.Work.Ranges.{Sized}
 use Rattle.splits.proofs.Masks.{bit-or, bit-above, bit-lt, bit-none, bit-ext}
 use Rattle.splits.proofs.Tests.{and-left, and-right, or-cases, every-at, every-all, same-test}
 use Rattle.search.specs.FirstChecks.{zerosFrom}
-use Rattle.search.specs.Work.FirstTests.{joined, rowIn, domainBelow, maskBelow, pairBelow, spanBelow, rowBelow}
+use Rattle.search.specs.Work.Matrices.{rowIn}
+use Rattle.search.specs.Work.FirstTests.{joined, domainBelow, maskBelow, pairBelow, spanBelow, rowBelow}
 
 pub every-same : (f g : ℕ → Bool) (n : ℕ) → ((i : ℕ) → i < n → f i ≡ g i) → every n f ≡ every n g
 unfolding every

@@ -2,7 +2,7 @@
 -- Assumes nothing.
 use mathlib.Core.Path.{_≡_, refl, sym, ap, _∙_}
 use mathlib.Core.Bool.{Bool, true, false, cond, _&&_, _||_}
-use mathlib.Core.List.{List, _++_}
+use mathlib.Core.List.{List, [], _∷_, _++_, append-nil}
 use mathlib.Core.Logic.{_⊎_, inl, inr, ⊎-elim}
 use Prim.Native.Nat.{ℕ, zero, suc, _+_, _-_, _*_, _/_, _%_, _^_, _≤_, _<_, min, max}
 use native.Mathlib.Omega.{arith}
@@ -13,7 +13,7 @@ use lib.Dec.{eqb, leb, ltb}
 use lib.Arith.{digits-lt}
 use lib.ListN.{length, getD, take, drop, replicate, length-take, length-drop, List·getD-append}
 use lib.Pow.{pow-pos, pow-mono, shl-shr, field, mod-mod-pow, ones-sub-lt}
-use lib.Seq.{take-length, getD-take, getD-drop, getD-append-add}
+use lib.Seq.{ext-getD, getD-append-add}
 use borrow.Author.Tests.{eqb-true, leb-true, ltb-true, lt-ltb, le-ltb, eq-eqb}
 use Rattle.splits.specs.Masks.{bit}
 use Rattle.splits.specs.Problem.{Table, tableOf}
@@ -21,15 +21,11 @@ use Rattle.splits.specs.Subproblems.{every}
 use Rattle.splits.specs.Work.Ranges.{Sized}
 use Rattle.splits.proofs.Masks.{bit-zero, bit-suc, bit-le, bit-none, bit-common, bit-or, bit-above, bit-ext}
 use Rattle.splits.proofs.Tests.{or-cases, every-at, every-all, same-test}
-use Rattle.search.specs.declared.first.Matrix.{Matrix}
-use Rattle.search.specs.Work.FirstTests.{Narrow, maskBelow, pairBelow, rowBelow, bothWays, valueBothWays, pairBothWays, rowBothWays, joined, rowIn, four, matrixOf, padded, risen, sunk, byOne, byTwo, within, byFour, byEight, turned, difference, oneWay}
+use Rattle.search.specs.declared.matrix.Matrix.{Matrix}
+use Rattle.search.specs.Matrix.{Turned}
+use Rattle.search.specs.Work.Matrices.{rowIn, four, matrixOf, risen, sunk, byOne, byTwo, within, byFour, byEight, columns, difference, wordAt, fourOf, rowsOf, Words}
 use Rattle.search.proofs.Copies.{drop-zeros}
 use Rattle.search.proofs.Joining.{bit-shr, joined-zero, every-same}
-
--- a copy of all rows, and zeros
-pub padded-made : (rows m : List ℕ) (a : ℕ) → m ≡ take a rows ++ drop a (replicate 16 0) → a ≡ length rows
-    → m ≡ rows ++ replicate (16 - length rows) 0
-padded-made rows m a e h = rw (e, h, take-length, drop-zeros) refl
 
 -- ---- digits of shifted words
 
@@ -155,13 +151,13 @@ two-digit x p = swap-digit x 18446744070273577779 14757395259826634751 30 p (ome
 
 -- ---- a place of the whole: which word, and which digit of it
 
-quarter : Matrix → ℕ → ℕ
+pub quarter : Matrix → ℕ → ℕ
 quarter m zero = m .first
 quarter m (suc zero) = m .second
 quarter m (suc (suc zero)) = m .third
 quarter m (suc (suc (suc q))) = m .fourth
 
-unfoldable cell : Matrix → ℕ → ℕ
+unfoldable pub cell : Matrix → ℕ → ℕ
 cell m place = bit (quarter m (place / 64)) (place % 64)
 
 cell-at : (m : Matrix) (q p : ℕ) → p < 64 → cell m (q * 64 + p) ≡ bit (quarter m q) p
@@ -283,8 +279,8 @@ across-all : every 256 (λ place. eqb (acrossFrom place) (across place)) ≡ tru
 unfolding every acrossFrom across apart withinFrom oneFrom twoFrom swapFrom fourFrom eightFrom riseFrom sinkFrom bit
 across-all = refl
 
-turned-from : (m : Matrix) (place : ℕ) → cell (turned m) place ≡ cell m (acrossFrom place)
-unfolding turned acrossFrom apart withinFrom cell
+turned-from : (m : Matrix) (place : ℕ) → cell (columns m) place ≡ cell m (acrossFrom place)
+unfolding columns acrossFrom apart withinFrom cell
 turned-from m place =
     let eight : ℕ = eightFrom (place / 64) (place % 64) in
     let four : ℕ = fourFrom (eight / 64) (eight % 64) in
@@ -292,7 +288,7 @@ turned-from m place =
     ∙ four-cell (within m) (eight / 64) (eight % 64) (omega arith)
     ∙ within-cell m (four / 64) (four % 64) (omega arith)
 
-turned-cell : (m : Matrix) (place : ℕ) → place < 256 → cell (turned m) place ≡ cell m (across place)
+turned-cell : (m : Matrix) (place : ℕ) → place < 256 → cell (columns m) place ≡ cell m (across place)
 turned-cell m place h =
     turned-from m place
     ∙ ap (cell m) (eqb-true (acrossFrom place) (across place) (every-at (λ x. eqb (acrossFrom x) (across x)) 256 place h across-all))
@@ -320,11 +316,11 @@ four-digit row k (suc (suc (suc zero))) c b h l =
     field-digit (four row k) (row (k + 3)) 48 c l here
 four-digit row k (suc (suc (suc (suc t)))) c b h l = absurd (omega arith)
 
-four-lt : (row : ℕ → ℕ) (k : ℕ) → ((a : ℕ) → row a < 65536) → four row k < 2 ^ 64
+pub four-lt : (row : ℕ → ℕ) (k : ℕ) → ((a : ℕ) → row a < 65536) → four row k < 2 ^ 64
 unfolding four
 four-lt row k b = omega (arith, b k, b (k + 1), b (k + 2), b (k + 3))
 
-matrix-words : (row : ℕ → ℕ) (q : ℕ) → q < 4 → quarter (matrixOf row) q ≡ four row (q * 4)
+pub matrix-words : (row : ℕ → ℕ) (q : ℕ) → q < 4 → quarter (matrixOf row) q ≡ four row (q * 4)
 unfolding matrixOf quarter
 matrix-words row zero h = refl
 matrix-words row (suc zero) h = refl
@@ -332,7 +328,7 @@ matrix-words row (suc (suc zero)) h = refl
 matrix-words row (suc (suc (suc zero))) h = refl
 matrix-words row (suc (suc (suc (suc q)))) h = absurd (omega arith)
 
-matrix-cell : (row : ℕ → ℕ) (r c : ℕ) → ((a : ℕ) → row a < 65536) → r < 16 → c < 16 → cell (matrixOf row) (r * 16 + c) ≡ bit (row r) c
+pub matrix-cell : (row : ℕ → ℕ) (r c : ℕ) → ((a : ℕ) → row a < 65536) → r < 16 → c < 16 → cell (matrixOf row) (r * 16 + c) ≡ bit (row r) c
 unfolding cell
 matrix-cell row r c b h l =
     let word : (r * 16 + c) / 64 ≡ r / 4 = omega arith in
@@ -367,14 +363,14 @@ same-quarters m o e = go
 
 -- ---- the same in every place
 
-turned-lt : (m : Matrix) (q : ℕ) → quarter (turned m) q < 2 ^ 64
-unfolding turned byEight quarter risen sunk
+pub turned-lt : (m : Matrix) (q : ℕ) → quarter (columns m) q < 2 ^ 64
+unfolding columns byEight quarter risen sunk
 turned-lt m zero = joined-lt (byFour (within m) .first) (byFour (within m) .third * 2 ^ 8 % 2 ^ 64) 71777214294589695 (omega arith)
 turned-lt m (suc zero) = joined-lt (byFour (within m) .second) (byFour (within m) .fourth * 2 ^ 8 % 2 ^ 64) 71777214294589695 (omega arith)
 turned-lt m (suc (suc zero)) = joined-lt (byFour (within m) .third) (byFour (within m) .first / 2 ^ 8) 18374966859414961920 (omega arith)
 turned-lt m (suc (suc (suc q))) = joined-lt (byFour (within m) .fourth) (byFour (within m) .second / 2 ^ 8) 18374966859414961920 (omega arith)
 
-same-words : (m o : Matrix) (q : ℕ) → q < 4 → quarter m q < 2 ^ 64 → quarter o q < 2 ^ 64
+pub same-words : (m o : Matrix) (q : ℕ) → q < 4 → quarter m q < 2 ^ 64 → quarter o q < 2 ^ 64
     → ((place : ℕ) → place < 256 → cell m place ≡ cell o place) → quarter m q ≡ quarter o q
 same-words m o q h k l s =
     bit-ext (quarter m q) (quarter o q) (λ p. elim (decLt p 64) [
@@ -383,11 +379,11 @@ same-words m o q h k l s =
     ])
 
 -- where nothing differs, all places are the same
-same-cells : (m o : Matrix) → difference m o ≡ 0 → (place : ℕ) → cell m place ≡ cell o place
+pub same-cells : (m o : Matrix) → difference m o ≡ 0 → (place : ℕ) → cell m place ≡ cell o place
 unfolding cell
 same-cells m o e place = ap (λ (x : ℕ). bit x (place % 64)) (same-quarters m o e (place / 64))
 
-quarters-same : (m o : Matrix) → ((q : ℕ) → q < 4 → quarter m q ≡ quarter o q) → difference m o ≡ 0
+pub quarters-same : (m o : Matrix) → ((q : ℕ) → q < 4 → quarter m q ≡ quarter o q) → difference m o ≡ 0
 unfolding difference quarter
 quarters-same m o s =
     let a : m .first ≡ o .first = s 0 (omega arith) in
@@ -397,150 +393,92 @@ quarters-same m o s =
     rw (a, b, c, e, xor-self (o .first), xor-self (o .second), xor-self (o .third), xor-self (o .fourth))
 
 -- a place of what is turned, by row and column
-mirror : (m : Matrix) (r c : ℕ) → r < 16 → c < 16 → cell (turned m) (r * 16 + c) ≡ cell m (c * 16 + r)
+pub mirror : (m : Matrix) (r c : ℕ) → r < 16 → c < 16 → cell (columns m) (r * 16 + c) ≡ cell m (c * 16 + r)
 unfolding across
 mirror m r c h l =
     let at : (r * 16 + c) % 16 * 16 + (r * 16 + c) / 16 ≡ c * 16 + r = omega arith in
     turned-cell m (r * 16 + c) (omega arith) ∙ ap (cell m) at
 
--- ---- two variables
+-- ---- the rows of four words
 
-padded-in : (d : ℕ) (f : ℕ → ℕ) (a : ℕ) → a < d → padded d f a ≡ f a
-unfolding padded
-padded-in d f a h = rw (lt-ltb a d h)
+-- word a of some before others
+four-at : (x t : ℕ) (rest : List ℕ) → t < 4 → getD (fourOf x ++ rest) t 0 ≡ wordAt x (t * 16)
+unfolding fourOf
+four-at x zero rest h = refl
+four-at x (suc zero) rest h = refl
+four-at x (suc (suc zero)) rest h = refl
+four-at x (suc (suc (suc zero))) rest h = refl
+four-at x (suc (suc (suc (suc t)))) rest h = absurd (omega arith)
 
-padded-out : (d : ℕ) (f : ℕ → ℕ) (a : ℕ) → d ≤ a → padded d f a ≡ 0
-unfolding padded
-padded-out d f a h = rw (le-ltb a d h)
+four-last : (x t : ℕ) → t < 4 → getD (fourOf x) t 0 ≡ wordAt x (t * 16)
+four-last x t h = ap (λ (l : List ℕ). getD l t 0) (sym (append-nil (fourOf x))) ∙ four-at x t [] h
 
-module _ (n d : ℕ) (t : List ℕ) (narrow : Narrow n d t) where
-  -- a mask that is read has no value at d or above
-  narrow-mask : (i j a : ℕ) → i < n → j < n → (i ≡ j → ⊥) → a < d → tableOf n d t i j a < 2 ^ d
-  unfolding rowBelow pairBelow maskBelow
-  narrow-mask i j a h k f l =
-      let row = every-at (rowBelow n d (tableOf n d t)) n i h (narrow .below) in
-      let pair = every-at (pairBelow d (tableOf n d t) i) n j k row in
-      ⊎-elim (λ e. absurd (f (eqb-true i j e)))
-      (λ e. ltb-true (tableOf n d t i j a) (2 ^ d) (every-at (maskBelow d (tableOf n d t) i j) d a l e))
-      (or-cases (eqb i j) (every d (maskBelow d (tableOf n d t) i j)) pair)
+four-past : (x k : ℕ) (rest : List ℕ) → getD (fourOf x ++ rest) (4 + k) 0 ≡ getD rest k 0
+unfolding fourOf
+four-past x k rest = getD-append-add (wordAt x 0 ∷ wordAt x 16 ∷ wordAt x 32 ∷ wordAt x 48 ∷ []) rest k 0
 
-  rows : ℕ → ℕ → ℕ → ℕ
-  rows i j = padded d (tableOf n d t i j)
+rows-at : (m : Matrix) (q t : ℕ) → q < 4 → t < 4 → getD (rowsOf m) (q * 4 + t) 0 ≡ wordAt (quarter m q) (t * 16)
+unfolding rowsOf quarter
+rows-at m q t h k = go q h
+  where
+    last : List ℕ
+    last = fourOf (m .fourth)
 
-  rows-narrow : (i j a : ℕ) → i < n → j < n → (i ≡ j → ⊥) → rows i j a < 2 ^ d
-  unfolding rows
-  rows-narrow i j a h k f = elim (decLt a d) [
-    | yes l ↦ rw (padded-in d (tableOf n d t i j) a l) (narrow-mask i j a h k f l)
-    | no l ↦ rw (padded-out d (tableOf n d t i j) a (omega arith)) (pow-pos d)
-  ]
+    half : List ℕ
+    half = fourOf (m .third) ++ last
 
-  rows-lt : (i j : ℕ) → i < n → j < n → (i ≡ j → ⊥) → (a : ℕ) → rows i j a < 65536
-  rows-lt i j h k f a = lt-of-lt-of-le (rows-narrow i j a h k f) (pow-mono (narrow .sized .small))
+    rest : List ℕ
+    rest = fourOf (m .second) ++ half
 
-  -- where the values are allowed both ways, so are the digits of all rows
-  rows-mirror : (i j : ℕ) → i < n → j < n → (i ≡ j → ⊥) → pairBothWays d (tableOf n d t) i j ≡ true
-      → (r c : ℕ) → bit (rows i j c) r ≡ bit (rows j i r) c
-  unfolding rows pairBothWays valueBothWays bothWays
-  rows-mirror i j h k f e r c = elim (decLt c d) [
-    | yes l ↦ elim (decLt r d) [
-      | yes m ↦ rw (padded-in d (tableOf n d t i j) c l, padded-in d (tableOf n d t j i) r m)
-          (eqb-true (bit (tableOf n d t i j c) r) (bit (tableOf n d t j i r) c)
-          (every-at (bothWays (tableOf n d t) i j c) d r m (every-at (valueBothWays d (tableOf n d t) i j) d c l e)))
-      | no m ↦ bit-above d (rows i j c) r (rows-narrow i j c h k f) (omega arith)
-          ∙ sym (ap (λ (x : ℕ). bit x c) (padded-out d (tableOf n d t j i) r (omega arith)) ∙ bit-none c)
-    ]
-    | no l ↦ ap (λ (x : ℕ). bit x r) (padded-out d (tableOf n d t i j) c (omega arith)) ∙ bit-none r
-        ∙ sym (bit-above d (rows j i r) c (rows-narrow j i r k h (λ z. f (sym z))) (omega arith))
-  ]
+    go : (q : ℕ) → q < 4 → getD (fourOf (m .first) ++ rest) (q * 4 + t) 0 ≡ wordAt (quarter m q) (t * 16)
+    go zero l = let e : zero * 4 + t ≡ t = omega arith in rw e (four-at (m .first) t rest k)
+    go (suc zero) l = let e : suc zero * 4 + t ≡ 4 + t = omega arith in
+        rw e (four-past (m .first) t rest ∙ four-at (m .second) t half k)
+    go (suc (suc zero)) l = let e : suc (suc zero) * 4 + t ≡ 4 + (4 + t) = omega arith in
+        rw e (four-past (m .first) (4 + t) rest ∙ four-past (m .second) t half ∙ four-at (m .third) t last k)
+    go (suc (suc (suc zero))) l = let e : suc (suc (suc zero)) * 4 + t ≡ 4 + (4 + (4 + t)) = omega arith in
+        rw e (four-past (m .first) (4 + (4 + t)) rest ∙ four-past (m .second) (4 + t) half ∙ four-past (m .third) t last ∙ four-last (m .fourth) t k)
+    go (suc (suc (suc (suc q)))) l = absurd (omega arith)
 
-  -- The masks of i with j, rows for columns, do not differ from those of j with i where the values are allowed both ways or neither.
-  pair-turned : (i j : ℕ) → i < n → j < n → (i ≡ j → ⊥)
-      → eqb (oneWay d (tableOf n d t) i j) 0 ≡ pairBothWays d (tableOf n d t) i j
-  unfolding rows oneWay pairBothWays valueBothWays bothWays
-  pair-turned i j h k f =
-      let m : Matrix = matrixOf (rows i j) in
-      let o : Matrix = matrixOf (rows j i) in
-      let g : j ≡ i → ⊥ = λ z. f (sym z) in
-      same-test (eqb (difference (turned m) o) 0) (pairBothWays d (tableOf n d t) i j)
-      (λ e. every-all (valueBothWays d (tableOf n d t) i j) d (λ a la. every-all (bothWays (tableOf n d t) i j a) d (λ b lb.
-      let small : d ≤ 16 = narrow .sized .small in
-      eq-eqb (bit (tableOf n d t i j a) b) (bit (tableOf n d t j i b) a)
-      (ap (λ (x : ℕ). bit x b) (sym (padded-in d (tableOf n d t i j) a la)) ∙ sym (matrix-cell (rows i j) a b (rows-lt i j h k f) (omega arith) (omega arith))
-      ∙ sym (mirror m b a (omega arith) (omega arith)) ∙ same-cells (turned m) o (eqb-true (difference (turned m) o) 0 e) (b * 16 + a)
-      ∙ matrix-cell (rows j i) b a (rows-lt j i k h g) (omega arith) (omega arith) ∙ ap (λ (x : ℕ). bit x a) (padded-in d (tableOf n d t j i) b lb)))))
-      (λ e. eq-eqb (difference (turned m) o) 0 (quarters-same (turned m) o (λ q l. same-words (turned m) o q l (turned-lt m q)
-      (rw (matrix-words (rows j i) q l) (four-lt (rows j i) (q * 4) (rows-lt j i k h g)))
-      (λ place p.
-      let at : place ≡ place / 16 * 16 + place % 16 = omega arith in
-      let r : ℕ = place / 16 in
-      let c : ℕ = place % 16 in
-      ap (cell (turned m)) at ∙ mirror m r c (omega arith) (omega arith) ∙ matrix-cell (rows i j) c r (rows-lt i j h k f) (omega arith) (omega arith)
-      ∙ rows-mirror i j h k f e r c ∙ sym (matrix-cell (rows j i) r c (rows-lt j i k h g) (omega arith) (omega arith)) ∙ ap (cell o) (sym at)))))
+row-at : (m : Matrix) (a : ℕ) → a < 16 → getD (rowsOf m) a 0 ≡ wordAt (quarter m (a / 4)) (a % 4 * 16)
+row-at m a h =
+    let at : a ≡ a / 4 * 4 + a % 4 = omega arith in
+    ap (λ (k : ℕ). getD (rowsOf m) k 0) at ∙ rows-at m (a / 4) (a % 4) (omega arith) (omega arith)
 
-  -- of one variable with every one before it
-  pub row-found : (i b : ℕ) → i < n → b ≡ joined i (oneWay d (tableOf n d t) i) → eqb b 0 ≡ rowBothWays d (tableOf n d t) i
-  unfolding rowBothWays
-  row-found i b h e =
-      ap (λ (x : ℕ). eqb x 0) e ∙ joined-zero i (oneWay d (tableOf n d t) i)
-      ∙ every-same (λ j. eqb (oneWay d (tableOf n d t) i j) 0) (pairBothWays d (tableOf n d t) i) i
-      (λ j l. pair-turned i j h (omega arith) (λ z. absurd (omega arith)))
+row-digit : (m : Matrix) (a b : ℕ) → a < 16 → b < 16 → bit (getD (rowsOf m) a 0) b ≡ cell m (a * 16 + b)
+unfolding cell wordAt
+row-digit m a b h k =
+    let word : (a * 16 + b) / 64 ≡ a / 4 = omega arith in
+    let digit : (a * 16 + b) % 64 ≡ a % 4 * 16 + b = omega arith in
+    rw (word, digit)
+    (ap (λ (x : ℕ). bit x b) (row-at m a h) ∙ bit-low 16 (quarter m (a / 4) / 2 ^ (a % 4 * 16)) b k ∙ bit-shr (quarter m (a / 4)) (a % 4 * 16) b)
 
--- what the code finds of two
-pub one-way-found : (d i j r : ℕ) (allowed : Table) (m u o : Matrix) → m ≡ matrixOf (padded d (allowed i j)) → u ≡ turned m
-    → o ≡ matrixOf (padded d (allowed j i)) → r ≡ difference u o → r ≡ oneWay d allowed i j
-unfolding oneWay
-one-way-found d i j r allowed m u o em eu eo e = rw (eu, em, eo) at e
+row-lt : (m : Matrix) (a : ℕ) → a < 16 → getD (rowsOf m) a 0 < 65536
+unfolding wordAt
+row-lt m a h = rw (row-at m a h) (omega arith)
 
--- ---- the words of two variables
+rows-long : (m : Matrix) → length (rowsOf m) ≡ 16
+unfolding rowsOf fourOf
+rows-long m = refl
 
-zeros-at : (k i : ℕ) → _≡_ {A = ℕ} (getD {A = ℕ} (replicate k 0) i 0) 0
-zeros-at zero i = refl
-zeros-at (suc k) zero = refl
-zeros-at (suc k) (suc i) = zeros-at k i
+all-turned : (rows : List ℕ) → Words (rowIn rows) → Turned rows (rowsOf (columns (matrixOf (rowIn rows))))
+unfolding rowIn
+all-turned rows w = record {
+  long = rows-long (columns (matrixOf (rowIn rows)));
+  small = row-lt (columns (matrixOf (rowIn rows)));
+  mirror = λ a b h k.
+      row-digit (columns (matrixOf (rowIn rows))) a b h k ∙ mirror (matrixOf (rowIn rows)) a b h k ∙ matrix-cell (rowIn rows) b a (w .small) k h;
+}
 
--- a row past so many is zero, and each before them is theirs
-padded-row : (x : List ℕ) (d a : ℕ) (f : ℕ → ℕ) → length x ≡ d → ((v : ℕ) → v < d → getD x v 0 ≡ f v)
-    → getD (x ++ replicate (16 - length x) 0) a 0 ≡ padded d f a
-padded-row x d a f e h = elim (decLt a d) [
-  | yes l ↦ List·getD-append x (replicate (16 - length x) 0) 0 a (omega arith) ∙ h a l ∙ sym (padded-in d f a l)
-  | no l ↦
-      let at : a ≡ length x + (a - d) = omega arith in
-      ap (λ (k : ℕ). getD (x ++ replicate (16 - length x) 0) k 0) at ∙ getD-append-add x (replicate (16 - length x) 0) (a - d) 0
-      ∙ zeros-at (16 - length x) (a - d) ∙ sym (padded-out d f a (omega arith))
-]
+-- What is packed, turned and taken apart again is turned.
+pub turned-made : (rows r : List ℕ) (m o : Matrix) → Words (rowIn rows) → m ≡ matrixOf (rowIn rows) → o ≡ columns m → r ≡ rowsOf o → Turned rows r
+turned-made rows r m o w em eo er = rw (er, eo, em) (all-turned rows w)
 
-matrix-same : (f g : ℕ → ℕ) → ((a : ℕ) → a < 16 → f a ≡ g a) → matrixOf f ≡ matrixOf g
-unfolding matrixOf four
-matrix-same f g h =
-    simp (h 0 (omega arith), h 1 (omega arith), h 2 (omega arith), h 3 (omega arith), h 4 (omega arith), h 5 (omega arith), h 6 (omega arith), h 7 (omega arith), h 8 (omega arith), h 9 (omega arith), h 10 (omega arith), h 11 (omega arith), h 12 (omega arith), h 13 (omega arith), h 14 (omega arith), h 15 (omega arith))
-
-module _ (n d i j : ℕ) (t : List ℕ) (fit : Sized n d t) (h : i < n) (k : j < n) where
-  -- the masks of two of the variables stand within the tables
-  pub masks-within : (i * n + j) * d + d ≤ length t
-  masks-within =
-      let pair : i * n + j + 1 ≤ n * n = omega (arith, digits-lt h k) in
-      omega (arith, mul-le-mul-right d pair, fit .words)
-
-  masks-at : (v : ℕ) → v < d → getD (take ((i * n + j) * d + d - (i * n + j) * d) (drop ((i * n + j) * d) t)) v 0 ≡ tableOf n d t i j v
-  unfolding tableOf
-  masks-at v l =
-      getD-take ((i * n + j) * d + d - (i * n + j) * d) (drop ((i * n + j) * d) t) v 0 (omega arith) ∙ getD-drop ((i * n + j) * d) t v 0
-
-  -- 16 masks, as they stand
-  pub matrix-whole : (m : Matrix) → d ≡ 16 → m ≡ matrixOf (rowIn (take ((i * n + j) * d + d - (i * n + j) * d) (drop ((i * n + j) * d) t)))
-      → m ≡ matrixOf (padded d (tableOf n d t i j))
-  unfolding rowIn
-  matrix-whole m e s =
-      s ∙ matrix-same (rowIn (take ((i * n + j) * d + d - (i * n + j) * d) (drop ((i * n + j) * d) t))) (padded d (tableOf n d t i j))
-      (λ a l. masks-at a (omega arith) ∙ sym (padded-in d (tableOf n d t i j) a (omega arith)))
-
-  -- fewer, with zeros
-  pub matrix-part : (m : Matrix) (x : List ℕ)
-      → x ≡ take ((i * n + j) * d + d - (i * n + j) * d) (drop ((i * n + j) * d) t) ++ replicate (16 - length (take ((i * n + j) * d + d - (i * n + j) * d) (drop ((i * n + j) * d) t))) 0
-      → m ≡ matrixOf (rowIn x) → m ≡ matrixOf (padded d (tableOf n d t i j))
-  unfolding rowIn
-  matrix-part m x e s =
-      let part : List ℕ = take ((i * n + j) * d + d - (i * n + j) * d) (drop ((i * n + j) * d) t) in
-      let long : length part ≡ d = simp (length-take, length-drop) (omega (arith, masks-within)) in
-      s ∙ matrix-same (rowIn x) (padded d (tableOf n d t i j))
-      (λ a l. ap (λ (y : List ℕ). getD y a 0) e ∙ padded-row part d a (tableOf n d t i j) long masks-at)
+-- Two that are turned of the same rows are the same.
+pub turned-same : (rows r s : List ℕ) → Turned rows r → Turned rows s → r ≡ s
+turned-same rows r s t u = ext-getD 0 r s (t .long ∙ sym (u .long)) (λ a h.
+    let l : a < 16 = omega (arith, t .long) in
+    bit-ext (getD r a 0) (getD s a 0) (λ b. elim (decLt b 16) [
+      | yes f ↦ t .mirror a b l f ∙ sym (u .mirror a b l f)
+      | no f ↦ bit-above 16 (getD r a 0) b (t .small a l) (omega arith) ∙ sym (bit-above 16 (getD s a 0) b (u .small a l) (omega arith))
+    ]))

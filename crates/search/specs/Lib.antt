@@ -4,6 +4,7 @@ pub mod Verdicts
 pub mod Runs
 pub mod Chooser
 pub mod FirstChecks
+pub mod Matrix
 pub mod Calls
 pub mod Cases
 pub mod Promises

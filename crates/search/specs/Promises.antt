@@ -18,6 +18,7 @@ use Rattle.search.specs.Agenda.{problemOf, slotsIn, stackOf}
 use Rattle.search.specs.Verdicts.{numberOf, verdictOf}
 use Rattle.search.specs.Runs.{Search, Stopped, step, refusalOfRequest, run, requestsIn}
 use Rattle.search.specs.Chooser.{request, chosen, choose}
+use Rattle.search.specs.Matrix.{Turned}
 use Rattle.search.specs.FirstChecks.{WholeRequests, searchRefusal, Deserves-1, Deserves-2, WholeSlots, Deserves-3, Deserves-3-run, Deserves-4, Deserves-5, Deserves-6, refusalOfNumbers, refusalOfLengths, refusalOfRequests, refusalOfProblem, refusalOfSearch, openRefusal, runRefusal}
 use Rattle.search.specs.Calls.{opening, searchOf, Opens, Runs, Chooses}
 use Rattle.search.specs.declared.state.State.{State}
@@ -705,6 +706,10 @@ abbrev pub Open-one : Type 0
 Open-one =
     (n d : ℕ) (domains tables before after after′ : List ℕ) (r s : Opened) → Opens n d domains tables before after r
     → Opens n d domains tables before after′ s → (r ≡ s) × (after ≡ after′)
+
+-- Rows for columns.
+abbrev pub Turned-one : Type 0
+Turned-one = (rows r s : List ℕ) → Turned rows r → Turned rows s → r ≡ s
 
 -- A run.
 abbrev pub Run-one : Type 0

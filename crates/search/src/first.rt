@@ -1,4 +1,6 @@
 // The first checks: the refusals 1 to 6 that the words handed to a call deserve, before anything is changed.
+use crate::matrix;
+use crate::matrix::Matrix;
 use crate::state::State;
 use splits::mask;
 ghost use mathlib.Core.Path.{_≡_};
@@ -12,7 +14,8 @@ ghost use Rattle.splits.specs.Subproblems.{every};
 ghost use Rattle.splits.specs.Work.Ranges.{Sized, Place};
 ghost use Rattle.search.specs.Agenda.{problemOf, subproblemOf, stackOf};
 ghost use Rattle.search.specs.FirstChecks.{refusalOfNumbers, wholeSlots, refusalOfLengths, refusalOfRequests, refusalOfProblem, obeys, allObey, zerosFrom, refusalOfSearch, openRefusal, searchRefusal, runRefusal};
-ghost use Rattle.search.specs.Work.FirstTests.{Fitting, Narrow, SlotFits, Next, joined, domainBelow, spanBelow, rowBelow, rowBothWays, rowIn, four, matrixOf, padded, risen, sunk, byOne, byTwo, within, byFour, byEight, turned, difference, oneWay, partWrong, wrongIn, pairAgrees, rowAgrees, markObeys};
+ghost use Rattle.search.specs.Work.Matrices.{rowIn, matrixOf};
+ghost use Rattle.search.specs.Work.FirstTests.{Fitting, Narrow, SlotFits, Next, joined, domainBelow, spanBelow, rowBelow, rowBothWays, padded, oneWay, partWrong, wrongIn, pairAgrees, rowAgrees, markObeys};
 
 // The mask of the values of `j` allowed beside value `a` of `i`.
 pub(crate) fn allowed(n: usize, d: usize, tables: &[u16], i: usize, j: usize, a: usize) -> u16
@@ -166,135 +169,6 @@ fn has(mask: u16, value: usize) -> bool
     }
 }
 
-// The masks of two variables: 16 rows of 16 bits, four rows to a word, zeros past the last mask.
-pub(crate) struct Matrix {
-    first: u64,
-    second: u64,
-    third: u64,
-    fourth: u64,
-}
-
-// Bits of `a` where `keep` has one, elsewhere those of `b` from so many places below.
-fn risen(a: u64, b: u64, keep: u64, places: usize) -> u64
-    requires { ⌜ places < 64 ⌝ }
-    ensures { λ r. ⌜ r ≡ risen a b keep places ⌝ }
-{
-    (a & keep) | ((b << places) & !keep)
-}
-
-// The same from so many places above.
-fn sunk(a: u64, b: u64, keep: u64, places: usize) -> u64
-    requires { ⌜ places < 64 ⌝ }
-    ensures { λ r. ⌜ r ≡ sunk a b keep places ⌝ }
-{
-    (a & keep) | ((b >> places) & !keep)
-}
-
-// Four rows, the digit of weight 1 of row and column exchanged.
-fn by_one(x: u64) -> u64
-    ensures { λ r. ⌜ r ≡ byOne x ⌝ }
-{
-    risen(
-        sunk(x, x, 0xFFFF5555FFFF5555, 15),
-        x,
-        0xAAAAFFFFAAAAFFFF,
-        15,
-    )
-}
-
-// That of weight 2.
-fn by_two(x: u64) -> u64
-    ensures { λ r. ⌜ r ≡ byTwo x ⌝ }
-{
-    risen(
-        sunk(x, x, 0xFFFFFFFF33333333, 30),
-        x,
-        0xCCCCCCCCFFFFFFFF,
-        30,
-    )
-}
-
-// Both of these in all rows.
-fn within(m: Matrix) -> Matrix
-    ensures { λ r. ⌜ r ≡ within m ⌝ }
-{
-    Matrix {
-        first: by_two(by_one(m.first)),
-        second: by_two(by_one(m.second)),
-        third: by_two(by_one(m.third)),
-        fourth: by_two(by_one(m.fourth)),
-    }
-}
-
-// That of weight 4, between words.
-fn by_four(m: Matrix) -> Matrix
-    ensures { λ r. ⌜ r ≡ byFour m ⌝ }
-{
-    Matrix {
-        first: risen(m.first, m.second, 0x0F0F0F0F0F0F0F0F, 4),
-        second: sunk(m.second, m.first, 0xF0F0F0F0F0F0F0F0, 4),
-        third: risen(m.third, m.fourth, 0x0F0F0F0F0F0F0F0F, 4),
-        fourth: sunk(m.fourth, m.third, 0xF0F0F0F0F0F0F0F0, 4),
-    }
-}
-
-// That of weight 8.
-fn by_eight(m: Matrix) -> Matrix
-    ensures { λ r. ⌜ r ≡ byEight m ⌝ }
-{
-    Matrix {
-        first: risen(m.first, m.third, 0x00FF00FF00FF00FF, 8),
-        second: risen(m.second, m.fourth, 0x00FF00FF00FF00FF, 8),
-        third: sunk(m.third, m.first, 0xFF00FF00FF00FF00, 8),
-        fourth: sunk(m.fourth, m.second, 0xFF00FF00FF00FF00, 8),
-    }
-}
-
-// Rows for columns.
-fn turned(m: Matrix) -> Matrix
-    ensures { λ r. ⌜ r ≡ turned m ⌝ }
-{
-    by_eight(by_four(within(m)))
-}
-
-// The bits in which two differ, all rows together.
-fn difference(m: Matrix, o: Matrix) -> u64
-    ensures { λ r. ⌜ r ≡ difference m o ⌝ }
-{
-    ((m.first ^ o.first) | (m.second ^ o.second)) | ((m.third ^ o.third) | (m.fourth ^ o.fourth))
-}
-
-// A mask as a longer word.
-fn wide(mask: u16) -> u64
-    ensures { λ r. ⌜ (r ≡ mask) × (r < 65536) ⌝ }
-{
-    mask as u64
-}
-
-// Four rows in a word.
-fn four(rows: &[u16], k: usize) -> u64
-    requires { ⌜ k + 4 ≤ length (now rows) ⌝ }
-    ensures { λ r. ⌜ r ≡ four (rowIn (now (rows .entry))) k ⌝ }
-{
-    wide(rows[k])
-        + wide(rows[k + 1]) * 65536
-        + wide(rows[k + 2]) * 4294967296
-        + wide(rows[k + 3]) * 281474976710656
-}
-
-// 16 rows.
-fn matrix_of(rows: &[u16]) -> Matrix
-    requires { ⌜ length (now rows) ≡ 16 ⌝ }
-    ensures { λ r. ⌜ r ≡ matrixOf (rowIn (now (rows .entry))) ⌝ }
-{
-    Matrix {
-        first: four(rows, 0),
-        second: four(rows, 4),
-        third: four(rows, 8),
-        fourth: four(rows, 12),
-    }
-}
-
 // Up to 16 rows, zeros after them.
 fn padded(rows: &[u16]) -> [u16; 16]
     requires { ⌜ length (now rows) ≤ 16 ⌝ }
@@ -317,10 +191,10 @@ fn matrix_at(n: usize, d: usize, tables: &[u16], i: usize, j: usize) -> Matrix
     let at = (i * n + j) * d;
     let end = at + d;
     if d == 16 {
-        return matrix_of(&tables[at..end]);
+        return matrix::matrix_of(&tables[at..end]);
     }
     let rows = padded(&tables[at..end]);
-    matrix_of(&rows[..16])
+    matrix::matrix_of(&rows[..16])
 }
 
 // Bits for the values of `i` and `j` that are allowed one way only; 0 for none.
@@ -328,8 +202,8 @@ fn one_way(n: usize, d: usize, tables: &[u16], i: usize, j: usize) -> u64
     requires { ⌜ Sized n d (now tables) × ((i < n) × (j < n)) ⌝ }
     ensures { λ r. ⌜ r ≡ oneWay d (tableOf n d (now (tables .entry))) i j ⌝ }
 {
-    difference(
-        turned(matrix_at(n, d, tables, i, j)),
+    matrix::difference(
+        matrix::columns(matrix_at(n, d, tables, i, j)),
         matrix_at(n, d, tables, j, i),
     )
 }

@@ -4,6 +4,7 @@ mod choice;
 mod chooser;
 pub mod first;
 mod lanes;
+pub mod matrix;
 mod rows;
 pub mod state;
 mod step;

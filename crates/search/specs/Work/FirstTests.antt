@@ -3,7 +3,7 @@ use mathlib.Core.Path.{_≡_}
 use mathlib.Core.Bool.{Bool, true, not, cond, _&&_, _||_}
 use mathlib.Core.List.{List}
 use Prim.Native.Nat.{ℕ, zero, suc, _+_, _-_, _*_, _/_, _%_, _^_, _≤_, _<_}
-use lib.Bits.{bitAnd, bitOr, bitXor}
+use lib.Bits.{bitOr}
 use lib.ListN.{length, getD}
 use lib.Dec.{eqb, ltb}
 use Rattle.splits.specs.Masks.{bit, minus, size, lowest}
@@ -12,8 +12,8 @@ use Rattle.splits.specs.Subproblems.{domain, every}
 use Rattle.splits.specs.Work.Ranges.{Sized}
 use Rattle.splits.specs.declared.subproblem.Subproblem.{Subproblem}
 use Rattle.search.specs.Agenda.{subproblemOf, slotAt}
-use Rattle.search.specs.declared.first.Matrix.{Matrix}
 use Rattle.search.specs.FirstChecks.{obeys}
+use Rattle.search.specs.Work.Matrices.{matrixOf, columns, difference}
 
 -- What refusals 1, 2 and 3 leave of the problem's words.
 pub record Fitting (n d : ℕ) (domains tables : List ℕ) : Type 0 where
@@ -24,10 +24,6 @@ pub record Fitting (n d : ℕ) (domains tables : List ℕ) : Type 0 where
 unfoldable pub joined : ℕ → (ℕ → ℕ) → ℕ
 joined zero f = 0
 joined (suc n) f = bitOr (joined n f) (f n)
-
--- Word a of some.
-unfoldable pub rowIn : List ℕ → ℕ → ℕ
-rowIn rows a = getD rows a 0
 
 -- 4: one domain, one mask of the tables, the masks of two variables, of one with some in a row, and of one with every other.
 unfoldable pub domainBelow : ℕ → List ℕ → ℕ → Bool
@@ -63,61 +59,12 @@ pub record Narrow (n d : ℕ) (tables : List ℕ) : Type 0 where
   pub sized : Sized n d tables
   pub below : every n (rowBelow n d (tableOf n d tables)) ≡ true
 
--- 5, the masks of two variables at once: 16 rows of 16 bits, four rows to a word, zeros past the d masks.
-unfoldable pub four : (ℕ → ℕ) → ℕ → ℕ
-four row k = row k + row (k + 1) * 65536 + row (k + 2) * 4294967296 + row (k + 3) * 281474976710656
-
-unfoldable pub matrixOf : (ℕ → ℕ) → Matrix
-matrixOf row = record { first = four row 0; second = four row 4; third = four row 8; fourth = four row 12 }
-
+-- 5, the masks of two variables at once: zeros past the d masks; the bits of the values that are allowed one way only.
 unfoldable pub padded : ℕ → (ℕ → ℕ) → ℕ → ℕ
 padded d row a = cond (ltb a d) (row a) 0
 
--- Bits of a where `keep` has one, elsewhere those of b from so many places below, or above.
-unfoldable pub risen : ℕ → ℕ → ℕ → ℕ → ℕ
-risen a b keep places = bitOr (bitAnd a keep) (bitAnd (b * 2 ^ places % 2 ^ 64) (2 ^ 64 - 1 - keep))
-
-unfoldable pub sunk : ℕ → ℕ → ℕ → ℕ → ℕ
-sunk a b keep places = bitOr (bitAnd a keep) (bitAnd (b / 2 ^ places) (2 ^ 64 - 1 - keep))
-
--- Rows for columns in four steps, each of which exchanges one binary digit of the row's number and of the column's: that of
--- weight 1 and of weight 2 within a word, of weight 4 and of weight 8 between words.
-unfoldable pub byOne : ℕ → ℕ
-byOne x = risen (sunk x x 18446556426588345685 15) x 12297923206033637375 15
-
-unfoldable pub byTwo : ℕ → ℕ
-byTwo x = risen (sunk x x 18446744070273577779 30) x 14757395259826634751 30
-
-unfoldable pub within : Matrix → Matrix
-within m = record { first = byTwo (byOne (m .first)); second = byTwo (byOne (m .second)); third = byTwo (byOne (m .third)); fourth = byTwo (byOne (m .fourth)) }
-
-unfoldable pub byFour : Matrix → Matrix
-byFour m = record {
-  first = risen (m .first) (m .second) 1085102592571150095 4;
-  second = sunk (m .second) (m .first) 17361641481138401520 4;
-  third = risen (m .third) (m .fourth) 1085102592571150095 4;
-  fourth = sunk (m .fourth) (m .third) 17361641481138401520 4;
-}
-
-unfoldable pub byEight : Matrix → Matrix
-byEight m = record {
-  first = risen (m .first) (m .third) 71777214294589695 8;
-  second = risen (m .second) (m .fourth) 71777214294589695 8;
-  third = sunk (m .third) (m .first) 18374966859414961920 8;
-  fourth = sunk (m .fourth) (m .second) 18374966859414961920 8;
-}
-
-unfoldable pub turned : Matrix → Matrix
-turned m = byEight (byFour (within m))
-
--- The bits in which two differ, all rows together, and those of the values of two variables that are allowed one way only.
-unfoldable pub difference : Matrix → Matrix → ℕ
-difference m o =
-    bitOr (bitOr (bitXor (m .first) (o .first)) (bitXor (m .second) (o .second)))
-    (bitOr (bitXor (m .third) (o .third)) (bitXor (m .fourth) (o .fourth)))
-
 unfoldable pub oneWay : ℕ → Table → ℕ → ℕ → ℕ
-oneWay d allowed i j = difference (turned (matrixOf (padded d (allowed i j)))) (matrixOf (padded d (allowed j i)))
+oneWay d allowed i j = difference (columns (matrixOf (padded d (allowed i j)))) (matrixOf (padded d (allowed j i)))
 
 -- 6, one domain of a subproblem beside the problem's, as it is loaded.
 unfoldable pub partObeys : ℕ → Subproblem → ℕ → Bool

@@ -4,7 +4,8 @@ use mathlib.Core.Path.{_≡_, refl}
 use Prim.Native.Nat.{_-_, _≤_}
 use native.Mathlib.Omega.{arith}
 use lib.ListN.{length}
-use Rattle.search.specs.Work.FirstTests.{joined, rowIn}
+use Rattle.search.specs.Work.Matrices.{rowIn}
+use Rattle.search.specs.Work.FirstTests.{joined}
 use Rattle.search.proofs.Joining.{joined-none, joined-more, joined-end}
 use borrow.Author.Needs.{needs}
 use Rattle.search.proofs.first.bits_of.Statement.{statement}

@@ -4,7 +4,7 @@ use mathlib.Core.Path.{refl}
 use native.Mathlib.Omega.{arith}
 use borrow.Author.Needs.{needs}
 use Rattle.search.proofs.Obeying.{in-row}
-use Rattle.search.proofs.Turning.{masks-within, matrix-whole, matrix-part}
+use Rattle.search.proofs.Pairs.{masks-within, matrix-whole, matrix-part}
 use Rattle.search.proofs.first.matrix_at.Statement.{statement}
 use Rattle.search.proofs.first.matrix_at.Tie as tie
 
@@ -36,7 +36,7 @@ matrix-of-requires : tie.Need-matrix-of-requires
 matrix-of-requires c κs = search needs
 
 returns : tie.Need-returns
-returns c = matrix-whole _ _ _ _ _ (c .before .before .before .before .pre .0) (c .before .before .before .before .pre .1 .0) (c .before .before .before .before .pre .1 .1) _ (c .before .before .if1 .taken) (c .matrix-of .ensures)
+returns c = matrix-whole _ _ _ _ _ (c .before .before .before .before .pre .0) (c .before .before .before .before .pre .1 .0) (c .before .before .before .before .pre .1 .1) _ (c .before .before .if1 .taken) (c .matrix-of .ensures .0)
 
 mul-padded : tie.Need-mul-padded
 mul-padded c = omega (arith, masks-within _ _ _ _ _ (c .before .before .pre .0) (c .before .before .pre .1 .0) (c .before .before .pre .1 .1))
@@ -60,7 +60,7 @@ matrix-of-requires-2 : tie.Need-matrix-of-requires-2
 matrix-of-requires-2 c κs = search needs
 
 returns-2 : tie.Need-returns-2
-returns-2 c = matrix-part _ _ _ _ _ (c .before .before .before .before .before .before .pre .0) (c .before .before .before .before .before .before .pre .1 .0) (c .before .before .before .before .before .before .pre .1 .1) _ _ (c .before .before .padded .ensures) (c .matrix-of2 .ensures)
+returns-2 c = matrix-part _ _ _ _ _ (c .before .before .before .before .before .before .pre .0) (c .before .before .before .before .before .before .pre .1 .0) (c .before .before .before .before .before .before .pre .1 .1) _ _ (c .before .before .padded .ensures) (c .matrix-of2 .ensures .0)
 
 pub matrix-at-spec : {M : Type 1} → statement M
 matrix-at-spec =

@@ -7,7 +7,7 @@ use native.Mathlib.Omega.{arith}
 use lib.ListN.{length, drop, take, replicate}
 use borrow.Author.Needs.{needs}
 use Rattle.search.proofs.Copies.{copy-more}
-use Rattle.search.proofs.Turning.{padded-made}
+use Rattle.search.proofs.Pairs.{padded-made}
 use Rattle.search.proofs.first.padded.Statement.{statement}
 use Rattle.search.proofs.first.padded.Tie as tie
 

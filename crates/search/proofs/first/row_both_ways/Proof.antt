@@ -6,7 +6,7 @@ use native.Mathlib.Omega.{arith}
 use Rattle.splits.specs.Problem.{tableOf}
 use Rattle.search.specs.Work.FirstTests.{joined, oneWay}
 use Rattle.search.proofs.Joining.{joined-none, joined-more, joined-end}
-use Rattle.search.proofs.Turning.{row-found}
+use Rattle.search.proofs.Pairs.{row-found}
 use borrow.Author.Needs.{needs}
 use Rattle.search.proofs.first.row_both_ways.Statement.{statement}
 use Rattle.search.proofs.first.row_both_ways.Tie as tie

@@ -1,10 +1,10 @@
--- `first::sunk` meets its contract: the definition follows the code.
+-- `matrix::sunk` meets its contract: the definition follows the code.
 -- Assumes nothing.
 use mathlib.Core.Path.{refl}
 use borrow.Author.Needs.{needs}
-use Rattle.search.specs.Work.FirstTests.{sunk}
-use Rattle.search.proofs.first.sunk.Statement.{statement}
-use Rattle.search.proofs.first.sunk.Tie as tie
+use Rattle.search.specs.Work.Matrices.{sunk}
+use Rattle.search.proofs.matrix.sunk.Statement.{statement}
+use Rattle.search.proofs.matrix.sunk.Tie as tie
 
 shr-result : tie.Need-shr-result
 shr-result c = search needs

@@ -1,9 +1,9 @@
--- `first::by_one` meets its contract: the definition follows the calls.
+-- `matrix::by_one` meets its contract: the definition follows the calls.
 -- Assumes nothing.
 use borrow.Author.Needs.{needs}
-use Rattle.search.specs.Work.FirstTests.{byOne}
-use Rattle.search.proofs.first.by_one.Statement.{statement}
-use Rattle.search.proofs.first.by_one.Tie as tie
+use Rattle.search.specs.Work.Matrices.{byOne}
+use Rattle.search.proofs.matrix.by_one.Statement.{statement}
+use Rattle.search.proofs.matrix.by_one.Tie as tie
 
 sunk-requires : tie.Need-sunk-requires
 sunk-requires c κs = search needs

@@ -1,9 +1,9 @@
--- `first::by_eight` meets its contract: the definition follows the calls.
+-- `matrix::by_eight` meets its contract: the definition follows the calls.
 -- Assumes nothing.
 use borrow.Author.Needs.{needs}
-use Rattle.search.specs.Work.FirstTests.{byEight}
-use Rattle.search.proofs.first.by_eight.Statement.{statement}
-use Rattle.search.proofs.first.by_eight.Tie as tie
+use Rattle.search.specs.Work.Matrices.{byEight}
+use Rattle.search.proofs.matrix.by_eight.Statement.{statement}
+use Rattle.search.proofs.matrix.by_eight.Tie as tie
 
 risen-requires : tie.Need-risen-requires
 risen-requires c κs = search needs

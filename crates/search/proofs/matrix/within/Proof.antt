@@ -1,9 +1,9 @@
--- `first::within` meets its contract: the definition follows the calls.
+-- `matrix::within` meets its contract: the definition follows the calls.
 -- Assumes nothing.
 use borrow.Author.Needs.{needs}
-use Rattle.search.specs.Work.FirstTests.{within}
-use Rattle.search.proofs.first.within.Statement.{statement}
-use Rattle.search.proofs.first.within.Tie as tie
+use Rattle.search.specs.Work.Matrices.{within}
+use Rattle.search.proofs.matrix.within.Statement.{statement}
+use Rattle.search.proofs.matrix.within.Tie as tie
 
 by-one-requires : tie.Need-by-one-requires
 by-one-requires c κs = search needs

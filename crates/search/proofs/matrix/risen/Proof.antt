@@ -1,10 +1,10 @@
--- `first::risen` meets its contract: the definition follows the code.
+-- `matrix::risen` meets its contract: the definition follows the code.
 -- Assumes nothing.
 use mathlib.Core.Path.{refl}
 use borrow.Author.Needs.{needs}
-use Rattle.search.specs.Work.FirstTests.{risen}
-use Rattle.search.proofs.first.risen.Statement.{statement}
-use Rattle.search.proofs.first.risen.Tie as tie
+use Rattle.search.specs.Work.Matrices.{risen}
+use Rattle.search.proofs.matrix.risen.Statement.{statement}
+use Rattle.search.proofs.matrix.risen.Tie as tie
 
 shl-result : tie.Need-shl-result
 shl-result c = search needs

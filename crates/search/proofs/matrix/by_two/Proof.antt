@@ -1,9 +1,9 @@
--- `first::by_two` meets its contract: the definition follows the calls.
+-- `matrix::by_two` meets its contract: the definition follows the calls.
 -- Assumes nothing.
 use borrow.Author.Needs.{needs}
-use Rattle.search.specs.Work.FirstTests.{byTwo}
-use Rattle.search.proofs.first.by_two.Statement.{statement}
-use Rattle.search.proofs.first.by_two.Tie as tie
+use Rattle.search.specs.Work.Matrices.{byTwo}
+use Rattle.search.proofs.matrix.by_two.Statement.{statement}
+use Rattle.search.proofs.matrix.by_two.Tie as tie
 
 sunk-requires : tie.Need-sunk-requires
 sunk-requires c κs = search needs

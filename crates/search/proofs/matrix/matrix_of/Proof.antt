@@ -1,9 +1,9 @@
--- `first::matrix_of` meets its contract: the definition follows the calls.
+-- `matrix::matrix_of` meets its contract: the definition follows the calls.
 -- Assumes nothing.
+use Rattle.search.specs.Work.Matrices.{matrixOf}
 use borrow.Author.Needs.{needs}
-use Rattle.search.specs.Work.FirstTests.{matrixOf}
-use Rattle.search.proofs.first.matrix_of.Statement.{statement}
-use Rattle.search.proofs.first.matrix_of.Tie as tie
+use Rattle.search.proofs.matrix.matrix_of.Statement.{statement}
+use Rattle.search.proofs.matrix.matrix_of.Tie as tie
 
 four-requires : tie.Need-four-requires
 four-requires c κs = search needs
@@ -19,7 +19,7 @@ four-requires-4 c κs = search needs
 
 returns : tie.Need-returns
 unfolding matrixOf
-returns c = cc
+returns c = (cc, c .four4 .ensures .1)
 
 pub matrix-of-spec : {M : Type 1} → statement M
 matrix-of-spec =

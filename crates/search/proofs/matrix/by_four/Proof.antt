@@ -1,9 +1,9 @@
--- `first::by_four` meets its contract: the definition follows the calls.
+-- `matrix::by_four` meets its contract: the definition follows the calls.
 -- Assumes nothing.
 use borrow.Author.Needs.{needs}
-use Rattle.search.specs.Work.FirstTests.{byFour}
-use Rattle.search.proofs.first.by_four.Statement.{statement}
-use Rattle.search.proofs.first.by_four.Tie as tie
+use Rattle.search.specs.Work.Matrices.{byFour}
+use Rattle.search.proofs.matrix.by_four.Statement.{statement}
+use Rattle.search.proofs.matrix.by_four.Tie as tie
 
 risen-requires : tie.Need-risen-requires
 risen-requires c κs = search needs
