@@ -4,7 +4,7 @@ use mathlib.Core.Path.{_≡_, refl, sym, ap, _∙_}
 use mathlib.Core.Logic.{⊎-elim}
 use mathlib.Core.Bool.{Bool, true, _&&_}
 use mathlib.Core.List.{List, _++_}
-use Prim.Native.Nat.{ℕ, _+_, _-_, _*_, _/_, _^_, _≤_, _<_}
+use Prim.Native.Nat.{ℕ, _+_, _-_, _*_, _^_, _≤_, _<_}
 use native.Mathlib.Omega.{arith}
 use native.Mathlib.Nat.{mul-le-mul-right}
 use native.Mathlib.Decide.{decLt}
@@ -28,7 +28,7 @@ use Rattle.files.proofs.Triangle.{table-other}
 use Rattle.files.proofs.Stacks.{agenda-read}
 use Rattle.files.proofs.Whole.{Whole, file-whole}
 use Rattle.files.proofs.Accepted.{Accepts, words-accept, accept-words, words-either}
-use Rattle.files.proofs.Passing.{Passing, slots-in, search-passing, passing-search}
+use Rattle.files.proofs.Passing.{slots-in, search-passing, passing-search}
 use Rattle.files.proofs.Tables.{rules-agree}
 use Rattle.files.proofs.RoundTrip.{said-canonical, said-length}
 use Rattle.files.proofs.Loading.{said-passing}

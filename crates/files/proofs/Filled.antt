@@ -14,8 +14,8 @@ use Rattle.splits.specs.Splits.{below}
 use Rattle.search.proofs.Copies.{put-part, splice-between}
 use Rattle.files.specs.Blocks.{wordAt}
 use Rattle.files.specs.Content.{each}
-use Rattle.files.specs.Reading.{blockWord, contentWord, contentFrom, gathered}
-use Rattle.files.specs.Work.Said.{Numbers, allowedIn, columnOf, columnPart, pairPart, rowPart, tablePart}
+use Rattle.files.specs.Reading.{blockWord, contentWord, contentFrom}
+use Rattle.files.specs.Work.Said.{Numbers, allowedIn, pairPart, rowPart, tablePart}
 use Rattle.files.proofs.Lists.{map-length, map-is, map-same, each-more, each-length, total-const, seq, seq-join, zeros-at}
 use Rattle.files.proofs.Places.{content-from, length-from}
 use Rattle.files.proofs.Found.{part-words}
@@ -45,11 +45,6 @@ pub copy-whole : (src l m : List ℕ) (k : ℕ) → m ≡ take k src ++ drop k l
 copy-whole src l m k e s h =
     let last : k ≡ length l = s ∙ h in
     e ∙ ap (λ (t : List ℕ). take k src ++ t) (ap (λ (i : ℕ). drop i l) last ∙ drop-length l) ∙ append-nil (take k src) ∙ take-all k src (omega arith)
-
--- The columns of rows.
-pub columns-made : (rows m : List ℕ) (n : ℕ) → length rows ≡ n → m ≡ map (λ c. gathered (length rows) (columnOf rows c)) (below n) → m ≡ columnPart rows (length rows)
-unfolding columnPart
-columns-made rows m n e h = h ∙ ap (λ (k : ℕ). map (λ c. gathered (length rows) (columnOf rows c)) (below k)) (sym e)
 
 -- ---- a part written after those before it
 

@@ -7,7 +7,7 @@ use Prim.Native.Nat.{ℕ, _+_, _-_, _*_, _≤_}
 use native.Mathlib.Omega.{arith}
 use native.Mathlib.Nat.{mul-le-mul-right, div-mul-le-self}
 use native.Mathlib.Decide.{ℕ-discrete}
-use lib.ListN.{length, getD, take, drop, replicate}
+use lib.ListN.{length, getD, take, drop}
 use lib.Seq.{take-at}
 use lib.Dec.{eqb, ltb}
 use borrow.Author.Tests.{eq-eqb, ne-eqb, eqb-true, ltb-false}
@@ -22,7 +22,7 @@ use Rattle.files.specs.declared.saved.Loaded.{Loaded}
 use Rattle.files.proofs.Lists.{each-same, map-same}
 use Rattle.files.proofs.Tests.{passed, else-pass}
 use Rattle.files.proofs.Triangle.{table-length}
-use Rattle.files.proofs.Whole.{Whole, file-whole}
+use Rattle.files.proofs.Whole.{file-whole}
 use Rattle.files.proofs.Places.{length-from}
 use Rattle.files.proofs.Filled.{content-says}
 use Rattle.files.proofs.Mirrors.{triangle-few, slots-few, allowed-self, allowed-said}

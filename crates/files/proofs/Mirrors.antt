@@ -3,24 +3,24 @@
 use mathlib.Core.Path.{_≡_, refl, sym, ap, _∙_}
 use mathlib.Core.Bool.{cond}
 use mathlib.Core.List.{List, _++_, map}
-use Prim.Native.Nat.{ℕ, zero, suc, _+_, _-_, _*_, _/_, _%_, _^_, _≤_, _<_}
+use Prim.Native.Nat.{ℕ, zero, suc, _+_, _-_, _*_, _/_, _^_, _≤_, _<_}
 use native.Mathlib.Omega.{arith}
-use native.Mathlib.Nat.{mul-le-mul, one-mul, zero-mul, mod-eq-of-lt}
+use native.Mathlib.Nat.{mul-le-mul, zero-mul, add-zero, add-suc}
 use native.Mathlib.Numerals.{add-one}
-use lib.ListN.{length, getD, take, drop, replicate, length-drop, length-replicate}
+use lib.ListN.{length, getD, take, drop, replicate, length-drop, length-replicate, List·getD-eq-default}
 use lib.Seq.{getD-take, getD-drop, length-take-le}
-use lib.Pow.{pow-mono}
 use lib.Dec.{ltb}
 use borrow.Author.Tests.{lt-ltb, le-ltb}
 use Rattle.splits.specs.Masks.{bit}
 use Rattle.splits.specs.Problem.{total}
 use Rattle.splits.specs.Splits.{below}
-use Rattle.splits.proofs.Masks.{bit-le, single-lt}
+use Rattle.splits.proofs.Masks.{bit-above}
+use Rattle.search.specs.Matrix.{Turned}
 use Rattle.files.specs.Reading.{contentWord, saidN, saidD, saidAllowed, triangleWords, trianglePlace, gathered}
 use Rattle.files.specs.Work.Said.{Numbers, maskIn, allowedIn, columnOf, columnPart, pairPart, agendaStart, partIn, slotsPart}
-use Rattle.files.proofs.Lists.{map-is, map-same, zeros-at}
+use Rattle.files.proofs.Lists.{map-is, map-same, zeros-at, padded-at}
 use Rattle.files.proofs.Triangle.{place-lt}
-use Rattle.files.proofs.Gathered.{gathered-lt, gathered-same}
+use Rattle.files.proofs.Gathered.{gathered-same, gathered-bits}
 
 -- ---- the pairs before those of i
 
@@ -81,51 +81,43 @@ pub place-made : (n d i j p : ℕ) → p ≡ total i (λ h. n - suc h) → 9 + n
 unfolding trianglePlace
 place-made n d i j p e = rw (e, add-one) (omega arith)
 
--- ---- a mask put together of its digits
+-- ---- columns
 
--- A one at place b.
-pub digit-one : (m a b r : ℕ) → r ≡ bit m a → r ≡ 1 → b < 16 → 1 * 2 ^ b % 65536 ≡ bit m a * 2 ^ b
-digit-one m a b r e h l = rw (sym e ∙ h, one-mul) (mod-eq-of-lt (single-lt 16 b l))
-
--- A digit that is not one adds nothing.
-pub digit-none : (m a b r : ℕ) → r ≡ bit m a → (r ≡ 1 → ⊥) → 0 ≡ bit m a * 2 ^ b
-digit-none m a b r e f =
-    let none : bit m a ≡ 0 = zero-of (bit m a) (bit-le m a) (λ h. f (e ∙ h)) in rw none (sym (zero-mul (2 ^ b)))
-  where
-    zero-of : (x : ℕ) → x ≤ 1 → (x ≡ 1 → ⊥) → x ≡ 0
-    zero-of x h g = omega arith
-
--- A digit of a column.
-pub digit-column : (rows : List ℕ) (a b w x : ℕ) → w ≡ getD rows b 0 → x ≡ bit w a * 2 ^ b → x ≡ columnOf rows a b * 2 ^ b
-unfolding columnOf
-digit-column rows a b w x e h = h ∙ rw e refl
-
--- It is 0 or 1.
-pub column-le : (rows : List ℕ) (a b : ℕ) → columnOf rows a b ≤ 1
-unfolding columnOf
-column-le rows a b = bit-le (getD rows b 0) a
-
--- No digit is gathered yet.
-pub gather-none : (f : ℕ → ℕ) → 0 ≡ gathered 0 f
+-- Digits that are 0 add nothing.
+gathered-less : (d k : ℕ) (f : ℕ → ℕ) → ((b : ℕ) → d ≤ b → f b ≡ 0) → gathered (d + k) f ≡ gathered d f
 unfolding gathered total
-gather-none f = refl
+gathered-less d zero f h = rw add-zero refl
+gathered-less d (suc k) f h =
+    let none : f (d + k) * 2 ^ (d + k) ≡ 0 = rw (h (d + k) (omega arith), zero-mul) refl in
+    let more : gathered (d + k) f + f (d + k) * 2 ^ (d + k) ≡ gathered (d + k) f = rw none (add-zero (gathered (d + k) f)) in
+    rw add-suc (more ∙ gathered-less d k f h)
 
--- One digit more.
-pub gather-more : (f : ℕ → ℕ) (b s x : ℕ) → s ≡ gathered b f → x ≡ f b * 2 ^ b → s + x ≡ gathered (b + 1) f
-unfolding gathered total
-gather-more f b s x e h = rw (add-one, e, h) refl
+module _ (rows all turned : List ℕ) (few : length rows ≤ 16) (e : all ≡ rows ++ replicate (16 - length rows) 0) (t : Turned all turned) where
+  -- Digit b of a column.
+  column-bit : (c b : ℕ) → c < 16 → b < 16 → bit (getD turned c 0) b ≡ columnOf rows c b
+  unfolding columnOf
+  column-bit c b h l =
+      t .mirror c b h l ∙ ap (λ (x : ℕ). bit x c) (ap (λ (x : List ℕ). getD x b 0) e ∙ padded-at rows (16 - length rows) b)
 
--- What is gathered fits a word.
-pub gather-fits : (f : ℕ → ℕ) (b s x : ℕ) → ((k : ℕ) → f k ≤ 1) → b < 16 → s ≡ gathered b f → x ≡ f b * 2 ^ b → s + x < 65536
-gather-fits f b s x small h e g =
-    let sum : s + x ≡ gathered (b + 1) f = gather-more f b s x e g in
-    let below : b + 1 ≤ 16 = omega arith in
-    let up : 2 ^ (b + 1) ≤ 2 ^ 16 = pow-mono below in
-    omega (arith, gathered-lt (b + 1) f small)
+  -- Past the rows it is 0.
+  column-past : (c b : ℕ) → length rows ≤ b → columnOf rows c b ≡ 0
+  unfolding columnOf
+  column-past c b h = rw (List·getD-eq-default rows 0 h) (bit-above 0 0 c (omega arith) (omega arith))
 
--- All digits.
-pub gather-end : (f : ℕ → ℕ) (b d s : ℕ) → s ≡ gathered b f → b ≡ d → s ≡ gathered d f
-gather-end f b d s e h = e ∙ ap (λ (x : ℕ). gathered x f) h
+  -- A column is gathered of its digits.
+  column-is : (c : ℕ) → c < 16 → getD turned c 0 ≡ gathered (length rows) (columnOf rows c)
+  column-is c h =
+      let whole : length rows + (16 - length rows) ≡ 16 = omega arith in
+      sym (gathered-bits 16 (getD turned c 0) (t .small c h)) ∙ gathered-same 16 (bit (getD turned c 0)) (columnOf rows c) (λ b l. column-bit c b h l)
+      ∙ ap (λ (k : ℕ). gathered k (columnOf rows c)) (sym whole) ∙ gathered-less (length rows) (16 - length rows) (columnOf rows c) (column-past c)
+
+  -- The first columns of the rows with zeros after them, rows for columns.
+  pub columns-made : (out : List ℕ) (k : ℕ) → k ≡ length rows → out ≡ take k turned → out ≡ columnPart rows (length rows)
+  unfolding columnPart
+  columns-made out k same s =
+      let size : length (take k turned) ≡ length rows = length-take-le k turned (omega (arith, t .long)) ∙ same in
+      s ∙ sym (map-is (λ c. gathered (length rows) (columnOf rows c)) (length rows) (take k turned) size
+      (λ c q. sym (getD-take k turned c 0 (omega arith) ∙ column-is c (omega arith))))
 
 -- ---- what is allowed
 

@@ -43,11 +43,6 @@ module _ (n d : ℕ) (s : Numbers n d) (t : List ℕ) (long : length t ≡ n * n
   pub before-all : before n ≡ triangleWords n d
   before-all = total-mul n (rest n) d ∙ ap (λ (x : ℕ). x * d) (rest-total n)
 
-  -- A row more.
-  pub before-more : (i : ℕ) → before (i + 1) ≡ before i + (n - (i + 1)) * d
-  unfolding total
-  before-more i = rw add-one refl
-
   -- It lies within the tables, in the words to write and in those to read.
   pub before-within : (i : ℕ) → i < n → before i + (n - (i + 1)) * d ≤ triangleWords n d
   before-within i h = rw (add-one, ← before-all) (total-below n (λ h. rest n h * d) i h)

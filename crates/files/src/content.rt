@@ -5,7 +5,7 @@ use search::state::State;
 ghost use mathlib.Core.Path.{_≡_};
 ghost use mathlib.Core.List.{_++_};
 ghost use Prim.Native.Nat.{_+_, _-_, _*_, _≤_};
-ghost use lib.ListN.{length, take, replicate};
+ghost use lib.ListN.{length, replicate};
 ghost use Rattle.splits.specs.Problem.{tableOf};
 ghost use Rattle.files.specs.Content.{triangle};
 ghost use Rattle.files.specs.Reading.{triangleWords};

@@ -86,11 +86,11 @@ fn put_turned(rows: &[u16], columns: &mut [u16])
     requires { ⌜ (length (now rows) ≤ 16) × (length (now columns) ≡ length (now rows)) ⌝ }
     ensures { λ r. ⌜ now (columns .exit) ≡ columnPart (now (rows .entry)) (length (now (rows .entry))) ⌝ }
 {
-    let mut a = 0;
-    while a < columns.len() {
-        columns[a] = said::mirrored(rows, a);
-        a += 1;
-    }
+    let mut all = [0u16; 16];
+    put_padded(rows, &mut all[..16]);
+    let turned = search::matrix::turned(all);
+    let count = columns.len();
+    put_words(&turned[..count], columns);
 }
 
 // The masks of two variables, zeros of one with itself.

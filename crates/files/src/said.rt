@@ -5,12 +5,10 @@ use search::state::Counts;
 use search::state::State;
 use search::state::Steps;
 ghost use mathlib.Core.Path.{_≡_};
-ghost use Prim.Native.Nat.{suc, _+_, _-_, _*_, _/_, _%_, _^_, _<_, _≤_};
-ghost use lib.ListN.{length};
-ghost use Rattle.splits.specs.Masks.{bit};
+ghost use Prim.Native.Nat.{suc, _+_, _-_, _*_, _<_, _≤_};
 ghost use Rattle.splits.specs.Problem.{total};
-ghost use Rattle.files.specs.Reading.{contentWord, saidN, saidD, saidSteps, saidChecks, saidSubproblems, triangleWords, trianglePlace, gathered};
-ghost use Rattle.files.specs.Work.Said.{Numbers, StateSaid, columnOf};
+ghost use Rattle.files.specs.Reading.{contentWord, saidN, saidD, saidSteps, saidChecks, saidSubproblems, triangleWords, trianglePlace};
+ghost use Rattle.files.specs.Work.Said.{Numbers, StateSaid};
 
 // The number of variables.
 pub fn n(file: &[u8]) -> usize
@@ -90,39 +88,4 @@ pub(crate) fn place(n: usize, d: usize, i: usize, j: usize) -> usize
     ensures { λ r. ⌜ (r ≡ 9 + n + trianglePlace n d i j 0) × (r + d ≤ 25553) ⌝ }
 {
     9 + n + (pairs_before(n, i) + (j - (i + 1))) * d
-}
-
-// Whether a value is in a mask, as a digit.
-fn digit(mask: u16, value: usize) -> u16
-    ensures { λ r. ⌜ r ≡ bit mask value ⌝ }
-{
-    if value < 16 {
-        return (mask >> value) % 2;
-    }
-    0
-}
-
-// The digit of `a` in a mask, at place `b`.
-fn digit_at(mask: u16, a: usize, b: usize) -> u16
-    requires { ⌜ b < 16 ⌝ }
-    ensures { λ r. ⌜ r ≡ bit mask a * 2 ^ b ⌝ }
-{
-    if digit(mask, a) == 1 {
-        return 1 << b;
-    }
-    0
-}
-
-// The mask of the rows that have a bit at `a`.
-pub(crate) fn mirrored(rows: &[u16], a: usize) -> u16
-    requires { ⌜ length (now rows) ≤ 16 ⌝ }
-    ensures { λ r. ⌜ r ≡ gathered (length (now (rows .entry))) (columnOf (now (rows .entry)) a) ⌝ }
-{
-    let mut sum: u16 = 0;
-    let mut b = 0;
-    while b < rows.len() {
-        sum += digit_at(rows[b], a, b);
-        b += 1;
-    }
-    sum
 }

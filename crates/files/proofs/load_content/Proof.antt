@@ -1,7 +1,7 @@
 -- `load_content` meets its contract.
 -- Assumes nothing.
 use borrow.Author.Needs.{needs}
-use mathlib.Core.Path.{refl, sym, _∙_}
+use mathlib.Core.Path.{refl}
 use native.Mathlib.Omega.{arith}
 use lib.ListN.{length-take}
 use Rattle.files.proofs.Refused.{sized-found, sized-refused, sized-numbers, refused-15}

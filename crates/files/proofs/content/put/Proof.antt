@@ -1,9 +1,9 @@
 -- `content::put` meets its contract.
 -- Assumes nothing.
 use borrow.Author.Needs.{needs}
-use mathlib.Core.Path.{sym, ap, _∙_}
+use mathlib.Core.Path.{sym, _∙_}
 use native.Mathlib.Omega.{arith}
-use lib.ListN.{length, length-take}
+use lib.ListN.{length-take}
 use Rattle.files.proofs.Written.{header-long, content-made, content-rest}
 use Rattle.files.proofs.content.put.Statement.{statement}
 use Rattle.files.proofs.content.put.Tie as tie

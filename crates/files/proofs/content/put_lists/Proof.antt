@@ -1,7 +1,6 @@
 -- `content::put_lists` meets its contract.
 -- Assumes nothing.
 use borrow.Author.Needs.{needs}
-use mathlib.Core.Path.{sym, _∙_}
 use native.Mathlib.Omega.{arith}
 use lib.ListN.{length-take}
 use Rattle.files.proofs.Written.{lists-made, lists-rest}

@@ -1,10 +1,8 @@
 -- `filling::put_padded` meets its contract.
 -- Assumes nothing.
 use borrow.Author.Needs.{needs}
-use mathlib.Core.Path.{ap, sym, _∙_}
 use native.Mathlib.Omega.{arith}
-use lib.ListN.{length, length-take}
-use lib.Seq.{length-take-le}
+use lib.ListN.{length-take}
 use Rattle.files.proofs.Filled.{padded-copy}
 use Rattle.files.proofs.filling.put_padded.Statement.{statement}
 use Rattle.files.proofs.filling.put_padded.Tie as tie

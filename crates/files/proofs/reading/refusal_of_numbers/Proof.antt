@@ -1,7 +1,6 @@
 -- `reading::refusal_of_numbers` meets its contract.
 -- Assumes nothing.
 use borrow.Author.Needs.{needs}
-use mathlib.Core.Path.{_≡_, refl, _∙_}
 use Rattle.files.proofs.Refused.{refused-numbers, sized-blocks, sized-given, sized-not-given, numbers-found, words-said}
 use Rattle.files.proofs.reading.refusal_of_numbers.Statement.{statement}
 use Rattle.files.proofs.reading.refusal_of_numbers.Tie as tie

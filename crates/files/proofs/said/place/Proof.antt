@@ -1,8 +1,6 @@
 -- `said::place` meets its contract.
 -- Assumes nothing.
 use borrow.Author.Needs.{needs}
-use mathlib.Core.Path.{_≡_, refl, sym, ap, _∙_}
-use Prim.Native.Nat.{ℕ, _+_, _-_, _*_}
 use native.Mathlib.Omega.{arith}
 use Rattle.files.proofs.Mirrors.{place-within, place-made}
 use Rattle.files.proofs.said.place.Statement.{statement}
