@@ -1,25 +1,50 @@
--- Memory that load fills from the front: words of the content, masks, rows, the agenda.
+-- Memory that load fills from the front: the words of the content, columns, rows, copies with zeros after them.
 -- Assumes nothing.
 use mathlib.Core.Path.{_≡_, refl, sym, ap, _∙_}
-use mathlib.Core.List.{List, [], _∷_, _++_, map-append, append-assoc, append-nil}
-use Prim.Native.Nat.{ℕ, suc, _+_, _-_, _*_, _≤_, _<_}
+use mathlib.Core.List.{List, [], _∷_, _++_, map, map-append, append-assoc, append-nil}
+use Prim.Native.Nat.{ℕ, suc, _+_, _-_, _*_, _/_, _%_, _≤_, _<_}
 use native.Mathlib.Omega.{arith}
-use native.Mathlib.Nat.{mul-le-mul, mul-le-mul-right, zero-mul}
+use native.Mathlib.Nat.{mul-le-mul, mul-le-mul-right, zero-mul, zero-add}
 use native.Mathlib.Numerals.{add-one}
-use lib.ListN.{length, getD, take, drop, set, replicate, length-append, length-drop, take-append-drop}
-use lib.Seq.{drop-cons, append-snoc, set-at, take-at, drop-drop, drop-length, length-take-le}
+use native.Mathlib.Decide.{decLt}
+use lib.ListN.{length, getD, take, drop, set, replicate, length-append, length-drop, length-replicate, take-append-drop, List·getD-eq-default}
+use lib.Seq.{drop-cons, append-snoc, set-at, take-at, take-all, drop-drop, drop-length, length-take-le}
 use borrow.Rule.Slice.PartMut.{putMid, midOf, postOf, post-is, mid-len}
 use Rattle.splits.specs.Splits.{below}
 use Rattle.search.proofs.Copies.{put-part, splice-between}
+use Rattle.files.specs.Blocks.{wordAt}
 use Rattle.files.specs.Content.{each}
-use Rattle.files.specs.Reading.{contentFrom}
-use Rattle.files.specs.Work.Said.{Numbers, allowedIn, agendaStart, agendaIn, pairPart, rowPart, tablePart, filledAgenda}
-use Rattle.files.proofs.Lists.{map-length, each-more, each-length, total-const}
-use Rattle.files.proofs.Places.{length-from}
+use Rattle.files.specs.Reading.{blockWord, contentWord, contentFrom}
+use Rattle.files.specs.Work.Said.{Numbers, allowedIn, pairPart, rowPart, tablePart}
+use Rattle.files.proofs.Lists.{map-length, map-is, map-same, each-more, each-length, total-const, seq, seq-join, zeros-at}
+use Rattle.files.proofs.Places.{content-from, length-from}
+use Rattle.files.proofs.Found.{part-words}
 
--- A copy of the content at its end.
-pub copied : (file l m : List ℕ) (from i : ℕ) → m ≡ contentFrom file from i ++ drop i l → i ≡ length l → m ≡ contentFrom file from (length l)
-copied file l m from i e h = rw (e, h, drop-length, append-nil) refl
+-- ---- values written one after the other
+
+module _ (f : ℕ → ℕ) where
+  -- None is written yet.
+  pub front-none : (l : List ℕ) → l ≡ map f (below 0) ++ drop 0 l
+  unfolding below
+  front-none l = refl
+
+  -- One more.
+  pub front-more : (l m : List ℕ) (k x : ℕ) → m ≡ map f (below k) ++ drop k l → x ≡ f k → k < length l → set m k x ≡ map f (below (k + 1)) ++ drop (k + 1) l
+  unfolding below
+  front-more l m k x e s h =
+      rw (e, s, drop-cons l k 0 h)
+      (set-at (map f (below k)) (getD l k 0) (drop (suc k) l) (f k) k (map-length f k)
+      ∙ sym (append-snoc (map f (below k)) (f k) (drop (suc k) l)) ∙ rw (add-one, map-append f (below k) (k ∷ [])) refl)
+
+  -- All.
+  pub front-end : (l m : List ℕ) (k n : ℕ) → m ≡ map f (below k) ++ drop k l → k ≡ n → length l ≡ n → m ≡ map f (below n)
+  front-end l m k n e s h = rw (e, s, sym h, drop-length, append-nil) refl
+
+-- A copy is what was copied.
+pub copy-whole : (src l m : List ℕ) (k : ℕ) → m ≡ take k src ++ drop k l → k ≡ length src → length src ≡ length l → m ≡ src
+copy-whole src l m k e s h =
+    let last : k ≡ length l = s ∙ h in
+    e ∙ ap (λ (t : List ℕ). take k src ++ t) (ap (λ (i : ℕ). drop i l) last ∙ drop-length l) ∙ append-nil (take k src) ∙ take-all k src (omega arith)
 
 -- ---- a part written after those before it
 
@@ -33,104 +58,206 @@ part-more p q l m ys a w e s y k h =
     put-part m ys q a w y k ∙ rw (e ∙ ap (λ (t : List ℕ). p ++ t) parts) (splice-between p old (drop w (drop a l)) q a s fits)
     ∙ sym (append-assoc p q (drop w (drop a l))) ∙ ap (λ (t : List ℕ). (p ++ q) ++ t) (drop-drop w a l)
 
--- ---- the masks of two variables
+-- ---- the front and the rest
 
-module _ (file : List ℕ) (n d i : ℕ) where
-  pub pair-length : (j a : ℕ) → length (pairPart file n d i j a) ≡ a
+-- What a callee left in the front, and another in what was lent after it.
+pub front-rest : (l ys zs : List ℕ) (used : ℕ) → length ys ≡ used → used ≤ length l
+    → putMid used (length (ys ++ drop used l) - used) (ys ++ drop used l) zs ≡ ys ++ zs
+front-rest l ys zs used seam h =
+    let whole : List ℕ = ys ++ drop used l in
+    let long : length whole ≡ length l = length-append ys (drop used l) ∙ omega (arith, length-drop used l) in
+    let past : postOf used (length whole - used) whole ≡ [] = post-is used (length whole) whole (omega arith) ∙ drop-length whole in
+    ap (λ (t : List ℕ). take used whole ++ (zs ++ t)) past ∙ ap (λ (t : List ℕ). take used whole ++ t) (append-nil zs)
+    ∙ ap (λ (t : List ℕ). t ++ zs) (take-at ys (drop used l) used seam)
+
+-- How long the rest is.
+pub rest-long : (l ys : List ℕ) (used : ℕ) → length ys ≡ used → used ≤ length l
+    → length (midOf used (length (ys ++ drop used l) - used) (ys ++ drop used l)) ≡ length l - used
+rest-long l ys used seam h =
+    let whole : List ℕ = ys ++ drop used l in
+    let long : length whole ≡ length l = length-append ys (drop used l) ∙ omega (arith, length-drop used l) in
+    mid-len used (length whole) whole (omega arith) ∙ omega arith
+
+-- Zeros in the rest.
+pub padded-made : (l ys zs : List ℕ) (used : ℕ) → length ys ≡ used → used ≤ length l
+    → zs ≡ replicate (length (midOf used (length (ys ++ drop used l) - used) (ys ++ drop used l))) 0
+    → putMid used (length (ys ++ drop used l) - used) (ys ++ drop used l) zs ≡ ys ++ replicate (length l - used) 0
+padded-made l ys zs used seam h z =
+    front-rest l ys zs used seam h ∙ ap (λ (t : List ℕ). ys ++ t) (z ∙ ap (λ (k : ℕ). replicate {A = ℕ} k 0) (rest-long l ys used seam h))
+
+-- The same of a copy.
+pub padded-copy : (src l ys zs : List ℕ) → length src ≤ length l → ys ≡ src
+    → zs ≡ replicate (length (midOf (length src) (length (ys ++ drop (length src) l) - length src) (ys ++ drop (length src) l))) 0
+    → putMid (length src) (length (ys ++ drop (length src) l) - length src) (ys ++ drop (length src) l) zs ≡ src ++ replicate (length l - length src) 0
+padded-copy src l ys zs h e z =
+    padded-made l ys zs (length src) (ap length e) h z ∙ ap (λ (t : List ℕ). t ++ replicate (length l - length src) 0) e
+
+-- ---- the content
+
+-- Word k of a block's content.
+pub content-in : (block : List ℕ) (k : ℕ) → k < 253 → blockWord block 0 (2 + k) ≡ contentWord block (0 + k)
+unfolding contentWord
+content-in block k h =
+    let div : (0 + k) / 253 ≡ 0 = omega arith in
+    let at : 2 + (0 + k) % 253 ≡ 2 + k = omega arith in
+    rw (div, at) refl
+
+-- The words of a block's content are its content.
+pub content-block : (block m : List ℕ) → m ≡ map (λ k. blockWord block 0 (2 + k)) (below 253) → m ≡ contentFrom block 0 253
+unfolding contentFrom
+content-block block m e = e ∙ map-same (λ k. blockWord block 0 (2 + k)) (λ k. contentWord block (0 + k)) 253 (content-in block)
+
+-- The content of a block is that of its words in the file.
+content-part : (file : List ℕ) (b : ℕ) → contentFrom (take ((b * 512 + 512) - b * 512) (drop (b * 512) file)) 0 253 ≡ contentFrom file (b * 253) 253
+unfolding contentFrom contentWord
+content-part file b =
+    let block : List ℕ = take ((b * 512 + 512) - b * 512) (drop (b * 512) file) in
+    map-same (λ k. contentWord block (0 + k)) (λ k. contentWord file (b * 253 + k)) 253 (λ k h.
+    let div : (b * 253 + k) / 253 ≡ b = omega arith in
+    let at : 2 + (b * 253 + k) % 253 ≡ 2 + k = omega arith in
+    sym (content-in block k h) ∙ part-words file b (2 + k) (omega arith) ∙ rw (div, at) refl)
+
+-- Words of the content one after the other.
+from-join : (file : List ℕ) (a b : ℕ) → contentFrom file 0 (a + b) ≡ contentFrom file 0 a ++ contentFrom file a b
+unfolding contentFrom seq
+from-join file a b = seq-join (contentWord file) 0 a b ∙ ap (λ (x : ℕ). contentFrom file 0 a ++ contentFrom file x b) (zero-add a)
+
+-- No block is read yet.
+pub blocks-none : (file l : List ℕ) → l ≡ contentFrom file 0 (0 * 253) ++ drop (0 * 253) l
+unfolding contentFrom below
+blocks-none file l = refl
+
+-- One block more.
+pub blocks-more : (file l m ys : List ℕ) (b : ℕ) → m ≡ contentFrom file 0 (b * 253) ++ drop (b * 253) l
+    → ys ≡ contentFrom (take ((b * 512 + 512) - b * 512) (drop (b * 512) file)) 0 253 → b * 253 + 253 ≤ length l
+    → putMid (b * 253) ((b * 253 + 253) - b * 253) m ys ≡ contentFrom file 0 ((b + 1) * 253) ++ drop ((b + 1) * 253) l
+blocks-more file l m ys b e y h =
+    let up : b * 253 + 253 ≡ (b + 1) * 253 = omega arith in
+    part-more (contentFrom file 0 (b * 253)) (contentFrom file (b * 253) 253) l m ys (b * 253) 253 e (length-from file 0 (b * 253)) (y ∙ content-part file b) (length-from file (b * 253) 253) h
+    ∙ rw (← up, from-join) refl
+
+-- The memory stays as long.
+pub blocks-kept : (file l m : List ℕ) (b blocks : ℕ) → m ≡ contentFrom file 0 (b * 253) ++ drop (b * 253) l → b ≤ blocks → length l ≡ blocks * 253 → length m ≡ blocks * 253
+blocks-kept file l m b blocks e h s =
+    ap length e ∙ length-append (contentFrom file 0 (b * 253)) (drop (b * 253) l) ∙ omega (arith, length-from file 0 (b * 253), length-drop (b * 253) l)
+
+-- All blocks are read.
+pub blocks-end : (file l m : List ℕ) (b blocks : ℕ) → m ≡ contentFrom file 0 (b * 253) ++ drop (b * 253) l → b ≡ blocks → length l ≡ blocks * 253
+    → m ≡ contentFrom file 0 (blocks * 253)
+blocks-end file l m b blocks e s h = rw (e, s, sym h, drop-length, append-nil) refl
+
+-- Past its blocks the words of a content are zeros.
+pub content-past : (file : List ℕ) (k : ℕ) → length file ≤ k / 253 * 512 → contentWord file k ≡ 0
+unfolding contentWord blockWord wordAt
+content-past file k h =
+    let high : length file ≤ 2 * (256 * (k / 253) + (2 + k % 253)) = omega arith in
+    let low : length file ≤ 2 * (256 * (k / 253) + (2 + k % 253)) + 1 = omega arith in
+    rw (List·getD-eq-default file 0 high, List·getD-eq-default file 0 low) refl
+
+-- So the words read and zeros after them are the words from the first on.
+pub content-padded : (file : List ℕ) (blocks : ℕ) → length file ≡ blocks * 512 → blocks ≤ 101
+    → contentFrom file 0 (blocks * 253) ++ replicate (25553 - blocks * 253) 0 ≡ contentFrom file 0 25553
+unfolding contentFrom
+content-padded file blocks e h =
+    let rest : ℕ = 25553 - blocks * 253 in
+    let whole : blocks * 253 + rest ≡ 25553 = omega arith in
+    let zeros : contentFrom file (blocks * 253) rest ≡ replicate rest 0 =
+    map-is (λ k. contentWord file (blocks * 253 + k)) rest (replicate rest 0) (length-replicate rest 0)
+    (λ k l. content-past file (blocks * 253 + k) (omega arith) ∙ sym (zeros-at rest k)) in
+    ap (λ (t : List ℕ). contentFrom file 0 (blocks * 253) ++ t) (sym zeros) ∙ sym (from-join file (blocks * 253) rest) ∙ ap (contentFrom file 0) whole
+
+-- They say the content everywhere.
+pub content-says : (file words : List ℕ) (blocks : ℕ) → length file ≡ blocks * 512 → blocks ≤ 101 → words ≡ contentFrom file 0 25553
+    → (k : ℕ) → getD words k 0 ≡ contentWord file k
+content-says file words blocks e h s k = elim (decLt k 25553) [
+  | yes l ↦ ap (λ (t : List ℕ). getD t k 0) s ∙ content-from file 0 25553 k l ∙ ap (contentWord file) (zero-add k)
+  | no l ↦
+      let past : length words ≤ k = omega (arith, ap length s ∙ length-from file 0 25553) in
+      List·getD-eq-default words 0 past ∙ sym (content-past file k (omega arith))
+]
+
+-- All words of a file's content, in memory for so many.
+pub content-made : (file l ys zs : List ℕ) (blocks : ℕ) → length file ≡ blocks * 512 → blocks ≤ 101 → length l ≡ 25553 → ys ≡ contentFrom file 0 (blocks * 253)
+    → zs ≡ replicate (length (midOf (blocks * 253) (length (ys ++ drop (blocks * 253) l) - blocks * 253) (ys ++ drop (blocks * 253) l))) 0
+    → putMid (blocks * 253) (length (ys ++ drop (blocks * 253) l) - blocks * 253) (ys ++ drop (blocks * 253) l) zs ≡ contentFrom file 0 25553
+content-made file l ys zs blocks e h s y z =
+    padded-made l ys zs (blocks * 253) (ap length y ∙ length-from file 0 (blocks * 253)) (omega arith) z
+    ∙ rw (y, s) (content-padded file blocks e h)
+
+-- ---- rows
+
+module _ (words : List ℕ) (n d i : ℕ) where
+  pair-length : (j a : ℕ) → length (pairPart words n d i j a) ≡ a
   unfolding pairPart
-  pair-length j a = map-length (allowedIn file n d i j) a
-
-  -- No mask is written yet.
-  pub pair-none : (j : ℕ) (l : List ℕ) → l ≡ pairPart file n d i j 0 ++ drop 0 l
-  unfolding pairPart below
-  pair-none j l = refl
-
-  -- One mask more of two variables.
-  next-mask : (j a : ℕ) → pairPart file n d i j (suc a) ≡ pairPart file n d i j a ++ (allowedIn file n d i j a ∷ [])
-  unfolding pairPart below
-  next-mask j a = map-append (allowedIn file n d i j) (below a) (a ∷ [])
-
-  -- One mask more in memory.
-  pub pair-more : (j : ℕ) (l m : List ℕ) (a x : ℕ) → m ≡ pairPart file n d i j a ++ drop a l → x ≡ allowedIn file n d i j a → a < length l
-      → set m a x ≡ pairPart file n d i j (a + 1) ++ drop (a + 1) l
-  pair-more j l m a x e s h =
-      rw (e, s, drop-cons l a 0 h)
-      (set-at (pairPart file n d i j a) (getD l a 0) (drop (suc a) l) (allowedIn file n d i j a) a (pair-length j a)
-      ∙ sym (append-snoc (pairPart file n d i j a) (allowedIn file n d i j a) (drop (suc a) l)) ∙ rw (add-one, next-mask) refl)
-
-  -- All are written.
-  pub pair-end : (j : ℕ) (l m : List ℕ) (a : ℕ) → m ≡ pairPart file n d i j a ++ drop a l → a ≡ d → length l ≡ d → m ≡ pairPart file n d i j d
-  pair-end j l m a e s h = rw (e, s, sym h, drop-length, append-nil) refl
-
-  -- ---- a row
+  pair-length j a = map-length (allowedIn words n d i j) a
 
   -- A row of j pairs has j × d words.
-  pub row-length : (j : ℕ) → length (rowPart file n d i j) ≡ j * d
+  pub row-length : (j : ℕ) → length (rowPart words n d i j) ≡ j * d
   unfolding rowPart
-  row-length j = each-length (λ k. pairPart file n d i k d) (λ k. d) j (λ k l. pair-length k d) ∙ total-const j d
+  row-length j = each-length (λ k. pairPart words n d i k d) (λ k. d) j (λ k l. pair-length k d) ∙ total-const j d
 
   -- No pair is written yet.
-  pub row-none : (l : List ℕ) → l ≡ rowPart file n d i 0 ++ drop (0 * d) l
+  pub row-none : (l : List ℕ) → l ≡ rowPart words n d i 0 ++ drop (0 * d) l
   unfolding rowPart below each
   row-none l = rw zero-mul refl
 
   -- One pair more of a row.
-  next-pair : (j : ℕ) → rowPart file n d i (suc j) ≡ rowPart file n d i j ++ pairPart file n d i j d
+  next-pair : (j : ℕ) → rowPart words n d i (suc j) ≡ rowPart words n d i j ++ pairPart words n d i j d
   unfolding rowPart
-  next-pair j = each-more (λ k. pairPart file n d i k d) j
+  next-pair j = each-more (λ k. pairPart words n d i k d) j
 
   -- One pair more in memory.
-  pub row-more : (l m ys : List ℕ) (j : ℕ) → m ≡ rowPart file n d i j ++ drop (j * d) l → ys ≡ pairPart file n d i j d → j * d + d ≤ length l
-      → putMid (j * d) ((j * d + d) - j * d) m ys ≡ rowPart file n d i (j + 1) ++ drop ((j + 1) * d) l
+  pub row-more : (l m ys : List ℕ) (j : ℕ) → m ≡ rowPart words n d i j ++ drop (j * d) l → ys ≡ pairPart words n d i j d → j * d + d ≤ length l
+      → putMid (j * d) ((j * d + d) - j * d) m ys ≡ rowPart words n d i (j + 1) ++ drop ((j + 1) * d) l
   row-more l m ys j e y h =
       let up : j * d + d ≡ (j + 1) * d = omega arith in
-      part-more (rowPart file n d i j) (pairPart file n d i j d) l m ys (j * d) d e (row-length j) y (pair-length j d) h
+      part-more (rowPart words n d i j) (pairPart words n d i j d) l m ys (j * d) d e (row-length j) y (pair-length j d) h
       ∙ rw (← up, add-one, next-pair) refl
 
   -- The memory stays as long.
-  pub row-kept : (l m : List ℕ) (j : ℕ) → m ≡ rowPart file n d i j ++ drop (j * d) l → j ≤ n → length l ≡ n * d → length m ≡ n * d
+  pub row-kept : (l m : List ℕ) (j : ℕ) → m ≡ rowPart words n d i j ++ drop (j * d) l → j ≤ n → length l ≡ n * d → length m ≡ n * d
   row-kept l m j e h s =
       let within : j * d ≤ n * d = mul-le-mul-right d h in
-      ap length e ∙ length-append (rowPart file n d i j) (drop (j * d) l) ∙ omega (arith, row-length j, length-drop (j * d) l)
+      ap length e ∙ length-append (rowPart words n d i j) (drop (j * d) l) ∙ omega (arith, row-length j, length-drop (j * d) l)
 
   -- All are written.
-  pub row-end : (l m : List ℕ) (j : ℕ) → m ≡ rowPart file n d i j ++ drop (j * d) l → j ≡ n → length l ≡ n * d → m ≡ rowPart file n d i n
+  pub row-end : (l m : List ℕ) (j : ℕ) → m ≡ rowPart words n d i j ++ drop (j * d) l → j ≡ n → length l ≡ n * d → m ≡ rowPart words n d i n
   row-end l m j e s h = rw (e, s, sym h, drop-length, append-nil) refl
 
 -- ---- the tables
 
-module _ (file : List ℕ) (n d : ℕ) where
-  pub table-none : (l : List ℕ) → l ≡ tablePart file n d 0 ++ drop (0 * (n * d)) l
+module _ (words : List ℕ) (n d : ℕ) where
+  pub table-none : (l : List ℕ) → l ≡ tablePart words n d 0 ++ drop (0 * (n * d)) l
   unfolding tablePart below each
   table-none l = rw zero-mul refl
 
   -- So many rows have so many words.
-  table-length : (i : ℕ) → length (tablePart file n d i) ≡ i * (n * d)
+  table-length : (i : ℕ) → length (tablePart words n d i) ≡ i * (n * d)
   unfolding tablePart
-  table-length i = each-length (λ k. rowPart file n d k n) (λ k. n * d) i (λ k l. row-length file n d k n) ∙ total-const i (n * d)
+  table-length i = each-length (λ k. rowPart words n d k n) (λ k. n * d) i (λ k l. row-length words n d k n) ∙ total-const i (n * d)
 
   -- One row more of the tables.
-  next-row : (i : ℕ) → tablePart file n d (suc i) ≡ tablePart file n d i ++ rowPart file n d i n
+  next-row : (i : ℕ) → tablePart words n d (suc i) ≡ tablePart words n d i ++ rowPart words n d i n
   unfolding tablePart
-  next-row i = each-more (λ k. rowPart file n d k n) i
+  next-row i = each-more (λ k. rowPart words n d k n) i
 
   -- One row more in memory.
-  pub table-more : (l m ys : List ℕ) (i : ℕ) → m ≡ tablePart file n d i ++ drop (i * (n * d)) l → ys ≡ rowPart file n d i n
+  pub table-more : (l m ys : List ℕ) (i : ℕ) → m ≡ tablePart words n d i ++ drop (i * (n * d)) l → ys ≡ rowPart words n d i n
       → i * (n * d) + n * d ≤ length l
-      → putMid (i * (n * d)) ((i * (n * d) + n * d) - i * (n * d)) m ys ≡ tablePart file n d (i + 1) ++ drop ((i + 1) * (n * d)) l
+      → putMid (i * (n * d)) ((i * (n * d) + n * d) - i * (n * d)) m ys ≡ tablePart words n d (i + 1) ++ drop ((i + 1) * (n * d)) l
   table-more l m ys i e y h =
       let up : i * (n * d) + n * d ≡ (i + 1) * (n * d) = omega arith in
-      part-more (tablePart file n d i) (rowPart file n d i n) l m ys (i * (n * d)) (n * d) e (table-length i) y (row-length file n d i n) h
+      part-more (tablePart words n d i) (rowPart words n d i n) l m ys (i * (n * d)) (n * d) e (table-length i) y (row-length words n d i n) h
       ∙ rw (← up, add-one, next-row) refl
 
   -- The memory stays as long.
-  pub table-kept : (l m : List ℕ) (i : ℕ) → m ≡ tablePart file n d i ++ drop (i * (n * d)) l → i ≤ n → length l ≡ n * n * d → length m ≡ n * n * d
+  pub table-kept : (l m : List ℕ) (i : ℕ) → m ≡ tablePart words n d i ++ drop (i * (n * d)) l → i ≤ n → length l ≡ n * n * d → length m ≡ n * n * d
   table-kept l m i e h s =
       let within : i * (n * d) ≤ n * (n * d) = mul-le-mul-right (n * d) h in
-      ap length e ∙ length-append (tablePart file n d i) (drop (i * (n * d)) l) ∙ omega (arith, table-length i, length-drop (i * (n * d)) l)
+      ap length e ∙ length-append (tablePart words n d i) (drop (i * (n * d)) l) ∙ omega (arith, table-length i, length-drop (i * (n * d)) l)
 
   -- All are written.
-  pub table-end : (l m : List ℕ) (i : ℕ) → m ≡ tablePart file n d i ++ drop (i * (n * d)) l → i ≡ n → length l ≡ n * n * d → m ≡ tablePart file n d n
+  pub table-end : (l m : List ℕ) (i : ℕ) → m ≡ tablePart words n d i ++ drop (i * (n * d)) l → i ≡ n → length l ≡ n * n * d → m ≡ tablePart words n d n
   table-end l m i e s h =
       let all : n * (n * d) ≡ length l = omega arith in
       rw (e, s, all, drop-length, append-nil) refl
@@ -150,23 +277,20 @@ rows-few n d i s h =
     let all : i * (n * d) ≤ 32 * 512 = mul-le-mul few (row-few n d s) in
     omega arith
 
--- ---- the agenda
+-- And those of the tables.
+pub tables-few : (n d : ℕ) → Numbers n d → (n * n ≤ 1024) × (n * n * d ≤ 16384)
+tables-few n d s =
+    let square : n * n ≤ 32 * 32 = mul-le-mul (s .variables) (s .variables) in
+    let all : n * n * d ≤ 1024 * 16 = mul-le-mul square (s .values) in
+    (square, all)
 
--- The words of the subproblems, and zeros in what was lent after them.
-pub agenda-made : (file l ys zs : List ℕ) (n d m from : ℕ) → from ≡ agendaStart n d → m * (n + 2) ≤ length l
-    → ys ≡ contentFrom file from (length (take (m * (n + 2)) l))
-    → zs ≡ replicate (length (midOf (m * (n + 2)) (length (ys ++ drop (m * (n + 2)) l) - m * (n + 2)) (ys ++ drop (m * (n + 2)) l))) 0
-    → putMid (m * (n + 2)) (length (ys ++ drop (m * (n + 2)) l) - m * (n + 2)) (ys ++ drop (m * (n + 2)) l) zs ≡ filledAgenda file n d m (length l)
-unfolding filledAgenda agendaIn
-agenda-made file l ys zs n d m from e h y z =
-    let used : ℕ = m * (n + 2) in
-    let whole : List ℕ = ys ++ drop used l in
-    let first : ys ≡ contentFrom file from used = y ∙ rw (length-take-le used l h) refl in
-    let seam : length ys ≡ used = ap length first ∙ length-from file from used in
-    let long : length whole ≡ length l = length-append ys (drop used l) ∙ omega (arith, length-drop used l) in
-    let past : postOf used (length whole - used) whole ≡ [] = post-is used (length whole) whole (omega arith) ∙ drop-length whole in
-    let left : length whole - used ≡ length l - used = omega arith in
-    let zeros : zs ≡ replicate (length l - used) 0 =
-    z ∙ ap (λ (k : ℕ). replicate {A = ℕ} k 0) (mid-len used (length whole) whole (omega arith) ∙ left) in
-    ap (λ (t : List ℕ). take used whole ++ (zs ++ t)) past ∙ ap (λ (t : List ℕ). take used whole ++ t) (append-nil zs)
-    ∙ ap (λ (t : List ℕ). t ++ zs) (take-at ys (drop used l) used seam) ∙ rw (zeros, first, e) refl
+-- The tables stand in the front of the room that was made for them.
+module _ (words ys l : List ℕ) (n d : ℕ) (e : ys ≡ tablePart words n d n) where
+  made-long : length ys ≡ n * n * d
+  made-long = ap length e ∙ table-length words n d n ∙ omega arith
+
+  pub made-fits : n * n * d ≤ length (ys ++ drop (n * n * d) l)
+  made-fits = rw length-append (omega (arith, made-long))
+
+  pub made-count : n * n * d ≡ length (take (n * n * d) (ys ++ drop (n * n * d) l))
+  made-count = sym (ap length (take-at ys (drop (n * n * d) l) (n * n * d) made-long) ∙ made-long)

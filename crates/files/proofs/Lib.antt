@@ -31,9 +31,10 @@ pub mod OneOutcome
 pub mod Promises
 pub mod Places
 pub mod Mirrors
-pub mod Obeyed
-pub mod Refused
+pub mod Found
 pub mod Filled
+pub mod Refused
+pub mod Checked
 pub mod LoadOutcomes
 pub mod Written
 pub mod SaveOutcomes

@@ -2,15 +2,15 @@
 -- Assumes nothing.
 use mathlib.Core.Path.{_≡_, refl, sym, ap, _∙_}
 use mathlib.Core.Bool.{false}
-use mathlib.Core.List.{List, _∷_}
-use Prim.Native.Nat.{ℕ, _+_, _*_, _≤_, _<_}
+use mathlib.Core.List.{List}
+use Prim.Native.Nat.{ℕ, _*_, _≤_}
 use native.Mathlib.Omega.{arith}
 use native.Mathlib.Decide.{ℕ-discrete}
 use lib.ListN.{length, getD, take}
 use lib.Dec.{eqb}
 use borrow.Author.Tests.{ne-eqb}
-use Rattle.splits.specs.Problem.{Proper, tableOf, Solution}
-use Rattle.search.specs.Agenda.{problemOf, stackOf, slotsIn, agendaOf}
+use Rattle.splits.specs.Problem.{Proper, tableOf}
+use Rattle.search.specs.Agenda.{problemOf, stackOf, slotsIn}
 use Rattle.search.specs.Runs.{requestsIn}
 use Rattle.search.specs.FirstChecks.{runRefusal}
 use Rattle.search.specs.Verdicts.{numberOf, verdictOf}
@@ -23,19 +23,17 @@ use Rattle.search.specs.declared.state.Verdict.the-variants.{None}
 use Rattle.search.proofs.HandedOn.{known, leaves, some-slots, whole-requests}
 use Rattle.search.proofs.Promises.{open-leaves, run-leaves, chooser-leaves, run-says, run-passed, reached-passes, reached-unsolvable, solved-shows}
 use Rattle.files.specs.Blocks.{fileOf}
-use Rattle.files.specs.Reading.{saidN, saidD, saidAllowed, tableWords}
-use Rattle.files.specs.Calls.{handedContent, saveRefusal, Saves, loadRefusal, Loads}
+use Rattle.files.specs.Reading.{saidAllowed, tableWords}
+use Rattle.files.specs.Calls.{handedContent, saveRefusal, Saves, Loads}
 use Rattle.files.specs.Promises.{Agree, Says, Shown, Lived, opened, ran, chose, loaded}
 use Rattle.files.specs.declared.saved.Saved.{Saved}
 use Rattle.files.specs.declared.saved.Loaded.{Loaded}
-use Rattle.files.proofs.Triangle.{table-other, table-length}
+use Rattle.files.proofs.Triangle.{table-length}
 use Rattle.files.proofs.Tables.{proper-agree, agree-back}
-use Rattle.files.proofs.Stacks.{of-length}
 use Rattle.files.proofs.Passing.{search-passing}
 use Rattle.files.proofs.Saving.{saved-says}
 use Rattle.files.proofs.Loading.{Fits, load-taken}
 use Rattle.files.proofs.Reaching.{reached-good, reached-agree}
-use Rattle.files.proofs.Refusals.{save-none}
 use Rattle.files.proofs.Back.{stateOf, lent, lent-agree, written-blocks}
 
 -- What is known of each: it is a reached search of the problem in memory, which agrees with the one that was opened.

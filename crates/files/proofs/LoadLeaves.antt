@@ -1,18 +1,18 @@
 -- What an accepted load leaves in lent memory, handed on.
 -- Assumes nothing.
 use native.Mathlib.Omega.{arith}
-use mathlib.Core.Path.{_≡_, refl, sym, ap, _∙_}
+use mathlib.Core.Path.{_≡_, sym, ap, _∙_}
 use mathlib.Core.Bool.{true}
-use mathlib.Core.List.{List, List·Memᴰ}
-use Prim.Native.Nat.{ℕ, _+_, _*_, _^_, _≤_, _<_}
-use lib.ListN.{length, getD}
+use mathlib.Core.List.{List}
+use Prim.Native.Nat.{ℕ}
+use lib.ListN.{length}
 use lib.Dec.{eqb}
 use borrow.Author.Tests.{eq-eqb}
 use Rattle.splits.specs.declared.subproblem.Subproblem.{Subproblem}
 use Rattle.search.specs.Agenda.{stackOf, agendaOf}
 use Rattle.search.specs.Work.Kept.{Shape}
 use Rattle.search.proofs.HandedOn.{Shaped, agenda-small}
-use Rattle.files.specs.Reading.{contentWord, saidN, saidD, saidSteps, saidChecks, saidSubproblems, saidDomains, saidAllowed, saidSearch, tableWords}
+use Rattle.files.specs.Reading.{saidN, saidD, saidSteps, saidChecks, saidSubproblems, saidDomains, saidAllowed, saidSearch, tableWords}
 use Rattle.files.specs.Calls.{loadRefusal, Loads}
 use Rattle.files.specs.Promises.{Bytes, Canonical, Left-by-load}
 use Rattle.files.specs.declared.saved.Loaded.{Loaded}

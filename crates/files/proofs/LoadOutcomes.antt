@@ -2,28 +2,32 @@
 -- Assumes nothing.
 use mathlib.Core.Path.{_≡_, refl, sym, ap, _∙_}
 use mathlib.Core.Bool.{Bool, true, false, cond, _&&_}
-use mathlib.Core.List.{List}
-use Prim.Native.Nat.{ℕ, _+_, _*_, _^_, _≤_, _<_}
+use mathlib.Core.List.{List, _++_}
+use Prim.Native.Nat.{ℕ, _+_, _-_, _*_, _≤_}
 use native.Mathlib.Omega.{arith}
 use native.Mathlib.Nat.{mul-le-mul-right, div-mul-le-self}
-use native.Mathlib.Decide.{ℕ-discrete, decLt}
-use lib.ListN.{length, getD, List·getD-eq-default}
-use lib.Seq.{take-all}
+use native.Mathlib.Decide.{ℕ-discrete}
+use lib.ListN.{length, getD, take, drop}
+use lib.Seq.{take-at}
 use lib.Dec.{eqb, ltb}
 use borrow.Author.Tests.{eq-eqb, ne-eqb, eqb-true, ltb-false}
 use Rattle.splits.proofs.Tests.{and-left, and-right}
-use Rattle.search.specs.Agenda.{slotsIn, stackOf, stackWords, agendaOf}
+use Rattle.search.specs.Agenda.{slotsIn, agendaOf}
 use Rattle.search.specs.FirstChecks.{orElse, wholeSlots, refusalOfLengths}
-use Rattle.search.proofs.Encoding.{stack-of-words}
-use Rattle.files.specs.Reading.{contentFrom, saidN, saidD, saidSteps, saidChecks, saidSubproblems, saidDomains, saidAllowed, saidAgenda, saidSearch, tableWords, refusalOfFile, refusalOfWords}
+use Rattle.files.specs.Reading.{blocksIn, contentWord, contentFrom, saidN, saidD, saidSteps, saidChecks, saidSubproblems, saidDomains, saidAllowed, saidSearch, triangleWords, tableWords, refusalOfFile, refusalOfWords}
 use Rattle.files.specs.Calls.{loadRefusal, Loads}
-use Rattle.files.specs.Work.Said.{Numbers, StateSaid, allowedIn, agendaStart, agendaIn, pairPart, rowPart, tablePart, filledAgenda}
+use Rattle.files.specs.Promises.{Bytes}
+use Rattle.files.specs.Work.Said.{Numbers, StateSaid, sizedIn, allowedIn, agendaStart, pairPart, rowPart, tablePart, partIn, slotsPart, Lent, Read, Ready, Refused}
 use Rattle.files.specs.declared.saved.Loaded.{Loaded}
 use Rattle.files.proofs.Lists.{each-same, map-same}
 use Rattle.files.proofs.Tests.{passed, else-pass}
-use Rattle.files.proofs.Places.{content-from, length-from, content-word-small}
-use Rattle.files.proofs.Mirrors.{allowed-self}
-use Rattle.files.proofs.Refused.{allowed-said, numbers-passed}
+use Rattle.files.proofs.Triangle.{table-length}
+use Rattle.files.proofs.Whole.{file-whole}
+use Rattle.files.proofs.Places.{length-from}
+use Rattle.files.proofs.Filled.{content-says}
+use Rattle.files.proofs.Mirrors.{triangle-few, slots-few, allowed-self, allowed-said}
+use Rattle.files.proofs.Refused.{numbers-passed}
+use Rattle.files.proofs.Checked.{part-read, agenda-said}
 
 -- A value that is given where there is no refusal, and one that is given where there is.
 pub given : {A : Type 0} (r : ℕ) (x y z : A) → r ≡ 0 → z ≡ x → z ≡ cond (eqb r 0) x y
@@ -76,48 +80,33 @@ module _ (file : List ℕ) (domains tables agenda n d m : ℕ) where
 -- ---- the tables
 
 -- What is written of two variables is what the file says, and 0 of one with itself.
-mask-said : (file : List ℕ) (i j a : ℕ) → allowedIn file (saidN file) (saidD file) i j a ≡ cond (eqb i j) 0 (saidAllowed file i j a)
-mask-said file i j a = elim (ℕ-discrete i j) [
-  | yes e ↦ rw (eq-eqb i j e) (sym (allowed-self file (saidN file) (saidD file) i j a (omega arith) (omega arith)))
-  | no f ↦ rw (ne-eqb i j f) (allowed-said file i j a)
+mask-said : (file words : List ℕ) → ((k : ℕ) → getD words k 0 ≡ contentWord file k) → (i j a : ℕ)
+    → allowedIn words (saidN file) (saidD file) i j a ≡ cond (eqb i j) 0 (saidAllowed file i j a)
+mask-said file words says i j a = elim (ℕ-discrete i j) [
+  | yes e ↦ rw (eq-eqb i j e) (allowed-self words (saidN file) (saidD file) i j a (omega arith) (omega arith))
+  | no f ↦ rw (ne-eqb i j f) (allowed-said file words says i j a)
 ]
 
 -- The tables are those that the file says.
-pub tables-said : (file : List ℕ) → tablePart file (saidN file) (saidD file) (saidN file) ≡ tableWords (saidN file) (saidD file) (saidAllowed file)
+pub tables-said : (file words t : List ℕ) (n d : ℕ) → ((k : ℕ) → getD words k 0 ≡ contentWord file k) → n ≡ saidN file → d ≡ saidD file → t ≡ tablePart words n d n
+    → t ≡ tableWords (saidN file) (saidD file) (saidAllowed file)
 unfolding tablePart rowPart pairPart tableWords
-tables-said file =
-    each-same _ _ (saidN file) (λ i l. each-same _ _ (saidN file) (λ j q. map-same _ _ (saidD file) (λ a p. mask-said file i j a)))
+tables-said file words t n d says is-n is-d e =
+    e ∙ rw (is-n, is-d) (each-same _ _ (saidN file) (λ i l. each-same _ _ (saidN file) (λ j q. map-same _ _ (saidD file) (λ a p. mask-said file words says i j a))))
 
--- ---- the agenda
+-- The words that were read say the content.
+pub content-read : (file words : List ℕ) → refusalOfFile file ≡ 0 → words ≡ contentFrom file 0 25553 → Read file words
+content-read file words e h =
+    let whole = file-whole file e in
+    record { whole = e; long = ap length h ∙ length-from file 0 25553; says = content-says file words (blocksIn file) (whole .whole) (whole .few) h }
 
--- Words of the content are words.
-pub from-small : (file : List ℕ) (from words : ℕ) → ((i : ℕ) → getD file i 0 < 256) → (i : ℕ) → getD (contentFrom file from words) i 0 < 2 ^ 16
-from-small file from words small i = elim (decLt i words) [
-  | yes h ↦ rw (content-from file from words i h) (content-word-small file small (from + i))
-  | no h ↦
-      let past : length (contentFrom file from words) ≤ i = omega (arith, length-from file from words) in
-      rw (List·getD-eq-default (contentFrom file from words) 0 past) (omega arith)
-]
-
--- The words of the stack that they say are these words.
-words-said : (file : List ℕ) (n from m : ℕ) → ((i : ℕ) → getD file i 0 < 256)
-    → stackWords n (stackOf n (contentFrom file from (m * (n + 2))) m) ≡ contentFrom file from (m * (n + 2))
-words-said file n from m small =
-    let l : List ℕ = contentFrom file from (m * (n + 2)) in
-    let long : length l ≡ m * (n + 2) = length-from file from (m * (n + 2)) in
-    stack-of-words n l m (omega arith) (from-small file from (m * (n + 2)) small) ∙ take-all (m * (n + 2)) l (omega arith)
-
--- The agenda is that of the stack that the file says.
-pub agenda-said : (file : List ℕ) (words : ℕ) → ((i : ℕ) → getD file i 0 < 256)
-    → filledAgenda file (saidN file) (saidD file) (saidSubproblems file) words ≡ agendaOf (saidN file) words (saidSearch file .stack)
-unfolding filledAgenda agendaIn agendaStart agendaOf saidAgenda
-agenda-said file words small =
-    let n : ℕ = saidN file in
-    let m : ℕ = saidSubproblems file in
-    let from : ℕ = agendaStart n (saidD file) in
-    let said = words-said file n from m small in
-    let long : length (stackWords n (stackOf n (contentFrom file from (m * (n + 2))) m)) ≡ m * (n + 2) = ap length said ∙ length-from file from (m * (n + 2)) in
-    rw (said, length-from file from (m * (n + 2))) refl
+-- What was made stands in the front of the room for it.
+pub made-ready : (file words ys l : List ℕ) (n d masks : ℕ) → Read file words → sizedIn file ≡ true → n ≡ saidN file → d ≡ saidD file
+    → masks ≡ n * n * d → ys ≡ tablePart words n d n → Ready file words (take masks (ys ++ drop masks l))
+made-ready file words ys l n d masks read sized is-n is-d is-masks e =
+    let made : ys ≡ tableWords (saidN file) (saidD file) (saidAllowed file) = tables-said file words ys n d (read .says) is-n is-d e in
+    let long : length ys ≡ masks = ap length made ∙ table-length (saidN file) (saidD file) (saidAllowed file) ∙ sym (is-masks ∙ rw (is-n, is-d) refl) in
+    record { read = read; sized = sized; made = take-at ys (drop masks l) masks long ∙ made }
 
 -- ---- load
 
@@ -126,35 +115,52 @@ module _ (file domains tables agenda : List ℕ) (r : ℕ) (is-r : r ≡ loadRef
   refusal = loadRefusal file (length domains) (length tables) (length agenda)
 
   -- Refused: zeros, and nothing is changed.
-  pub load-refused : (r ≡ 0 → ⊥) → (s : Loaded) → s .refusal ≡ r → s .n ≡ 0 → s .d ≡ 0 → s .state .counts .steps .0 ≡ 0
-      → s .state .counts .checks .0 ≡ 0 → s .state .subproblems ≡ 0 → Loads file domains domains tables tables agenda agenda s
+  pub load-refused : (r ≡ 0 → ⊥) → (s : Loaded) → Refused r s → Loads file domains domains tables tables agenda agenda s
   unfolding refusal
-  load-refused f s is-s n d steps checks m =
+  load-refused f s z =
       let g : refusal ≡ 0 → ⊥ = λ z. f (is-r ∙ z) in
       record {
-        refusal = is-s ∙ is-r;
-        its-n = not-given refusal (saidN file) 0 (s .n) g n;
-        its-d = not-given refusal (saidD file) 0 (s .d) g d;
-        steps = not-given refusal (saidSteps file) 0 (s .state .counts .steps .0) g steps;
-        checks = not-given refusal (saidChecks file) 0 (s .state .counts .checks .0) g checks;
-        subproblems = not-given refusal (saidSubproblems file) 0 (s .state .subproblems) g m;
+        refusal = z .its ∙ is-r;
+        its-n = not-given refusal (saidN file) 0 (s .n) g (z .its-n);
+        its-d = not-given refusal (saidD file) 0 (s .d) g (z .its-d);
+        steps = not-given refusal (saidSteps file) 0 (s .state .counts .steps .0) g (z .steps);
+        checks = not-given refusal (saidChecks file) 0 (s .state .counts .checks .0) g (z .checks);
+        subproblems = not-given refusal (saidSubproblems file) 0 (s .state .subproblems) g (z .subproblems);
         its-domains = not-given refusal (saidDomains file) domains domains g refl;
         its-tables = not-given refusal (tableWords (saidN file) (saidD file) (saidAllowed file)) tables tables g refl;
         its-agenda = not-given refusal (agendaOf (saidN file) (length agenda) (saidSearch file .stack)) agenda agenda g refl;
       }
 
   -- Accepted: what the file says.
-  module _ (small : (i : ℕ) → getD file i 0 < 256) (zero-r : r ≡ 0) (n d m : ℕ) (is-n : n ≡ saidN file) (is-d : d ≡ saidD file) (is-m : m ≡ saidSubproblems file) where
+  module _ (zero-r : r ≡ 0) (n d m : ℕ) (is-n : n ≡ saidN file) (is-d : d ≡ saidD file) (is-m : m ≡ saidSubproblems file) where
     pub load-fits : Fitted (length domains) (length tables) (length agenda) n d m
     load-fits = load-passed file (length domains) (length tables) (length agenda) n d m is-n is-d is-m (sym is-r ∙ zero-r)
 
+    -- What is lent takes the search.
+    pub load-lent : (words all : List ℕ) → Ready file words all → Lent words all n d m domains tables agenda
+    load-lent words all ready = record {
+      numbers = load-fits .numbers;
+      few = load-fits .few;
+      long = ready .read .long;
+      domains-words = load-fits .domains-words;
+      tables-words = ap length (ready .made) ∙ table-length (saidN file) (saidD file) (saidAllowed file) ∙ sym (load-fits .tables-words ∙ rw (is-n, is-d) refl);
+      agenda-words = load-fits .agenda-words;
+    }
+
     -- Everything that load returns and leaves.
-    pub load-accepted : (s : Loaded) (domains′ tables′ agenda′ : List ℕ) → s .refusal ≡ 0 → s .n ≡ n → s .d ≡ d → StateSaid file (s .state)
-        → domains′ ≡ contentFrom file 9 (length domains) → tables′ ≡ tablePart file n d n → agenda′ ≡ filledAgenda file n d m (length agenda)
-        → Loads file domains domains′ tables tables′ agenda agenda′ s
-    unfolding refusal
-    load-accepted s domains′ tables′ agenda′ is-s s-n s-d state ds ts as′ =
+    pub load-accepted : (small : Bytes file) (words all : List ℕ) → Ready file words all → (s : Loaded) (domains′ tables′ agenda′ : List ℕ)
+        → s .refusal ≡ 0 → s .n ≡ n → s .d ≡ d → StateSaid file (s .state) → domains′ ≡ partIn words 9 n → tables′ ≡ all
+        → agenda′ ≡ slotsPart words n d m (length agenda) → Loads file domains domains′ tables tables′ agenda agenda′ s
+    unfolding refusal agendaStart partIn slotsPart
+    load-accepted small words all ready s domains′ tables′ agenda′ is-s s-n s-d state ds ts as′ =
         let z : refusal ≡ 0 = sym is-r ∙ zero-r in
+        let fitted = load-fits in
+        let from : ℕ = 9 + n + triangleWords n d in
+        let start : from ≤ 7977 = omega (arith, triangle-few n d (fitted .numbers), fitted .numbers .variables) in
+        let few : m * (n + 2) ≤ 17408 = slots-few n m 512 (fitted .numbers .variables) (fitted .few) (omega arith) in
+        let front : take ((9 + n) - 9) (drop 9 words) ≡ saidDomains file = part-read file words (ready .read) 9 n (omega (arith, fitted .numbers .variables)) ∙ ap (contentFrom file 9) is-n in
+        let back : take ((from + m * (n + 2)) - from) (drop from words) ≡ contentFrom file from (m * (n + 2)) = part-read file words (ready .read) from (m * (n + 2)) (omega arith) in
+        let slots : agenda′ ≡ agendaOf (saidN file) (length agenda) (saidSearch file .stack) = as′ ∙ rw (back, is-n, is-d, is-m) (agenda-said file (length agenda) small) in
         record {
           refusal = is-s ∙ sym z;
           its-n = given refusal (saidN file) 0 (s .n) z (s-n ∙ is-n);
@@ -162,7 +168,7 @@ module _ (file domains tables agenda : List ℕ) (r : ℕ) (is-r : r ≡ loadRef
           steps = given refusal (saidSteps file) 0 (s .state .counts .steps .0) z (state .steps);
           checks = given refusal (saidChecks file) 0 (s .state .counts .checks .0) z (state .checks);
           subproblems = given refusal (saidSubproblems file) 0 (s .state .subproblems) z (state .subproblems);
-          its-domains = given refusal (saidDomains file) domains domains′ z (ds ∙ rw (load-fits .domains-words, is-n) refl);
-          its-tables = given refusal (tableWords (saidN file) (saidD file) (saidAllowed file)) tables tables′ z (ts ∙ rw (is-n, is-d) (tables-said file));
-          its-agenda = given refusal (agendaOf (saidN file) (length agenda) (saidSearch file .stack)) agenda agenda′ z (as′ ∙ rw (is-n, is-d, is-m) (agenda-said file (length agenda) small));
+          its-domains = given refusal (saidDomains file) domains domains′ z (ds ∙ front);
+          its-tables = given refusal (tableWords (saidN file) (saidD file) (saidAllowed file)) tables tables′ z (ts ∙ ready .made);
+          its-agenda = given refusal (agendaOf (saidN file) (length agenda) (saidSearch file .stack)) agenda agenda′ z slots;
         }

@@ -1,26 +1,26 @@
--- The masks and the slots that a file says, as the code reads them.
+-- The masks in the words of a content, as the code reads them and puts them together.
 -- Assumes nothing.
 use mathlib.Core.Path.{_≡_, refl, sym, ap, _∙_}
-use mathlib.Core.List.{List, [], _∷_, _++_, map-append}
-use Prim.Native.Nat.{ℕ, zero, suc, _+_, _-_, _*_, _/_, _%_, _^_, _≤_, _<_}
+use mathlib.Core.Bool.{cond}
+use mathlib.Core.List.{List, _++_, map}
+use Prim.Native.Nat.{ℕ, zero, suc, _+_, _-_, _*_, _/_, _^_, _≤_, _<_}
 use native.Mathlib.Omega.{arith}
-use native.Mathlib.Nat.{mul-le-mul, one-mul, zero-mul, mod-eq-of-lt}
+use native.Mathlib.Nat.{mul-le-mul, zero-mul, add-zero, add-suc}
 use native.Mathlib.Numerals.{add-one}
-use lib.ListN.{length, getD, take, drop, set, replicate}
-use lib.Seq.{drop-cons, append-snoc, set-at, getD-take, length-take-le}
-use lib.Pow.{pow-mono}
+use lib.ListN.{length, getD, take, drop, replicate, length-drop, length-replicate, List·getD-eq-default}
+use lib.Seq.{getD-take, getD-drop, length-take-le}
+use lib.Dec.{ltb}
 use borrow.Author.Tests.{lt-ltb, le-ltb}
 use Rattle.splits.specs.Masks.{bit}
 use Rattle.splits.specs.Problem.{total}
 use Rattle.splits.specs.Splits.{below}
-use Rattle.splits.proofs.Masks.{bit-le, single-lt}
-use Rattle.search.specs.Agenda.{holding, subproblemOf}
-use Rattle.search.proofs.Copies.{drop-zeros}
-use Rattle.files.specs.Reading.{contentWord, contentFrom, trianglePlace, gathered}
-use Rattle.files.specs.Work.Said.{Numbers, maskIn, mirroredIn, allowedIn, domainsSaid}
-use Rattle.files.proofs.Lists.{map-is}
-use Rattle.files.proofs.Gathered.{gathered-lt}
-use Rattle.files.proofs.Places.{content-from, length-from}
+use Rattle.splits.proofs.Masks.{bit-above}
+use Rattle.search.specs.Matrix.{Turned}
+use Rattle.files.specs.Reading.{contentWord, saidN, saidD, saidAllowed, triangleWords, trianglePlace, gathered}
+use Rattle.files.specs.Work.Said.{Numbers, maskIn, allowedIn, columnOf, columnPart, pairPart, agendaStart, partIn, slotsPart}
+use Rattle.files.proofs.Lists.{map-is, map-same, zeros-at, padded-at}
+use Rattle.files.proofs.Triangle.{place-lt}
+use Rattle.files.proofs.Gathered.{gathered-same, gathered-bits}
 
 -- ---- the pairs before those of i
 
@@ -61,126 +61,144 @@ triangle-few n d s =
     let all : n * (n - 1) / 2 * d ≤ 496 * 16 = mul-le-mul half (s .values) in
     omega arith
 
--- A place in them is small.
-pub place-few : (p k d : ℕ) → p ≤ 1024 → k ≤ 32 → d ≤ 16 → (p + k) * d ≤ 16896
-place-few p k d h l m = let few : p + k ≤ 1056 = omega arith in mul-le-mul few m
+-- The words of slots are at most 512 × 34.
+pub slots-few : (n k count : ℕ) → n ≤ 32 → k ≤ count → count ≤ 512 → k * (n + 2) ≤ 17408
+slots-few n k count h l m =
+    let few : k ≤ 512 = omega arith in
+    let wide : n + 2 ≤ 34 = omega arith in
+    mul-le-mul few wide
 
--- The mask at its place.
-pub mask-made : (file : List ℕ) (n d i j a p w : ℕ) → p ≡ total i (λ h. n - suc h) → w ≡ contentWord file (9 + n + ((p + (j - (i + 1))) * d + a))
-    → w ≡ maskIn file n d i j a
-unfolding maskIn trianglePlace
-mask-made file n d i j a p w e h = h ∙ rw (e, add-one) refl
+-- The masks of two variables stand within the content.
+pub place-within : (n d i j p : ℕ) → Numbers n d → i < j → j < n → p ≡ total i (λ h. n - suc h) → 9 + n + (p + (j - (i + 1))) * d + d ≤ 7977
+unfolding trianglePlace
+place-within n d i j p s h l e =
+    let last : (total i (λ h. n - suc h) + (j - suc i)) * d + (d - 1) < triangleWords n d = place-lt n d i j (d - 1) h l (omega (arith, s .some-value)) in
+    let same : (p + (j - (i + 1))) * d ≡ (total i (λ h. n - suc h) + (j - suc i)) * d = rw (e, add-one) refl in
+    omega (arith, triangle-few n d s, s .variables, s .some-value)
 
--- ---- a mask put together of its digits
+-- Where they begin.
+pub place-made : (n d i j p : ℕ) → p ≡ total i (λ h. n - suc h) → 9 + n + (p + (j - (i + 1))) * d ≡ 9 + n + trianglePlace n d i j 0
+unfolding trianglePlace
+place-made n d i j p e = rw (e, add-one) (omega arith)
 
--- A one at place b.
-pub digit-one : (m a b r : ℕ) → r ≡ bit m a → r ≡ 1 → b < 16 → 1 * 2 ^ b % 65536 ≡ bit m a * 2 ^ b
-digit-one m a b r e h l = rw (sym e ∙ h, one-mul) (mod-eq-of-lt (single-lt 16 b l))
+-- ---- columns
 
--- A digit that is not one adds nothing.
-pub digit-none : (m a b r : ℕ) → r ≡ bit m a → (r ≡ 1 → ⊥) → 0 ≡ bit m a * 2 ^ b
-digit-none m a b r e f =
-    let none : bit m a ≡ 0 = zero-of (bit m a) (bit-le m a) (λ h. f (e ∙ h)) in rw none (sym (zero-mul (2 ^ b)))
-  where
-    zero-of : (x : ℕ) → x ≤ 1 → (x ≡ 1 → ⊥) → x ≡ 0
-    zero-of x h g = omega arith
-
--- The digit of the mask that stands the other way round.
-pub digit-mirrored : (file : List ℕ) (n d i j a b w x : ℕ) → w ≡ maskIn file n d j i b → x ≡ bit w a * 2 ^ b
-    → x ≡ mirroredIn file n d i j a b * 2 ^ b
-unfolding mirroredIn
-digit-mirrored file n d i j a b w x e h = h ∙ rw e refl
-
--- It is 0 or 1.
-pub mirrored-le : (file : List ℕ) (n d i j a b : ℕ) → mirroredIn file n d i j a b ≤ 1
-unfolding mirroredIn
-mirrored-le file n d i j a b = bit-le (maskIn file n d j i b) a
-
--- No digit is gathered yet.
-pub gather-none : (f : ℕ → ℕ) → 0 ≡ gathered 0 f
+-- Digits that are 0 add nothing.
+gathered-less : (d k : ℕ) (f : ℕ → ℕ) → ((b : ℕ) → d ≤ b → f b ≡ 0) → gathered (d + k) f ≡ gathered d f
 unfolding gathered total
-gather-none f = refl
+gathered-less d zero f h = rw add-zero refl
+gathered-less d (suc k) f h =
+    let none : f (d + k) * 2 ^ (d + k) ≡ 0 = rw (h (d + k) (omega arith), zero-mul) refl in
+    let more : gathered (d + k) f + f (d + k) * 2 ^ (d + k) ≡ gathered (d + k) f = rw none (add-zero (gathered (d + k) f)) in
+    rw add-suc (more ∙ gathered-less d k f h)
 
--- One digit more.
-pub gather-more : (f : ℕ → ℕ) (b s x : ℕ) → s ≡ gathered b f → x ≡ f b * 2 ^ b → s + x ≡ gathered (b + 1) f
-unfolding gathered total
-gather-more f b s x e h = rw (add-one, e, h) refl
+module _ (rows all turned : List ℕ) (few : length rows ≤ 16) (e : all ≡ rows ++ replicate (16 - length rows) 0) (t : Turned all turned) where
+  -- Digit b of a column.
+  column-bit : (c b : ℕ) → c < 16 → b < 16 → bit (getD turned c 0) b ≡ columnOf rows c b
+  unfolding columnOf
+  column-bit c b h l =
+      t .mirror c b h l ∙ ap (λ (x : ℕ). bit x c) (ap (λ (x : List ℕ). getD x b 0) e ∙ padded-at rows (16 - length rows) b)
 
--- What is gathered fits a word.
-pub gather-fits : (f : ℕ → ℕ) (b s x : ℕ) → ((k : ℕ) → f k ≤ 1) → b < 16 → s ≡ gathered b f → x ≡ f b * 2 ^ b → s + x < 65536
-gather-fits f b s x small h e g =
-    let sum : s + x ≡ gathered (b + 1) f = gather-more f b s x e g in
-    let below : b + 1 ≤ 16 = omega arith in
-    let up : 2 ^ (b + 1) ≤ 2 ^ 16 = pow-mono below in
-    omega (arith, gathered-lt (b + 1) f small)
+  -- Past the rows it is 0.
+  column-past : (c b : ℕ) → length rows ≤ b → columnOf rows c b ≡ 0
+  unfolding columnOf
+  column-past c b h = rw (List·getD-eq-default rows 0 h) (bit-above 0 0 c (omega arith) (omega arith))
 
--- All digits.
-pub gather-end : (f : ℕ → ℕ) (b d s : ℕ) → s ≡ gathered b f → b ≡ d → s ≡ gathered d f
-gather-end f b d s e h = e ∙ ap (λ (x : ℕ). gathered x f) h
+  -- A column is gathered of its digits.
+  column-is : (c : ℕ) → c < 16 → getD turned c 0 ≡ gathered (length rows) (columnOf rows c)
+  column-is c h =
+      let whole : length rows + (16 - length rows) ≡ 16 = omega arith in
+      sym (gathered-bits 16 (getD turned c 0) (t .small c h)) ∙ gathered-same 16 (bit (getD turned c 0)) (columnOf rows c) (λ b l. column-bit c b h l)
+      ∙ ap (λ (k : ℕ). gathered k (columnOf rows c)) (sym whole) ∙ gathered-less (length rows) (16 - length rows) (columnOf rows c) (column-past c)
 
--- ---- a slot
-
--- One word more of the content.
-from-more : (file : List ℕ) (from i : ℕ) → contentFrom file from (suc i) ≡ contentFrom file from i ++ (contentWord file (from + i) ∷ [])
-unfolding contentFrom below
-from-more file from i = map-append (λ k. contentWord file (from + k)) (below i) (i ∷ [])
-
--- One word more of a copy of the content.
-pub copy-said : (file l m : List ℕ) (from i x : ℕ) → m ≡ contentFrom file from i ++ drop i l → x ≡ contentWord file (from + i) → i < length l
-    → set m i x ≡ contentFrom file from (i + 1) ++ drop (i + 1) l
-copy-said file l m from i x e s h =
-    rw (e, s, drop-cons l i 0 h)
-    (set-at (contentFrom file from i) (getD l i 0) (drop (suc i) l) (contentWord file (from + i)) i (length-from file from i)
-    ∙ sym (append-snoc (contentFrom file from i) (contentWord file (from + i)) (drop (suc i) l)) ∙ rw (add-one, from-more) refl)
-
--- No word is copied yet.
-pub copy-start : (file l : List ℕ) (from : ℕ) → l ≡ contentFrom file from 0 ++ drop 0 l
-unfolding contentFrom below
-copy-start file l from = refl
-
--- The domains of a slot, once all are copied.
-pub domains-made : (file D : List ℕ) (n from i : ℕ) → D ≡ contentFrom file from i ++ drop i (replicate 32 0) → i ≡ n → D ≡ domainsSaid file n from
-unfolding domainsSaid
-domains-made file D n from i e s = e ∙ rw (s, drop-zeros) refl
-
--- The first words of the content from one on.
-pub from-is : (file : List ℕ) (from m : ℕ) (l : List ℕ) → length l ≡ m → ((k : ℕ) → k < m → contentWord file (from + k) ≡ getD l k 0) → contentFrom file from m ≡ l
-unfolding contentFrom
-from-is file from m l e h = map-is (λ k. contentWord file (from + k)) m l e h
-
--- The first of them are as many from the same word on.
-pub from-take : (file : List ℕ) (from m n : ℕ) → m ≤ n → take m (contentFrom file from n) ≡ contentFrom file from m
-from-take file from m n h =
-    let l : List ℕ = contentFrom file from n in
-    sym (from-is file from m (take m l) (length-take-le m l (omega (arith, length-from file from n)))
-    (λ k q. sym (getD-take m l k 0 q ∙ content-from file from n k (omega arith))))
-
--- The subproblem of a slot in the content.
-pub slot-said : (file D : List ℕ) (n from m : ℕ) → D ≡ domainsSaid file n from
-    → m ≡ contentWord file (from + n) * 65536 + contentWord file (from + n + 1)
-    → record { domains = D; marked = m } ≡ subproblemOf n (contentFrom file from (n + 2))
-unfolding subproblemOf holding domainsSaid
-slot-said file D n from m e h =
-    let high = content-from file from (n + 2) n (omega arith) in
-    let low = content-from file from (n + 2) (n + 1) (omega arith) in
-    let place : from + (n + 1) ≡ from + n + 1 = omega arith in
-    let domains : D ≡ take n (contentFrom file from (n + 2)) ++ replicate (32 - n) 0 = e ∙ rw (from-take file from n (n + 2) (omega arith)) refl in
-    let marks : m ≡ getD (contentFrom file from (n + 2)) n 0 * 65536 + getD (contentFrom file from (n + 2)) (n + 1) 0 = h ∙ rw (high, low, place) refl in
-    λ t. record { domains = domains t; marked = marks t }
+  -- The first columns of the rows with zeros after them, rows for columns.
+  pub columns-made : (out : List ℕ) (k : ℕ) → k ≡ length rows → out ≡ take k turned → out ≡ columnPart rows (length rows)
+  unfolding columnPart
+  columns-made out k same s =
+      let size : length (take k turned) ≡ length rows = length-take-le k turned (omega (arith, t .long)) ∙ same in
+      s ∙ sym (map-is (λ c. gathered (length rows) (columnOf rows c)) (length rows) (take k turned) size
+      (λ c q. sym (getD-take k turned c 0 (omega arith) ∙ column-is c (omega arith))))
 
 -- ---- what is allowed
 
--- For i below j the mask stands there.
-pub allowed-above : (file : List ℕ) (n d i j a w : ℕ) → i < j → w ≡ maskIn file n d i j a → w ≡ allowedIn file n d i j a
-unfolding allowedIn
-allowed-above file n d i j a w h e = rw (lt-ltb i j h) e
+module _ (words : List ℕ) (n d i j : ℕ) where
+  -- For i below j the mask stands there.
+  allowed-above : (a : ℕ) → i < j → allowedIn words n d i j a ≡ maskIn words n d i j a
+  unfolding allowedIn
+  allowed-above a h = rw (lt-ltb i j h) refl
 
--- For i above j it is gathered.
-pub allowed-below : (file : List ℕ) (n d i j a w : ℕ) → j < i → w ≡ gathered d (mirroredIn file n d i j a) → w ≡ allowedIn file n d i j a
-unfolding allowedIn
-allowed-below file n d i j a w h e = rw (le-ltb i j (omega arith), lt-ltb j i h) e
+  -- For i above j it is gathered.
+  allowed-below : (a : ℕ) → j < i → allowedIn words n d i j a ≡ gathered d (λ b. bit (maskIn words n d j i b) a)
+  unfolding allowedIn
+  allowed-below a h = rw (le-ltb i j (omega arith), lt-ltb j i h) refl
 
--- Of i with itself nothing is allowed.
-pub allowed-self : (file : List ℕ) (n d i j a : ℕ) → j ≤ i → i ≤ j → 0 ≡ allowedIn file n d i j a
-unfolding allowedIn
-allowed-self file n d i j a h l = rw (le-ltb i j h, le-ltb j i l) refl
+  -- Of i with itself nothing is allowed.
+  pub allowed-self : (a : ℕ) → j ≤ i → i ≤ j → allowedIn words n d i j a ≡ 0
+  unfolding allowedIn
+  allowed-self a h l = rw (le-ltb i j h, le-ltb j i l) refl
+
+-- The words of a part.
+pub part-at : (l : List ℕ) (at w k : ℕ) → k < w → getD (take ((at + w) - at) (drop at l)) k 0 ≡ getD l (at + k) 0
+part-at l at w k h = getD-take ((at + w) - at) (drop at l) k 0 (omega arith) ∙ getD-drop at l k 0
+
+-- A part is as long as it is to be.
+pub part-long : (l : List ℕ) (at w : ℕ) → at + w ≤ length l → length (take ((at + w) - at) (drop at l)) ≡ w
+part-long l at w h = length-take-le ((at + w) - at) (drop at l) (omega (arith, length-drop at l)) ∙ omega arith
+
+module _ (words : List ℕ) (n d i j at : ℕ) (e : at ≡ 9 + n + trianglePlace n d i j 0) where
+  -- The masks for i below j stand one after the other.
+  mask-row : (a : ℕ) → a < d → getD (take ((at + d) - at) (drop at words)) a 0 ≡ maskIn words n d i j a
+  unfolding maskIn trianglePlace
+  mask-row a h = part-at words at d a h ∙ ap (λ (k : ℕ). getD words k 0) (omega arith)
+
+  -- So they are copied.
+  pub pair-copied : (out : List ℕ) → at + d ≤ 25553 → length words ≡ 25553 → i < j → out ≡ take ((at + d) - at) (drop at words) → out ≡ pairPart words n d i j d
+  unfolding pairPart
+  pair-copied out h w l s =
+      s ∙ sym (map-is (allowedIn words n d i j) d (take ((at + d) - at) (drop at words)) (part-long words at d (omega arith))
+      (λ a q. allowed-above words n d i j a l ∙ sym (mask-row a q)))
+
+  -- The other way round they are turned.
+  pub pair-turned : (out : List ℕ) → at + d ≤ 25553 → length words ≡ 25553 → i < j
+      → out ≡ columnPart (take ((at + d) - at) (drop at words)) (length (take ((at + d) - at) (drop at words))) → out ≡ pairPart words n d j i d
+  unfolding pairPart columnPart columnOf
+  pair-turned out h w l s =
+      let rows : List ℕ = take ((at + d) - at) (drop at words) in
+      s ∙ ap (λ (k : ℕ). map (λ c. gathered k (λ b. bit (getD rows b 0) c)) (below k)) (part-long words at d (omega arith))
+      ∙ map-same (λ c. gathered d (λ b. bit (getD rows b 0) c)) (allowedIn words n d j i) d
+      (λ c q. gathered-same d (λ b. bit (getD rows b 0) c) (λ b. bit (maskIn words n d i j b) c) (λ b k. ap (λ (x : ℕ). bit x c) (mask-row b k))
+      ∙ sym (allowed-below words n d j i c l))
+
+-- Of one with itself they are zeros.
+pub pair-zeros : (words l out : List ℕ) (n d i j : ℕ) → length l ≡ d → j ≤ i → i ≤ j → out ≡ replicate (length l) 0 → out ≡ pairPart words n d i j d
+unfolding pairPart
+pair-zeros words l out n d i j e h k s =
+    s ∙ ap (λ (x : ℕ). replicate {A = ℕ} x 0) e
+    ∙ sym (map-is (allowedIn words n d i j) d (replicate d 0) (length-replicate d 0) (λ a q. allowed-self words n d i j a h k ∙ sym (zeros-at d a)))
+
+-- ---- parts of the words
+
+-- A part that was lent.
+pub part-in : (words out : List ℕ) (from w : ℕ) → out ≡ take ((from + w) - from) (drop from words) → out ≡ partIn words from w
+unfolding partIn
+part-in words out from w e = e
+
+-- The slots, and zeros after them.
+pub slots-in : (words out : List ℕ) (n d m all from : ℕ) → n ≤ 32 → m ≤ 512 → length words ≡ 25553 → from ≡ agendaStart n d → from ≤ 7977
+    → out ≡ take ((from + m * (n + 2)) - from) (drop from words) ++ replicate (all - length (take ((from + m * (n + 2)) - from) (drop from words))) 0
+    → out ≡ slotsPart words n d m all
+unfolding slotsPart partIn
+slots-in words out n d m all from few some long start first e =
+    let within : from + m * (n + 2) ≤ length words = omega (arith, slots-few n m 512 few some (omega arith)) in
+    e ∙ rw (part-long words from (m * (n + 2)) within, start) refl
+
+-- What the words allow at the numbers that the file says is what the file says.
+pub allowed-said : (file words : List ℕ) → ((k : ℕ) → getD words k 0 ≡ contentWord file k) → (i j a : ℕ)
+    → allowedIn words (saidN file) (saidD file) i j a ≡ saidAllowed file i j a
+unfolding saidAllowed allowedIn maskIn
+allowed-said file words says i j a =
+    let n : ℕ = saidN file in
+    let d : ℕ = saidD file in
+    let read : (λ (k : ℕ). getD words k 0) ≡ contentWord file = λ t k. says k t in
+    ap (λ (f : ℕ → ℕ). cond (ltb i j) (f (9 + n + trianglePlace n d i j a))
+    (cond (ltb j i) (gathered d (λ b. bit (f (9 + n + trianglePlace n d j i b)) a)) 0)) read

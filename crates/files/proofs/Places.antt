@@ -1,9 +1,10 @@
 -- The words of a file as the code reads them, and the check that it works out.
 -- Assumes nothing.
-use mathlib.Core.Path.{_≡_, refl, ap, _∙_}
+use mathlib.Core.Path.{_≡_, refl, sym, ap, _∙_}
 use mathlib.Core.List.{List}
 use Prim.Native.Nat.{ℕ, _+_, _-_, _*_, _/_, _%_, _≤_, _<_}
 use native.Mathlib.Omega.{arith}
+use native.Mathlib.Nat.{zero-add}
 use native.Mathlib.Numerals.{add-one}
 use lib.ListN.{length, getD, List·getD-eq-default}
 use Rattle.splits.specs.Problem.{total}
@@ -25,6 +26,11 @@ word-past file k h =
     let high : length file ≤ 2 * k = omega arith in
     let low : length file ≤ 2 * k + 1 = omega arith in
     rw (List·getD-eq-default file 0 high, List·getD-eq-default file 0 low) refl
+
+-- A word of one block.
+pub word-in : (block : List ℕ) (k high low : ℕ) → high ≡ getD block (2 * k) 0 → low ≡ getD block (2 * k + 1) 0 → high * 256 + low ≡ blockWord block 0 k
+unfolding blockWord
+word-in block k high low e h = word-made block k high low e h ∙ ap (wordAt block) (sym (zero-add k))
 
 -- A word of a block has 16 bits.
 pub block-word-small : (file : List ℕ) → ((i : ℕ) → getD file i 0 < 256) → (b k : ℕ) → blockWord file b k < 65536

@@ -1,12 +1,12 @@
 -- Refusal 15 and the refusal of load, put together from the parts that the code works out.
 -- Assumes nothing.
 use mathlib.Core.Path.{_≡_, refl, sym, ap, _∙_}
-use mathlib.Core.Bool.{Bool, true, false, not, cond, _&&_, and-false}
+use mathlib.Core.Bool.{Bool, true, false, not, cond, _&&_}
 use mathlib.Core.List.{List}
 use Prim.Native.Nat.{ℕ, _+_, _-_, _*_, _/_, _^_, _≤_, _<_}
 use native.Mathlib.Omega.{arith}
 use lib.Dec.{eqb, leb, ltb}
-use borrow.Author.Tests.{lt-ltb, le-ltb, le-leb, lt-leb, leb-true, not-true, not-false}
+use borrow.Author.Tests.{lt-ltb, le-ltb, leb-true, not-true, not-false}
 use Rattle.splits.specs.Subproblems.{every}
 use Rattle.splits.proofs.Tests.{and-left, and-right}
 use Rattle.search.specs.Agenda.{slotsIn}
@@ -21,8 +21,6 @@ use Rattle.files.specs.Reading.{
   saidSteps,
   saidChecks,
   saidSubproblems,
-  saidAllowed,
-  saidAgenda,
   saidProblem,
   saidSearch,
   saidWords,
@@ -31,11 +29,11 @@ use Rattle.files.specs.Reading.{
   refusalOfWords,
 }
 use Rattle.files.specs.Calls.{loadRefusal}
-use Rattle.files.specs.Work.Said.{Numbers, maskIn, mirroredIn, allowedIn, domainIn, numbersSaid, zeroIn, filled, domainBelow, maskBelow, pairBelow, rowBelow, agendaStart, wordsOf, agendaIn, regularIn}
+use Rattle.files.specs.Work.Said.{Numbers, numbersSaid, zeroIn, filled, agendaStart, wordsOf, sizedIn}
 use Rattle.files.proofs.Tests.{passed}
 
 -- Tests in a row, in groups.
-grouped : (t a b c d e f : Bool) → (t && a && b && c && d && e && f) ≡ (t && (a && b) && (c && d && e) && f)
+grouped : (t a b c d e f : Bool) → (t && a && b && c && d && e && f) ≡ ((t && (a && b)) && (c && d && e && f))
 grouped false a b c d e f = refl
 grouped true false b c d e f = refl
 grouped true true false c d e f = refl
@@ -44,20 +42,15 @@ grouped true true true true false e f = refl
 grouped true true true true true e f = refl
 
 module _ (file : List ℕ) where
-  -- What the words allow is what they allow at the numbers that they say.
-  pub allowed-said : (i j a : ℕ) → allowedIn file (saidN file) (saidD file) i j a ≡ saidAllowed file i j a
-  unfolding saidAllowed allowedIn maskIn mirroredIn
-  allowed-said i j a = refl
+  -- The tests of 15 past the numbers.
+  rest : Bool
+  rest =
+      every (saidN file) (λ i. ltb (saidProblem file .domain i) (2 ^ saidD file)) && masksBelowTriangle file
+      && allObey (saidProblem file) (saidSearch file .stack) && leb (saidChecks file) (496 * saidSteps file)
 
-  -- The tests of 15, in the groups that the code works out.
-  tests : Bool
-  tests =
-      numbersSaid file && filled file (wordsOf (saidN file) (saidD file) (saidSubproblems file))
-      && regularIn file (saidN file) (saidD file) (saidSubproblems file) && leb (saidChecks file) (496 * saidSteps file)
-
-  -- 15 is given exactly if one fails.
-  words-tests : refusalOfWords file ≡ cond tests 0 15
-  unfolding tests refusalOfWords numbersSaid filled zeroIn regularIn domainBelow domainIn rowBelow pairBelow maskBelow masksBelowTriangle saidAgenda agendaIn agendaStart wordsOf saidAllowed allowedIn maskIn mirroredIn
+  -- 15 is given exactly if a test fails.
+  words-tests : refusalOfWords file ≡ cond (sizedIn file && rest) 0 15
+  unfolding rest refusalOfWords sizedIn numbersSaid filled zeroIn agendaStart wordsOf
   words-tests =
       ap (λ (t : Bool). cond t 0 15)
       (grouped (leb 1 (saidN file) && leb (saidN file) 32 && leb 1 (saidD file) && leb (saidD file) 16 && leb (saidSubproblems file) 512)
@@ -65,42 +58,39 @@ module _ (file : List ℕ) where
       (every (saidN file) (λ i. ltb (saidProblem file .domain i) (2 ^ saidD file))) (masksBelowTriangle file) (allObey (saidProblem file) (saidSearch file .stack))
       (leb (saidChecks file) (496 * saidSteps file)))
 
-  -- The numbers are out of their ranges; the words do not fill the blocks; the rules are broken; the checks are too many; or none of these.
-  pub refused-numbers : (b : Bool) → b ≡ numbersSaid file → not b ≡ true → 15 ≡ refusalOfWords file
-  unfolding tests
-  refused-numbers b e y = sym (words-tests ∙ rw (sym e ∙ not-true b y) refl)
+  -- The numbers are out of their ranges.
+  pub refused-numbers : (b : Bool) → b ≡ numbersSaid file → not b ≡ true → _≡_ {A = ℕ} 15 (cond (sizedIn file) 0 15)
+  unfolding sizedIn
+  refused-numbers b e y = rw (sym e ∙ not-true b y) refl
+
+  -- They are not; the blocks decide.
+  pub sized-blocks : (words : ℕ) (a b : Bool) → a ≡ numbersSaid file → not a ≡ false → words ≡ wordsOf (saidN file) (saidD file) (saidSubproblems file)
+      → b ≡ filled file words → b ≡ sizedIn file
+  unfolding sizedIn
+  sized-blocks words a b e y w f = f ∙ rw (w, sym e ∙ not-false a y) refl
+
+  -- What decides is given.
+  pub sized-given : (b : Bool) → b ≡ sizedIn file → b ≡ true → _≡_ {A = ℕ} 0 (cond (sizedIn file) 0 15)
+  sized-given b e y = rw (sym e ∙ y) refl
+
+  pub sized-not-given : (b : Bool) → b ≡ sizedIn file → b ≡ false → _≡_ {A = ℕ} 15 (cond (sizedIn file) 0 15)
+  sized-not-given b e y = rw (sym e ∙ y) refl
+
+  -- What was found of them, and that 15 is given if they do not fit.
+  pub sized-found : (r : ℕ) → r ≡ cond (sizedIn file) 0 15 → r ≡ 0 → sizedIn file ≡ true
+  sized-found r e z = passed (sizedIn file) 15 (λ x. absurd (omega arith)) (sym e ∙ z)
+
+  pub sized-refused : (r : ℕ) → r ≡ cond (sizedIn file) 0 15 → (r ≡ 0 → ⊥) → r ≡ refusalOfWords file
+  sized-refused r e f = go (sizedIn file) refl
+    where
+      go : (b : Bool) → sizedIn file ≡ b → r ≡ refusalOfWords file
+      go true s = let none : _≡_ {A = ℕ} (cond (sizedIn file) 0 15) 0 = rw s refl in absurd (f (e ∙ none))
+      go false s =
+          let here : _≡_ {A = ℕ} (cond (sizedIn file) 0 15) 15 = rw s refl in
+          let there : _≡_ {A = ℕ} (cond (sizedIn file && rest) 0 15) 15 = rw s refl in
+          e ∙ here ∙ sym (words-tests ∙ there)
 
   module _ (n d m : ℕ) (is-n : n ≡ saidN file) (is-d : d ≡ saidD file) (is-m : m ≡ saidSubproblems file) where
-    said-filled : (words : ℕ) → words ≡ wordsOf n d m → filled file words ≡ filled file (wordsOf (saidN file) (saidD file) (saidSubproblems file))
-    said-filled words e = rw (e, is-n, is-d, is-m) refl
-
-    -- The rules, at the numbers that the file says.
-    said-regular : regularIn file n d m ≡ regularIn file (saidN file) (saidD file) (saidSubproblems file)
-    said-regular = rw (is-n, is-d, is-m) refl
-
-    -- The words do not fill the blocks.
-    pub refused-blocks : (words : ℕ) (b : Bool) → words ≡ wordsOf n d m → b ≡ filled file words → not b ≡ true → 15 ≡ refusalOfWords file
-    unfolding tests
-    refused-blocks words b w e y = sym (words-tests ∙ simp (sym (e ∙ said-filled words w) ∙ not-true b y, and-false))
-
-    -- A rule is broken.
-    pub refused-rules : (b : Bool) → b ≡ regularIn file n d m → not b ≡ true → 15 ≡ refusalOfWords file
-    unfolding tests
-    refused-rules b e y = sym (words-tests ∙ simp (sym (e ∙ said-regular) ∙ not-true b y, and-false))
-
-    -- There are too many checks.
-    pub refused-checks : (steps checks : ℕ) → steps ≡ saidSteps file → checks ≡ saidChecks file → 496 * steps < checks → 15 ≡ refusalOfWords file
-    unfolding tests
-    refused-checks steps checks s k h = sym (words-tests ∙ simp (lt-leb (saidChecks file) (496 * saidSteps file) (rw (s, k) at h), and-false))
-
-    -- All pass.
-    pub accepted : (steps checks words : ℕ) (a b c : Bool) → a ≡ numbersSaid file → not a ≡ false → words ≡ wordsOf n d m → b ≡ filled file words
-        → not b ≡ false → c ≡ regularIn file n d m → not c ≡ false → steps ≡ saidSteps file → checks ≡ saidChecks file → checks ≤ 496 * steps
-        → 0 ≡ refusalOfWords file
-    unfolding tests
-    accepted steps checks words a b c e y w f z g x s k h =
-        sym (words-tests ∙ simp (sym e ∙ not-false a y, sym (f ∙ said-filled words w) ∙ not-false b z, sym (g ∙ said-regular) ∙ not-false c x, le-leb (saidChecks file) (496 * saidSteps file) (rw (s, k) at h)))
-
     -- Numbers in their ranges.
     pub numbers-said : numbersSaid file ≡ true → Numbers n d × (m ≤ 512)
     unfolding numbersSaid
@@ -123,15 +113,18 @@ module _ (file : List ℕ) where
     pub numbers-found : (b : Bool) → b ≡ numbersSaid file → not b ≡ false → Numbers n d × (m ≤ 512)
     numbers-found b e y = numbers-said (sym e ∙ not-false b y)
 
+    -- How many words there are.
+    pub words-said : (words : ℕ) → words ≡ wordsOf n d m → words ≡ wordsOf (saidN file) (saidD file) (saidSubproblems file)
+    words-said words e = e ∙ rw (is-n, is-d, is-m) refl
+
+    -- What was found of the numbers and the blocks.
+    pub sized-numbers : sizedIn file ≡ true → Numbers n d × (m ≤ 512)
+    unfolding sizedIn
+    sized-numbers e = numbers-said (and-left (numbersSaid file) (filled file (wordsOf (saidN file) (saidD file) (saidSubproblems file))) e)
+
     -- What passing 15 leaves of them.
     pub numbers-passed : refusalOfWords file ≡ 0 → Numbers n d × (m ≤ 512)
-    unfolding tests
-    numbers-passed e =
-        let all = passed tests 15 (λ z. absurd (omega arith)) (sym words-tests ∙ e) in
-        let last : Bool = leb (saidChecks file) (496 * saidSteps file) in
-        let blocks : Bool = filled file (wordsOf (saidN file) (saidD file) (saidSubproblems file)) in
-        let rules : Bool = regularIn file (saidN file) (saidD file) (saidSubproblems file) in
-        numbers-said (and-left (numbersSaid file) blocks (and-left (numbersSaid file && blocks) rules (and-left (numbersSaid file && blocks && rules) last all)))
+    numbers-passed e = sized-numbers (and-left (sizedIn file) rest (passed (sizedIn file && rest) 15 (λ z. absurd (omega arith)) (sym words-tests ∙ e)))
 
 -- ---- the refusal of load
 

@@ -5,7 +5,7 @@ use mathlib.Core.Bool.{Bool, true, cond, _&&_}
 use mathlib.Core.List.{List, _++_}
 use Prim.Native.Nat.{ℕ, _+_, _*_, _/_, _%_, _^_, _≤_, _<_}
 use native.Mathlib.Omega.{arith}
-use lib.ListN.{length, getD, drop}
+use lib.ListN.{length, getD, drop, replicate}
 use lib.Dec.{eqb, leb, ltb}
 use borrow.Author.Tests.{lt-ltb, le-ltb, leb-true}
 use Rattle.splits.proofs.Tests.{and-left, and-right}
@@ -20,7 +20,7 @@ use Rattle.files.specs.Work.Saved.{Handed, handed, filePart}
 use Rattle.files.specs.declared.saved.Saved.{Saved}
 use Rattle.files.proofs.Tests.{passed}
 use Rattle.files.proofs.Blocks.{blocks-length}
-use Rattle.files.proofs.Written.{handed-length}
+use Rattle.files.proofs.Written.{handed-length, file-same}
 use Rattle.files.proofs.LoadOutcomes.{given, not-given}
 
 module _ (n d : ℕ) (domains tables agenda : List ℕ) (s : State) where
@@ -128,12 +128,15 @@ module _ (n d : ℕ) (domains tables agenda : List ℕ) (s : State) where
           ∙ ap (λ (x : ℕ). firstBlocks blocks blocks content ++ drop x file) (sym (blocks-length blocks blocks content))
 
       pub save-written : (x : Saved) (after : List ℕ) → 512 * ((words + 252) / 253) ≤ length file → x .refusal ≡ 0 → x .blocks ≡ (words + 252) / 253
-          → after ≡ filePart ((words + 252) / 253) (handed n d domains tables agenda s) ((words + 252) / 253) file → Saves n d domains tables agenda s file after x
+          → (content : List ℕ) (zeros : ℕ) → content ≡ handed n d domains tables agenda s ++ replicate zeros 0
+          → after ≡ filePart ((words + 252) / 253) content ((words + 252) / 253) file → Saves n d domains tables agenda s file after x
       unfolding refusal
-      save-written x after h a b e =
+      save-written x after h a b content zeros c e =
+          let same : after ≡ filePart ((words + 252) / 253) (handed n d domains tables agenda s) ((words + 252) / 253) file =
+          e ∙ ap (λ (l : List ℕ). filePart ((words + 252) / 253) l ((words + 252) / 253) file) c ∙ file-same (handed n d domains tables agenda s) zeros ((words + 252) / 253) file in
           let none : refusal ≡ 0 = last ∙ rw (le-ltb (length file) (512 * ((words + 252) / 253)) h) refl in
           record {
             refusal = a ∙ sym none;
             blocks = given refusal (blocksFor (length (handedContent n d domains tables agenda s))) 0 (x .blocks) none (b ∙ counted-blocks);
-            file = given refusal (fileOf (handedContent n d domains tables agenda s) ++ drop (length (fileOf (handedContent n d domains tables agenda s))) file) file after none (e ∙ written);
+            file = given refusal (fileOf (handedContent n d domains tables agenda s) ++ drop (length (fileOf (handedContent n d domains tables agenda s))) file) file after none (same ∙ written);
           }

@@ -55,13 +55,15 @@ module _ (n d : ℕ) (allowed : Table) where
   pub row : ℕ → List ℕ
   row i = each (λ k. map (allowed i (suc i + k)) (below d)) (below (rest n i))
 
-  triangle-rows : triangle n d allowed ≡ each row (below n)
+  -- All rows are the tables.
+  pub triangle-rows : triangle n d allowed ≡ each row (below n)
   unfolding triangle row
   triangle-rows =
       each-same (λ i. each (λ j. map (allowed i j) (below d)) (after n i)) row n
       (λ i l. ap (each (λ j. map (allowed i j) (below d))) (after-is n i) ∙ each-map (λ j. map (allowed i j) (below d)) (λ k. suc i + k) (below (rest n i)))
 
-  row-length : (i : ℕ) → length (row i) ≡ rest n i * d
+  -- A row has so many words.
+  pub row-length : (i : ℕ) → length (row i) ≡ rest n i * d
   unfolding row
   row-length i =
       each-length (λ k. map (allowed i (suc i + k)) (below d)) (λ k. d) (rest n i) (λ k l. map-length (allowed i (suc i + k)) d) ∙ total-const (rest n i) d
@@ -118,6 +120,20 @@ module _ (n d : ℕ) (allowed : Table) where
           each-same (λ k. map (allowed i (suc i + k)) (below d)) (λ k. seq g (x + total i (λ h. rest n h * d) + total k (λ j. d)) d) (rest n i) (masks i l)
           ∙ seq-each g (x + total i (λ h. rest n h * d)) (λ j. d) (rest n i)
           ∙ ap (seq g (x + total i (λ h. rest n h * d))) (total-const (rest n i) d)
+
+-- In the words of the tables the masks of i with the variables after it stand together.
+pub row-words : (n d : ℕ) (t : List ℕ) (i : ℕ) → row n d (tableOf n d t) i ≡ seq (λ k. getD t k 0) ((i * n + i + 1) * d) (rest n i * d)
+unfolding row tableOf
+row-words n d t i =
+    let g : ℕ → ℕ = λ k. getD t k 0 in
+    let from : ℕ = (i * n + i + 1) * d in
+    let masks : ℕ → ℕ → ℕ = λ k v. getD t ((i * n + (suc i + k)) * d + v) 0 in
+    each-same (λ k. map (masks k) (below d)) (λ k. seq g (from + total k (λ j. d)) d) (rest n i)
+    (λ k l. sym (seq-is g (from + total k (λ j. d)) d (map (masks k) (below d)) (map-length (masks k) d)
+    (λ v m.
+    let place : from + total k (λ j. d) + v ≡ (i * n + (suc i + k)) * d + v = omega (arith, total-const k d) in
+    ap g place ∙ sym (map-at (masks k) d v 0 m))))
+    ∙ seq-each g from (λ j. d) (rest n i) ∙ ap (seq g from) (total-const (rest n i) d)
 
 -- A place lies within the tables.
 pub place-lt : (n d i j a : ℕ) → i < j → j < n → a < d → trianglePlace n d i j a < triangleWords n d

@@ -4,126 +4,180 @@ use mathlib.Core.Path.{_≡_, refl, sym, ap, _∙_}
 use mathlib.Core.List.{List, [], _∷_, _++_, append-assoc, append-nil}
 use Prim.Native.Nat.{ℕ, zero, suc, _+_, _-_, _*_, _/_, _%_, _^_, _≤_, _<_}
 use native.Mathlib.Omega.{arith}
-use native.Mathlib.Nat.{mul-le-mul, mod-lt, div-lt-iff-lt-mul, div-add-mod', lt-irrefl}
+use native.Mathlib.Nat.{mul-le-mul-right, mul-assoc, add-mul}
 use native.Mathlib.Numerals.{add-one}
-use native.Mathlib.Decide.{decLt}
-use lib.ListN.{length, getD, take, drop, set, length-append, length-drop, List·getD-append, List·getD-eq-default}
-use lib.Seq.{getD-append-add, getD-take, length-take-le, take-suc, drop-cons, append-snoc, set-at, take-all, take-at, drop-length}
-use borrow.Rule.Slice.PartMut.{putMid}
+use lib.ListN.{length, getD, take, drop, set, replicate, length-append, length-drop, List·getD-append}
+use lib.Seq.{length-take-le, take-suc, drop-cons, append-snoc, set-at, take-all, take-at, drop-length, ext-getD}
+use borrow.Rule.Slice.PartMut.{putMid, midOf}
 use Rattle.splits.specs.Problem.{total, tableOf}
-use Rattle.splits.specs.Work.Ranges.{Place}
-use Rattle.splits.proofs.Ranges.{Within, in-table}
+use Rattle.splits.specs.Splits.{below}
 use Rattle.search.specs.declared.state.State.{State}
 use Rattle.search.proofs.Encoding.{stack-of-words, length-stackOf}
-use Rattle.files.specs.Blocks.{bytesOf, wordAt, checkOf, headedBlock, blockWords, firstBlocks}
-use Rattle.files.specs.Content.{triangle, contentOf}
-use Rattle.files.specs.Reading.{blockWord, headOf, triangleWords, trianglePlace}
-use Rattle.files.specs.Work.Said.{Numbers}
-use Rattle.files.specs.Work.Saved.{Handed, handed, counted, header, masksBefore, blockPart, filePart}
-use Rattle.files.proofs.Lists.{map-is}
+use Rattle.files.specs.Blocks.{bytesOf, wordAt, checkOf, contentOfBlock, headedBlock, blockWords, firstBlocks}
+use Rattle.files.specs.Content.{each, triangle, contentOf}
+use Rattle.files.specs.Reading.{blockWord, headOf, triangleWords}
+use Rattle.files.specs.Work.Said.{Numbers, agendaStart, wordsOf}
+use Rattle.files.specs.Work.Saved.{Handed, handed, header, Tail, tail, blockPart, filePart}
+use Rattle.files.proofs.Lists.{map-is, each-length, each-none, each-more, total-below, seq, seq-is, padded-at}
 use Rattle.files.proofs.Words.{bytes-length, bytes-append, word-read}
-use Rattle.files.proofs.Triangle.{rest, rest-total, total-mul, triangle-length, triangle-at}
-use Rattle.files.proofs.Blocks.{content-at, headed-length, block-length, block-headed, block-check, blocks-length}
-use Rattle.files.proofs.Filled.{part-more}
+use Rattle.files.proofs.Triangle.{rest, rest-total, total-mul, row, row-length, row-words, triangle-rows, triangle-length}
+use Rattle.files.proofs.Blocks.{content-length, content-at, headed-length, block-length, block-headed, block-check, blocks-length}
+use Rattle.files.proofs.Mirrors.{triangle-few, slots-few, part-at, part-long}
+use Rattle.files.proofs.Filled.{part-more, front-rest, rest-long, tables-few}
 
 -- ---- the words of the tables
 
--- A place in the tables, by rows.
-placed : (n d i left : ℕ) → trianglePlace n d i (i + 1 + left / d) (left % d) ≡ total i (λ x. rest n x * d) + left
-unfolding trianglePlace
-placed n d i left =
-    let back : i + 1 + left / d - suc i ≡ left / d = omega arith in
-    rw (back, total-mul i (rest n) d) (omega (arith, div-add-mod' left d))
+module _ (n d : ℕ) (s : Numbers n d) (t : List ℕ) (long : length t ≡ n * n * d) where
+  -- The rows passed.
+  abbrev pub rows : ℕ → List ℕ
+  rows i = each (row n d (tableOf n d t)) (below i)
 
-module _ (n d : ℕ) (s : Numbers n d) where
-  -- Where word `left` of the masks of i with later variables stands.
-  pub row-place : (i left : ℕ) → i < n → left < (n - suc i) * d → Place n d i (i + 1 + left / d) (left % d)
-  row-place i left h l =
-      let part : left / d < n - suc i = div-lt-iff-lt-mul {k = d} {x = left} {y = n - suc i} (s .some-value) .1 l in
-      record { first = h; second = omega arith; third = mod-lt left (s .some-value) }
+  -- How many words the rows before i have.
+  abbrev pub before : ℕ → ℕ
+  before i = total i (λ h. rest n h * d)
 
-  -- The mask there.
-  pub row-made : (t : List ℕ) (i left : ℕ) → i < n → left < (n - suc i) * d
-      → getD t ((i * n + (i + 1 + left / d)) * d + left % d) 0 ≡ getD (triangle n d (tableOf n d t)) (masksBefore n d i + left) 0
-  unfolding masksBefore tableOf
-  row-made t i left h l =
-      let p = row-place i left h l in
-      let place : trianglePlace n d i (i + 1 + left / d) (left % d) ≡ total i (λ x. rest n x * d) + left = placed n d i left in
-      sym (ap (λ (x : ℕ). getD (triangle n d (tableOf n d t)) x 0) (sym place)
-      ∙ triangle-at n d (tableOf n d t) i (i + 1 + left / d) (left % d) (omega arith) (p .second) (p .third))
+  pub rows-length : (i : ℕ) → length (rows i) ≡ before i
+  rows-length i = each-length (row n d (tableOf n d t)) (λ h. rest n h * d) i (λ h l. row-length n d (tableOf n d t) h)
 
-  -- It lies within the tables.
-  pub row-within : (t : List ℕ) (i left : ℕ) → length t ≡ n * n * d → i < n → left < (n - suc i) * d → Within n d i (i + 1 + left / d) (left % d) t
-  row-within t i left e h l =
-      in-table n d i (i + 1 + left / d) (left % d) t (record { few = s .variables; small = s .values; words = e }) (row-place i left h l)
+  -- All have as many as the tables.
+  pub before-all : before n ≡ triangleWords n d
+  before-all = total-mul n (rest n) d ∙ ap (λ (x : ℕ). x * d) (rest-total n)
 
-  -- The masks of i with later variables are few.
-  pub row-words-few : (i : ℕ) → (n - (i + 1)) * d ≤ 512
-  row-words-few i =
-      let few : n - (i + 1) ≤ 32 = omega (arith, s .variables) in mul-le-mul few (s .values)
+  -- It lies within the tables, in the words to write and in those to read.
+  pub before-within : (i : ℕ) → i < n → before i + (n - (i + 1)) * d ≤ triangleWords n d
+  before-within i h = rw (add-one, ← before-all) (total-below n (λ h. rest n h * d) i h)
 
-  -- Before n stand all the masks.
-  masks-all : masksBefore n d n ≡ triangleWords n d
-  unfolding masksBefore
-  masks-all = total-mul n (rest n) d ∙ ap (λ (x : ℕ). x * d) (rest-total n)
-
-  -- Before 0 stands none.
-  pub masks-none : (k : ℕ) → masksBefore n d 0 + k ≡ k
-  unfolding masksBefore total
-  masks-none k = omega arith
-
-  -- Those of i come next.
-  masks-step : (i : ℕ) → masksBefore n d (suc i) ≡ masksBefore n d i + (n - suc i) * d
-  unfolding masksBefore total
-  masks-step i = refl
-
-  -- Past a row.
-  pub masks-next : (i w left k : ℕ) → i < n → w ≡ (n - suc i) * d → w ≤ left → masksBefore n d i + left ≡ k → k < triangleWords n d
-      → (i + 1 < n) × (masksBefore n d (i + 1) + (left - w) ≡ k)
-  masks-next i w left k h e l inv q =
-      let next : masksBefore n d (i + 1) ≡ masksBefore n d i + w = rw (add-one, e) (masks-step i) in
-      let same : masksBefore n d (i + 1) + (left - w) ≡ k = omega arith in
-      (go (decLt (i + 1) n) same, same)
+  pub from-within : (i : ℕ) → i < n → (i * n + i + 1) * d + (n - (i + 1)) * d ≤ n * n * d
+  from-within i h = let up : (i + 1) * (n * d) ≤ n * (n * d) = mul-le-mul-right (n * d) (omega arith) in omega (arith, from-whole i h)
     where
-      last : i + 1 ≡ n → masksBefore n d (i + 1) + (left - w) ≡ k → triangleWords n d ≤ k
-      last z same = let all : masksBefore n d (i + 1) ≡ triangleWords n d = ap (masksBefore n d) z ∙ masks-all in omega arith
+      from-whole : (i : ℕ) → i < n → (i * n + i + 1) * d + (n - (i + 1)) * d ≡ (i + 1) * (n * d)
+      from-whole i h =
+          let sum : i * n + i + 1 + (n - (i + 1)) ≡ (i + 1) * n = omega arith in
+          sym (add-mul (i * n + i + 1) (n - (i + 1)) d) ∙ ap (λ (x : ℕ). x * d) sum ∙ mul-assoc (i + 1) n d
 
-      go : Dec (i + 1 < n) → masksBefore n d (i + 1) + (left - w) ≡ k → i + 1 < n
-      go (yes y) same = y
-      go (no f) same = absurd (lt-irrefl k (beyond (last (end f) same)))
-        where
-          end : (i + 1 < n → ⊥) → i + 1 ≡ n
-          end g = omega arith
+  -- All of it is few enough to work out.
+  pub record Few (i : ℕ) : Type 0 where
+    pub row-few : (n - (i + 1)) * d ≤ 16384
+    pub square-few : i * n ≤ 1024
+    pub to-few : (i * n + i + 1) * d + (n - (i + 1)) * d ≤ length t
+    pub tables-words : length t ≤ 16384
+    pub end-few : before i + (n - (i + 1)) * d ≤ triangleWords n d
+    pub words-few : triangleWords n d ≤ 7936
 
-          beyond : triangleWords n d ≤ k → k < k
-          beyond g = omega arith
+  pub rows-few : (i : ℕ) → i < n → Few i
+  rows-few i h =
+      let inside = from-within i h in
+      let all = tables-few n d s in
+      let square : i * n ≤ n * n = mul-le-mul-right n (omega arith) in
+      record {
+        row-few = omega (arith, all .1);
+        square-few = omega (arith, all .0);
+        to-few = rw long inside;
+        tables-words = rw long (all .1);
+        end-few = before-within i h;
+        words-few = triangle-few n d s;
+      }
 
-  -- The word that was looked for.
-  pub masks-found : (t : List ℕ) (i left k r : ℕ) → r ≡ getD (triangle n d (tableOf n d t)) (masksBefore n d i + left) 0 → masksBefore n d i + left ≡ k
-      → r ≡ getD (triangle n d (tableOf n d t)) k 0
-  masks-found t i left k r e h = e ∙ ap (λ (x : ℕ). getD (triangle n d (tableOf n d t)) x 0) h
+  -- What was copied is the row.
+  row-copied : (i : ℕ) (ys : List ℕ) → i < n
+      → ys ≡ take (((i * n + i + 1) * d + (n - (i + 1)) * d) - (i * n + i + 1) * d) (drop ((i * n + i + 1) * d) t) → ys ≡ row n d (tableOf n d t) i
+  row-copied i ys h e =
+      let from : ℕ = (i * n + i + 1) * d in
+      let w : ℕ = (n - (i + 1)) * d in
+      let same : w ≡ rest n i * d = rw add-one refl in
+      e ∙ sym (seq-is (λ k. getD t k 0) from w (take ((from + w) - from) (drop from t)) (part-long t from w (rw long (from-within i h))) (λ k l. sym (part-at t from w k l)))
+      ∙ ap (seq (λ k. getD t k 0) from) same ∙ sym (row-words n d t i)
+
+  -- None is written yet.
+  pub rows-none : (l : List ℕ) → l ≡ rows 0 ++ drop 0 l
+  rows-none l = ap (λ (x : List ℕ). x ++ l) (sym (each-none (row n d (tableOf n d t))))
+
+  -- One row more.
+  pub rows-more : (l m ys : List ℕ) (i at : ℕ) → i < n → at ≡ before i → m ≡ rows i ++ drop at l
+      → ys ≡ take (((i * n + i + 1) * d + (n - (i + 1)) * d) - (i * n + i + 1) * d) (drop ((i * n + i + 1) * d) t) → at + (n - (i + 1)) * d ≤ length l
+      → putMid at ((at + (n - (i + 1)) * d) - at) m ys ≡ rows (i + 1) ++ drop (at + (n - (i + 1)) * d) l
+  rows-more l m ys i at h is-at e y k =
+      let size : length (row n d (tableOf n d t) i) ≡ (n - (i + 1)) * d = row-length n d (tableOf n d t) i ∙ rw add-one refl in
+      part-more (rows i) (row n d (tableOf n d t) i) l m ys at ((n - (i + 1)) * d) e (rows-length i ∙ sym is-at) (row-copied i ys h y) size k
+      ∙ rw (add-one, each-more (row n d (tableOf n d t)) i) refl
+
+  -- The memory stays as long.
+  pub rows-kept : (l m : List ℕ) (i at : ℕ) → at ≡ before i → m ≡ rows i ++ drop at l → at ≤ length l → length m ≡ length l
+  rows-kept l m i at is-at e h = ap length e ∙ length-append (rows i) (drop at l) ∙ omega (arith, rows-length i, length-drop at l)
+
+  -- All rows are written.
+  pub rows-end : (l m : List ℕ) (i at : ℕ) → at ≡ before i → m ≡ rows i ++ drop at l → i ≡ n → length l ≡ triangleWords n d → m ≡ triangle n d (tableOf n d t)
+  rows-end l m i at is-at e end size =
+      let last : at ≡ length l = is-at ∙ ap before end ∙ before-all ∙ sym size in
+      e ∙ ap (λ (x : ℕ). rows i ++ drop x l) last ∙ ap (λ (x : List ℕ). rows i ++ x) (drop-length l) ∙ append-nil (rows i) ∙ ap rows end
+      ∙ sym (triangle-rows n d (tableOf n d t))
+
+-- How many words the rows before the next have.
+pub before-next : (n d i at : ℕ) → at ≡ total i (λ h. rest n h * d) → at + (n - (i + 1)) * d ≡ total (i + 1) (λ h. rest n h * d)
+unfolding total
+before-next n d i at e = rw (e, add-one) refl
 
 -- ---- the words of the content
 
--- The words of the counts, after n and d.
-pub header-counted : (n d : ℕ) (s : State) (k r : ℕ) → (k ≡ 0 → ⊥) → (k ≡ 1 → ⊥) → (k ≡ 8 → ⊥) → k < 9 → r ≡ getD (counted s) (k - 2) 0
-    → r ≡ getD (header n d s) k 0
-unfolding header counted
-header-counted n d s zero r f g h l e = absurd (f refl)
-header-counted n d s (suc zero) r f g h l e = absurd (g refl)
-header-counted n d s (suc (suc k)) r f g h l e =
-    let back : suc (suc k) - 2 ≡ k = omega arith in
-    let within : k < length (counted s) = below-six k h l in
-    e ∙ ap (λ (x : ℕ). getD (counted s) x 0) back ∙ sym (List·getD-append (counted s) (s .subproblems ∷ []) 0 k within)
-  where
-    below-six : (k : ℕ) → (suc (suc k) ≡ 8 → ⊥) → suc (suc k) < 9 → k < 6
-    below-six k f h = omega arith
+-- There is room for the subproblems after the masks.
+pub tail-rest : (n d : ℕ) (tables agenda : List ℕ) (m w : ℕ) (l ys : List ℕ) → Tail n d tables agenda m (length l) → w ≡ triangleWords n d
+    → ys ≡ triangle n d (tableOf n d tables)
+    → length (take (m * (n + 2)) agenda) ≤ length (midOf w (length (ys ++ drop w l) - w) (ys ++ drop w l))
+tail-rest n d tables agenda m w l ys fits is-w y =
+    let size : length ys ≡ w = ap length y ∙ triangle-length n d (tableOf n d tables) ∙ sym is-w in
+    let room : w ≤ length l = omega (arith, fits .room) in
+    rw (rest-long l ys w size room, length-take-le (m * (n + 2)) agenda (fits .agenda-words)) (omega (arith, fits .room))
 
--- Past the first of two lists.
-past : (p q : List ℕ) (k : ℕ) → length p ≤ k → getD (p ++ q) k 0 ≡ getD q (k - length p) 0
-past p q k h =
-    let back : k ≡ length p + (k - length p) = omega arith in
-    ap (λ (x : ℕ). getD (p ++ q) x 0) back ∙ getD-append-add p q (k - length p) 0
+-- The masks, then the subproblems with zeros after them.
+pub tail-made : (n d : ℕ) (tables agenda : List ℕ) (m w : ℕ) (l ys zs : List ℕ) → Tail n d tables agenda m (length l) → w ≡ triangleWords n d
+    → ys ≡ triangle n d (tableOf n d tables)
+    → zs ≡ take (m * (n + 2)) agenda ++ replicate (length (midOf w (length (ys ++ drop w l) - w) (ys ++ drop w l)) - length (take (m * (n + 2)) agenda)) 0
+    → putMid w (length (ys ++ drop w l) - w) (ys ++ drop w l) zs ≡ tail n d tables agenda m (length l)
+unfolding tail
+tail-made n d tables agenda m w l ys zs fits is-w y z =
+    let size : length ys ≡ w = ap length y ∙ triangle-length n d (tableOf n d tables) ∙ sym is-w in
+    let room : w ≤ length l = omega (arith, fits .room) in
+    front-rest l ys zs w size room
+    ∙ rw (y, z, rest-long l ys w size room, length-take-le (m * (n + 2)) agenda (fits .agenda-words), is-w) refl
+
+-- There is room for these after the domains.
+pub lists-rest : (n d : ℕ) (domains tables agenda : List ℕ) (m : ℕ) (l ys : List ℕ) → length domains ≡ n → n ≤ length l → Tail n d tables agenda m (length l - n)
+    → ys ≡ domains → Tail n d tables agenda m (length (midOf n (length (ys ++ drop n l) - n) (ys ++ drop n l)))
+lists-rest n d domains tables agenda m l ys e h fits y = rw (rest-long l ys n (ap length y ∙ e) h) fits
+
+-- The domains, then these.
+pub lists-made : (n d : ℕ) (domains tables agenda : List ℕ) (m : ℕ) (l ys zs : List ℕ) → length domains ≡ n → n ≤ length l → ys ≡ domains
+    → zs ≡ tail n d tables agenda m (length (midOf n (length (ys ++ drop n l) - n) (ys ++ drop n l)))
+    → putMid n (length (ys ++ drop n l) - n) (ys ++ drop n l) zs ≡ domains ++ tail n d tables agenda m (length l - n)
+lists-made n d domains tables agenda m l ys zs e h y z =
+    let size : length ys ≡ n = ap length y ∙ e in
+    front-rest l ys zs n size h ∙ rw (y, z, rest-long l ys n size h) refl
+
+-- Nine words come first.
+pub header-long : (n d : ℕ) (s : State) (l : List ℕ) → l ≡ header n d s → length l ≡ 9
+unfolding header
+header-long n d s l e = ap length e
+
+-- There is room for the rest after them.
+pub content-rest : (n d : ℕ) (domains tables agenda : List ℕ) (s : State) → Handed n d domains tables agenda s → (l ys : List ℕ) → length l ≡ 25553 → ys ≡ header n d s
+    → (length domains ≡ n) × ((n ≤ length (midOf 9 (length (ys ++ drop 9 l) - 9) (ys ++ drop 9 l)))
+    × Tail n d tables agenda (s .subproblems) (length (midOf 9 (length (ys ++ drop 9 l) - 9) (ys ++ drop 9 l)) - n))
+content-rest n d domains tables agenda s hands l ys long y =
+    let room : 9 ≤ length l = omega arith in
+    let few = slots-few n (s .subproblems) 512 (hands .numbers .variables) (hands .few) (omega arith) in
+    rw (rest-long l ys 9 (header-long n d s ys y) room) (
+      hands .domains-words,
+      (
+        omega (arith, hands .numbers .variables),
+        record {
+          numbers = hands .numbers;
+          tables-words = hands .tables-words;
+          few = hands .few;
+          agenda-words = hands .agenda-words;
+          room = omega (arith, triangle-few n d (hands .numbers), few, hands .numbers .variables);
+        },
+      ),
+    )
 
 module _ (n d : ℕ) (domains tables agenda : List ℕ) (s : State) (hands : Handed n d domains tables agenda s) (small : (i : ℕ) → getD agenda i 0 < 2 ^ 16) where
   used : ℕ
@@ -135,14 +189,12 @@ module _ (n d : ℕ) (domains tables agenda : List ℕ) (s : State) (hands : Han
 
   -- The content is its four parts, one after the other.
   pub parts : handed n d domains tables agenda s ≡ header n d s ++ domains ++ triangle n d (tableOf n d tables) ++ take (s .subproblems * (n + 2)) agenda
-  unfolding handed header counted contentOf
+  unfolding handed header contentOf
   parts =
       rw (length-stackOf n agenda (s .subproblems), stack-of-words n agenda (s .subproblems) (hands .agenda-words) small) refl
 
-  -- Nine words come first.
   header-length : length (header n d s) ≡ 9
-  unfolding header counted
-  header-length = refl
+  header-length = header-long n d s (header n d s) refl
 
   -- The masks are so many words.
   masks-length : length masks ≡ triangleWords n d
@@ -167,51 +219,18 @@ module _ (n d : ℕ) (domains tables agenda : List ℕ) (s : State) (hands : Han
   unfolding used masks
   handed-length = ap length parts ∙ length-append (header n d s ++ domains ++ masks) (take used agenda) ∙ omega (arith, three, used-length)
 
-  -- A word of the header.
-  pub header-at : (k r : ℕ) → k < 9 → r ≡ getD (header n d s) k 0 → r ≡ getD (handed n d domains tables agenda s) k 0
-  unfolding used masks
-  header-at k r h e =
-      e ∙ sym (ap (λ (l : List ℕ). getD l k 0) parts
-      ∙ List·getD-append (header n d s ++ domains ++ masks) (take used agenda) 0 k (omega (arith, three))
-      ∙ List·getD-append (header n d s ++ domains) masks 0 k (omega (arith, two))
-      ∙ List·getD-append (header n d s) domains 0 k (omega (arith, header-length)))
-
-  -- A word of the domains.
-  pub domains-at : (k : ℕ) → 9 ≤ k → k - 9 < n → getD domains (k - 9) 0 ≡ getD (handed n d domains tables agenda s) k 0
-  unfolding used masks
-  domains-at k h l =
-      sym (ap (λ (l : List ℕ). getD l k 0) parts
-      ∙ List·getD-append (header n d s ++ domains ++ masks) (take used agenda) 0 k (omega (arith, three))
-      ∙ List·getD-append (header n d s ++ domains) masks 0 k (omega (arith, two))
-      ∙ past (header n d s) domains k (omega (arith, header-length)) ∙ ap (λ (x : ℕ). getD domains (k - x) 0) header-length)
-
-  -- With w, the number of words of the tables, worked out before.
-  module _ (w : ℕ) (is-w : w ≡ triangleWords n d) where
-    pub masks-at : (k r : ℕ) → 9 ≤ k → n ≤ k - 9 → k - 9 - n < w → r ≡ getD (triangle n d (tableOf n d tables)) (k - 9 - n) 0
-        → r ≡ getD (handed n d domains tables agenda s) k 0
-    unfolding used masks
-    masks-at k r h l q e =
-        let place : k - length (header n d s ++ domains) ≡ k - 9 - n = omega (arith, two) in
-        e ∙ sym (ap (λ (l : List ℕ). getD l k 0) parts
-        ∙ List·getD-append (header n d s ++ domains ++ masks) (take used agenda) 0 k (omega (arith, three))
-        ∙ past (header n d s ++ domains) masks k (omega (arith, two)) ∙ ap (λ (x : ℕ). getD masks x 0) place)
-
-    -- A word of the agenda.
-    pub agenda-at : (k : ℕ) → 9 ≤ k → n ≤ k - 9 → w ≤ k - 9 - n → k - 9 - n - w < s .subproblems * (n + 2)
-        → getD agenda (k - 9 - n - w) 0 ≡ getD (handed n d domains tables agenda s) k 0
-    unfolding used masks
-    agenda-at k h l q p =
-        let place : k - length (header n d s ++ domains ++ masks) ≡ k - 9 - n - w = omega (arith, three) in
-        sym (ap (λ (l : List ℕ). getD l k 0) parts
-        ∙ past (header n d s ++ domains ++ masks) (take used agenda) k (omega (arith, three)) ∙ ap (λ (x : ℕ). getD (take used agenda) x 0) place
-        ∙ getD-take used agenda (k - 9 - n - w) 0 p)
-
-    -- Past the end.
-    pub none-at : (k : ℕ) → 9 ≤ k → n ≤ k - 9 → w ≤ k - 9 - n → s .subproblems * (n + 2) ≤ k - 9 - n - w
-        → 0 ≡ getD (handed n d domains tables agenda s) k 0
-    none-at k h l q p =
-        let end : length (handed n d domains tables agenda s) ≤ k = omega (arith, handed-length) in
-        sym (List·getD-eq-default (handed n d domains tables agenda s) 0 end)
+  -- The header, then the rest: the content, and zeros after it.
+  pub content-made : (l ys zs : List ℕ) → length l ≡ 25553 → ys ≡ header n d s
+      → zs ≡ domains ++ tail n d tables agenda (s .subproblems) (length (midOf 9 (length (ys ++ drop 9 l) - 9) (ys ++ drop 9 l)) - n)
+      → putMid 9 (length (ys ++ drop 9 l) - 9) (ys ++ drop 9 l) zs
+      ≡ handed n d domains tables agenda s ++ replicate (25553 - wordsOf n d (s .subproblems)) 0
+  unfolding tail wordsOf agendaStart
+  content-made l ys zs long y z =
+      let size : length ys ≡ 9 = ap length y ∙ header-length in
+      let room : 9 ≤ length l = omega arith in
+      let left : ℕ = 25553 - (9 + n + triangleWords n d + s .subproblems * (n + 2)) in
+      let same : length l - 9 - n - triangleWords n d - s .subproblems * (n + 2) ≡ left = omega arith in
+      front-rest l ys zs 9 size room ∙ rw (y, z, rest-long l ys 9 size room, same, parts) (simp append-assoc)
 
 -- ---- the words of a block
 
@@ -357,3 +376,24 @@ module _ (blocks : ℕ) (content : List ℕ) where
   -- All blocks are written.
   pub file-end : (l m : List ℕ) (b : ℕ) → m ≡ filePart blocks content b l → b ≡ blocks → m ≡ filePart blocks content blocks l
   file-end l m b e h = e ∙ ap (λ (x : ℕ). filePart blocks content x l) h
+
+-- ---- zeros after the content
+
+module _ (c : List ℕ) (z : ℕ) where
+  -- They add nothing to a block's content.
+  content-same : (b : ℕ) → contentOfBlock (c ++ replicate z 0) b ≡ contentOfBlock c b
+  content-same b =
+      ext-getD 0 (contentOfBlock (c ++ replicate z 0) b) (contentOfBlock c b) (content-length (c ++ replicate z 0) b ∙ sym (content-length c b))
+      (λ k l.
+      let few : k < 253 = omega (arith, content-length (c ++ replicate z 0) b) in
+      content-at (c ++ replicate z 0) b k few ∙ padded-at c z (b * 253 + k) ∙ sym (content-at c b k few))
+
+  first-same : (m blocks : ℕ) → firstBlocks m blocks (c ++ replicate z 0) ≡ firstBlocks m blocks c
+  unfolding firstBlocks blockWords headedBlock
+  first-same zero blocks = refl
+  first-same (suc m) blocks = rw (first-same m blocks, content-same m) refl
+
+  -- So the blocks are those of the content.
+  pub file-same : (blocks : ℕ) (l : List ℕ) → filePart blocks (c ++ replicate z 0) blocks l ≡ filePart blocks c blocks l
+  unfolding filePart
+  file-same blocks l = rw (first-same blocks blocks) refl

@@ -1,7 +1,7 @@
 // Bytes, words and blocks of a file.
 ghost use mathlib.Core.Path.{_≡_};
 ghost use Prim.Native.Nat.{_+_, _*_, _/_, _%_, _<_};
-ghost use lib.ListN.{getD};
+ghost use lib.ListN.{length, getD};
 ghost use Rattle.files.specs.Blocks.{wordAt};
 ghost use Rattle.files.specs.Reading.{blockWord, contentWord};
 
@@ -13,11 +13,11 @@ fn wide(byte: u8) -> u16
 }
 
 // The byte at a place; 0 past the end.
-fn byte(file: &[u8], at: usize) -> u16
-    ensures { λ r. ⌜ (r ≡ getD (now (file .entry)) at 0) × (r < 256) ⌝ }
+pub(crate) fn byte(file: &[u8], at: usize) -> u8
+    ensures { λ r. ⌜ r ≡ getD (now (file .entry)) at 0 ⌝ }
 {
     if at < file.len() {
-        return wide(file[at]);
+        return file[at];
     }
     0
 }
@@ -27,7 +27,7 @@ fn word(file: &[u8], k: usize) -> u16
     ensures { λ r. ⌜ r ≡ wordAt (now (file .entry)) k ⌝ }
 {
     if k < file.len() {
-        return byte(file, 2 * k) * 256 + byte(file, 2 * k + 1);
+        return wide(byte(file, 2 * k)) * 256 + wide(byte(file, 2 * k + 1));
     }
     0
 }
@@ -46,4 +46,12 @@ pub(crate) fn content_word(file: &[u8], k: usize) -> u16
     ensures { λ r. ⌜ r ≡ contentWord (now (file .entry)) k ⌝ }
 {
     block_word(file, k / 253, 2 + k % 253)
+}
+
+// Word `k` of one block.
+pub(crate) fn word_in(block: &[u8], k: usize) -> u16
+    requires { ⌜ (length (now block) ≡ 512) × (k < 256) ⌝ }
+    ensures { λ r. ⌜ r ≡ blockWord (now (block .entry)) 0 k ⌝ }
+{
+    wide(block[2 * k]) * 256 + wide(block[2 * k + 1])
 }

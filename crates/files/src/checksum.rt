@@ -1,21 +1,25 @@
 // The check of a block: the ones' complement checksum of RFC 1071 over the 255 words before it.
 use crate::block;
 ghost use mathlib.Core.Path.{_≡_};
+ghost use mathlib.Core.List.{map};
 ghost use Prim.Native.Nat.{_+_, _/_, _%_, _<_};
+ghost use lib.ListN.{length};
 ghost use Rattle.splits.specs.Problem.{total};
+ghost use Rattle.splits.specs.Splits.{below};
 ghost use Rattle.files.specs.Blocks.{checkOf};
 ghost use Rattle.files.specs.Reading.{blockWord, headOf};
 ghost use Rattle.files.specs.Calls.{Check-of};
+ghost use Rattle.files.specs.Work.Said.{byteOf};
 
-// The sum of the words before the check of block `b`.
-fn sum(file: &[u8], b: usize) -> u32
-    requires { ⌜ b < 65536 ⌝ }
-    ensures { λ r. ⌜ r ≡ total 255 (blockWord (now (file .entry)) b) ⌝ }
+// The sum of the words of a block before its check.
+fn sum(block: &[u8]) -> u32
+    requires { ⌜ length (now block) ≡ 512 ⌝ }
+    ensures { λ r. ⌜ r ≡ total 255 (blockWord (now (block .entry)) 0) ⌝ }
 {
     let mut sum: u32 = 0;
     let mut k = 0;
     while k < 255 {
-        sum += block::block_word(file, b, k) as u32;
+        sum += block::word_in(block, k) as u32;
         k += 1;
     }
     sum
@@ -28,18 +32,32 @@ fn folded(sum: u32) -> u32
     sum % 65536 + sum / 65536
 }
 
-// The check that block `b` is to have.
-pub(crate) fn check(file: &[u8], b: usize) -> u16
-    requires { ⌜ b < 65536 ⌝ }
-    ensures { λ r. ⌜ r ≡ checkOf (headOf (now (file .entry)) b) ⌝ }
+// The check that a block is to have.
+pub(crate) fn check(block: &[u8]) -> u16
+    requires { ⌜ length (now block) ≡ 512 ⌝ }
+    ensures { λ r. ⌜ r ≡ checkOf (headOf (now (block .entry)) 0) ⌝ }
 {
-    let sum = folded(folded(sum(file, b)));
+    let sum = folded(folded(sum(block)));
     65535 - (sum as u16)
+}
+
+// The bytes as one block: the first 512, or all and zeros after them.
+fn as_block(bytes: &[u8]) -> [u8; 512]
+    ensures { λ r. ⌜ r ≡ map (byteOf (now (bytes .entry))) (below 512) ⌝ }
+{
+    let mut block = [0u8; 512];
+    let mut i = 0;
+    while i < 512 {
+        block[i] = block::byte(bytes, i);
+        i += 1;
+    }
+    block
 }
 
 // The check of one block, or of any words: words past the end of the bytes are 0, and add nothing.
 pub fn check_of(block: &[u8]) -> u16
     ensures { λ r. ⌜ Check-of (now (block .entry)) r ⌝ }
 {
-    check(block, 0)
+    let whole = as_block(block);
+    check(&whole[..512])
 }

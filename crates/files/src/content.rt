@@ -1,14 +1,16 @@
-// The content of a saved search, word by word.
+// The content of a saved search: how many words it has, and the words.
+use crate::filling;
 use crate::said;
 use search::state::State;
 ghost use mathlib.Core.Path.{_≡_};
-ghost use Prim.Native.Nat.{_+_, suc, _-_, _*_, _/_, _%_, _<_, _≤_};
-ghost use lib.ListN.{length, getD};
+ghost use mathlib.Core.List.{_++_};
+ghost use Prim.Native.Nat.{_+_, _-_, _*_, _≤_};
+ghost use lib.ListN.{length, replicate};
 ghost use Rattle.splits.specs.Problem.{tableOf};
 ghost use Rattle.files.specs.Content.{triangle};
 ghost use Rattle.files.specs.Reading.{triangleWords};
 ghost use Rattle.files.specs.Work.Said.{Numbers, agendaStart, wordsOf};
-ghost use Rattle.files.specs.Work.Saved.{Handed, handed, counted, header, masksBefore};
+ghost use Rattle.files.specs.Work.Saved.{Handed, handed, header, Tail, tail};
 
 // How many words of a content come before its agenda.
 pub(crate) fn agenda_from(n: usize, d: usize) -> usize
@@ -26,107 +28,101 @@ pub(crate) fn words(n: usize, d: usize, subproblems: usize) -> usize
     agenda_from(n, d) + subproblems * (n + 2)
 }
 
-// Word `k` of the counts: two of the steps and four of the checks, high first.
-fn counted_word(state: State, k: usize) -> u16
-    requires { ⌜ k < 6 ⌝ }
-    ensures { λ r. ⌜ r ≡ getD (counted state) k 0 ⌝ }
+// The nine words before the domains: n, d, the steps in two words and the checks in four, high first, the number of subproblems.
+fn header(n: usize, d: usize, state: State) -> [u16; 9]
+    requires { ⌜ Numbers n d × (state .subproblems ≤ 512) ⌝ }
+    ensures { λ r. ⌜ r ≡ header n d state ⌝ }
 {
     let steps = state.counts.steps.0;
     let checks = state.counts.checks.0;
-    if k == 0 {
-        return (steps / 65536) as u16;
-    }
-    if k == 1 {
-        return (steps % 65536) as u16;
-    }
-    if k == 2 {
-        return (checks / 281474976710656) as u16;
-    }
-    if k == 3 {
-        return (checks / 4294967296 % 65536) as u16;
-    }
-    if k == 4 {
-        return (checks / 65536 % 65536) as u16;
-    }
-    (checks % 65536) as u16
+    [
+        n as u16,
+        d as u16,
+        (steps / 65536) as u16,
+        (steps % 65536) as u16,
+        (checks / 281474976710656) as u16,
+        (checks / 4294967296 % 65536) as u16,
+        (checks / 65536 % 65536) as u16,
+        (checks % 65536) as u16,
+        state.subproblems as u16,
+    ]
 }
 
-// Word `k` of the nine before the domains.
-fn header_word(n: usize, d: usize, state: State, k: usize) -> u16
-    requires { ⌜ Numbers n d × ((state .subproblems ≤ 512) × (k < 9)) ⌝ }
-    ensures { λ r. ⌜ r ≡ getD (header n d state) k 0 ⌝ }
-{
-    if k == 0 {
-        return n as u16;
-    }
-    if k == 1 {
-        return d as u16;
-    }
-    if k == 8 {
-        return state.subproblems as u16;
-    }
-    counted_word(state, k - 2)
-}
-
-// How many masks `i` has with the variables after it.
-fn row_words(n: usize, d: usize, i: usize) -> usize
-    requires { ⌜ Numbers n d × (i < n) ⌝ }
-    ensures { λ r. ⌜ r ≡ (n - suc i) * d ⌝ }
-{
-    (n - (i + 1)) * d
-}
-
-// Word `left` of the masks of `i` with the variables after it.
-fn row_word(n: usize, d: usize, tables: &[u16], i: usize, left: usize) -> u16
-    requires { ⌜ Numbers n d × ((length (now tables) ≡ n * n * d) × ((i < n) × (left < (n - suc i) * d))) ⌝ }
-    ensures { λ r. ⌜ r ≡ getD (triangle n d (tableOf n d (now (tables .entry)))) (masksBefore n d i + left) 0 ⌝ }
-{
-    let j = i + 1 + left / d;
-    tables[(i * n + j) * d + left % d]
-}
-
-// Word `k` of the masks for i below j.
-fn triangle_word(n: usize, d: usize, tables: &[u16], k: usize) -> u16
-    requires { ⌜ Numbers n d × ((length (now tables) ≡ n * n * d) × (k < triangleWords n d)) ⌝ }
-    ensures { λ r. ⌜ r ≡ getD (triangle n d (tableOf n d (now (tables .entry)))) k 0 ⌝ }
+// The masks for `i` below `j`: of each variable those with the variables after it, which stand together.
+fn put_masks(n: usize, d: usize, tables: &[u16], words: &mut [u16])
+    requires { ⌜ Numbers n d × ((length (now tables) ≡ n * n * d) × (length (now words) ≡ triangleWords n d)) ⌝ }
+    ensures { λ r. ⌜ now (words .exit) ≡ triangle n d (tableOf n d (now (tables .entry))) ⌝ }
 {
     let mut i = 0;
-    let mut left = k;
-    while row_words(n, d, i) <= left {
-        left -= row_words(n, d, i);
+    let mut at = 0;
+    while i < n {
+        let row = (n - (i + 1)) * d;
+        let from = (i * n + i + 1) * d;
+        let to = from + row;
+        let end = at + row;
+        filling::put_words(&tables[from..to], &mut words[at..end]);
+        at = end;
         i += 1;
     }
-    row_word(n, d, tables, i, left)
 }
 
-// Word `k` of the content; 0 past its end.
-pub(crate) fn word(
+// The masks, the subproblems and zeros.
+fn put_tail(
+    n: usize,
+    d: usize,
+    tables: &[u16],
+    agenda: &[u16],
+    subproblems: usize,
+    words: &mut [u16],
+)
+    requires { ⌜ Tail n d (now tables) (now agenda) subproblems (length (now words)) ⌝ }
+    ensures { λ r. ⌜ now (words .exit) ≡ tail n d (now (tables .entry)) (now (agenda .entry)) subproblems (length (now (words .entry))) ⌝ }
+{
+    let masks = said::triangle_words(n, d);
+    let used = subproblems * (n + 2);
+    put_masks(n, d, tables, &mut words[..masks]);
+    filling::put_padded(&agenda[..used], &mut words[masks..]);
+}
+
+// The domains before them.
+fn put_lists(
+    n: usize,
+    d: usize,
+    domains: &[u16],
+    tables: &[u16],
+    agenda: &[u16],
+    subproblems: usize,
+    words: &mut [u16],
+)
+    requires { ⌜ (length (now domains) ≡ n) × ((n ≤ length (now words)) × Tail n d (now tables) (now agenda) subproblems (length (now words) - n)) ⌝ }
+    ensures { λ r. ⌜ now (words .exit) ≡ now (domains .entry) ++ tail n d (now (tables .entry)) (now (agenda .entry)) subproblems (length (now (words .entry)) - n) ⌝ }
+{
+    filling::put_words(domains, &mut words[..n]);
+    put_tail(n, d, tables, agenda, subproblems, &mut words[n..]);
+}
+
+// The whole content, and zeros after it.
+pub(crate) fn put(
     n: usize,
     d: usize,
     domains: &[u16],
     tables: &[u16],
     agenda: &[u16],
     state: State,
-    k: usize,
-) -> u16
-    requires { ⌜ Handed n d (now domains) (now tables) (now agenda) state ⌝ }
-    ensures { λ r. ⌜ r ≡ getD (handed n d (now (domains .entry)) (now (tables .entry)) (now (agenda .entry)) state) k 0 ⌝ }
+    words: &mut [u16],
+)
+    requires { ⌜ Handed n d (now domains) (now tables) (now agenda) state × (length (now words) ≡ 25553) ⌝ }
+    ensures { λ r. ⌜ now (words .exit) ≡ handed n d (now (domains .entry)) (now (tables .entry)) (now (agenda .entry)) state ++ replicate (25553 - wordsOf n d (state .subproblems)) 0 ⌝ }
 {
-    if k < 9 {
-        return header_word(n, d, state, k);
-    }
-    let past_header = k - 9;
-    if past_header < n {
-        return domains[past_header];
-    }
-    let past_domains = past_header - n;
-    let masks = said::triangle_words(n, d);
-    if past_domains < masks {
-        return triangle_word(n, d, tables, past_domains);
-    }
-    let past_masks = past_domains - masks;
-    if past_masks < state.subproblems * (n + 2) {
-        return agenda[past_masks];
-    }
-    0
+    let first = header(n, d, state);
+    filling::put_words(&first[..9], &mut words[..9]);
+    put_lists(
+        n,
+        d,
+        domains,
+        tables,
+        agenda,
+        state.subproblems,
+        &mut words[9..],
+    );
 }

@@ -1,21 +1,22 @@
-// What load writes into lent memory.
+// What load writes: the content of a file in words, the tables in full, and the lent memory.
 use crate::block;
 use crate::content;
 use crate::said;
 ghost use mathlib.Core.Path.{_≡_};
-ghost use Prim.Native.Nat.{_+_, _*_, _<_, _≤_};
+ghost use mathlib.Core.List.{_++_};
+ghost use Prim.Native.Nat.{_+_, _-_, _*_, _/_, _<_, _≤_};
 ghost use lib.ListN.{length, replicate};
 ghost use Rattle.files.specs.Reading.{contentFrom};
-ghost use Rattle.files.specs.Work.Said.{Numbers, pairPart, rowPart, tablePart, filledAgenda};
+ghost use Rattle.files.specs.Work.Said.{Numbers, columnPart, pairPart, rowPart, tablePart, partIn, slotsPart, Lent};
 
-// Words of the content from one on.
-pub(crate) fn put_words(file: &[u8], from: usize, words: &mut [u16])
-    requires { ⌜ from + length (now words) < 65536 ⌝ }
-    ensures { λ r. ⌜ now (words .exit) ≡ contentFrom (now (file .entry)) from (length (now (words .entry))) ⌝ }
+// A copy.
+pub(crate) fn put_words(words: &[u16], out: &mut [u16])
+    requires { ⌜ length (now words) ≡ length (now out) ⌝ }
+    ensures { λ r. ⌜ now (out .exit) ≡ now (words .entry) ⌝ }
 {
     let mut i = 0;
     while i < words.len() {
-        words[i] = block::content_word(file, from + i);
+        out[i] = words[i];
         i += 1;
     }
 }
@@ -31,52 +32,133 @@ fn put_zeros(words: &mut [u16])
     }
 }
 
-// The masks of two variables.
-fn put_pair(file: &[u8], n: usize, d: usize, i: usize, j: usize, words: &mut [u16])
-    requires { ⌜ Numbers n d × ((i < n) × ((j < n) × (length (now words) ≡ d))) ⌝ }
-    ensures { λ r. ⌜ now (words .exit) ≡ pairPart (now (file .entry)) n d i j d ⌝ }
+// A copy, and zeros after it.
+pub(crate) fn put_padded(words: &[u16], out: &mut [u16])
+    requires { ⌜ length (now words) ≤ length (now out) ⌝ }
+    ensures { λ r. ⌜ now (out .exit) ≡ now (words .entry) ++ replicate (length (now (out .entry)) - length (now (words .entry))) 0 ⌝ }
 {
-    let mut a = 0;
-    while a < d {
-        words[a] = said::allowed(file, n, d, i, j, a);
-        a += 1;
+    let used = words.len();
+    put_words(words, &mut out[..used]);
+    put_zeros(&mut out[used..]);
+}
+
+// The words of a block's content.
+fn put_block(block: &[u8], words: &mut [u16])
+    requires { ⌜ (length (now block) ≡ 512) × (length (now words) ≡ 253) ⌝ }
+    ensures { λ r. ⌜ now (words .exit) ≡ contentFrom (now (block .entry)) 0 253 ⌝ }
+{
+    let mut k = 0;
+    while k < 253 {
+        words[k] = block::word_in(block, 2 + k);
+        k += 1;
     }
 }
 
+// The words of the content of so many blocks.
+fn put_blocks(file: &[u8], blocks: usize, words: &mut [u16])
+    requires { ⌜ (length (now file) ≡ blocks * 512) × ((blocks ≤ 101) × (length (now words) ≡ blocks * 253)) ⌝ }
+    ensures { λ r. ⌜ now (words .exit) ≡ contentFrom (now (file .entry)) 0 (blocks * 253) ⌝ }
+{
+    let mut b = 0;
+    while b < blocks {
+        let at = b * 512;
+        let end = at + 512;
+        let to = b * 253;
+        let last = to + 253;
+        put_block(&file[at..end], &mut words[to..last]);
+        b += 1;
+    }
+}
+
+// The words of a file's content, and zeros after them.
+pub(crate) fn put_content(file: &[u8], words: &mut [u16])
+    requires { ⌜ (length (now file) ≡ length (now file) / 512 * 512) × ((length (now file) / 512 ≤ 101) × (length (now words) ≡ 25553)) ⌝ }
+    ensures { λ r. ⌜ now (words .exit) ≡ contentFrom (now (file .entry)) 0 25553 ⌝ }
+{
+    let blocks = file.len() / 512;
+    let used = blocks * 253;
+    put_blocks(file, blocks, &mut words[..used]);
+    put_zeros(&mut words[used..]);
+}
+
+// Rows for columns: the masks of two variables the other way round.
+fn put_turned(rows: &[u16], columns: &mut [u16])
+    requires { ⌜ (length (now rows) ≤ 16) × (length (now columns) ≡ length (now rows)) ⌝ }
+    ensures { λ r. ⌜ now (columns .exit) ≡ columnPart (now (rows .entry)) (length (now (rows .entry))) ⌝ }
+{
+    let mut all = [0u16; 16];
+    put_padded(rows, &mut all[..16]);
+    let turned = search::matrix::turned(all);
+    let count = columns.len();
+    put_words(&turned[..count], columns);
+}
+
+// The masks of two variables, zeros of one with itself.
+fn put_pair(words: &[u16], n: usize, d: usize, i: usize, j: usize, masks: &mut [u16])
+    requires { ⌜ Numbers n d × ((i < n) × ((j < n) × ((length (now words) ≡ 25553) × (length (now masks) ≡ d)))) ⌝ }
+    ensures { λ r. ⌜ now (masks .exit) ≡ pairPart (now (words .entry)) n d i j d ⌝ }
+{
+    if i < j {
+        let at = said::place(n, d, i, j);
+        let end = at + d;
+        put_words(&words[at..end], masks);
+        return;
+    }
+    if j < i {
+        let at = said::place(n, d, j, i);
+        let end = at + d;
+        put_turned(&words[at..end], masks);
+        return;
+    }
+    put_zeros(masks);
+}
+
 // The masks of a variable with every other.
-fn put_row(file: &[u8], n: usize, d: usize, i: usize, words: &mut [u16])
-    requires { ⌜ Numbers n d × ((i < n) × (length (now words) ≡ n * d)) ⌝ }
-    ensures { λ r. ⌜ now (words .exit) ≡ rowPart (now (file .entry)) n d i n ⌝ }
+fn put_row(words: &[u16], n: usize, d: usize, i: usize, masks: &mut [u16])
+    requires { ⌜ Numbers n d × ((i < n) × ((length (now words) ≡ 25553) × (length (now masks) ≡ n * d))) ⌝ }
+    ensures { λ r. ⌜ now (masks .exit) ≡ rowPart (now (words .entry)) n d i n ⌝ }
 {
     let mut j = 0;
     while j < n {
         let at = j * d;
         let end = at + d;
-        put_pair(file, n, d, i, j, &mut words[at..end]);
+        put_pair(words, n, d, i, j, &mut masks[at..end]);
         j += 1;
     }
 }
 
-// The tables, zeros for a variable with itself.
-pub(crate) fn put_tables(file: &[u8], n: usize, d: usize, words: &mut [u16])
-    requires { ⌜ Numbers n d × (length (now words) ≡ n * n * d) ⌝ }
-    ensures { λ r. ⌜ now (words .exit) ≡ tablePart (now (file .entry)) n d n ⌝ }
+// The tables, from the words of a content.
+pub(crate) fn put_tables(words: &[u16], n: usize, d: usize, masks: &mut [u16])
+    requires { ⌜ Numbers n d × ((length (now words) ≡ 25553) × (length (now masks) ≡ n * n * d)) ⌝ }
+    ensures { λ r. ⌜ now (masks .exit) ≡ tablePart (now (words .entry)) n d n ⌝ }
 {
     let mut i = 0;
     while i < n {
         let at = i * (n * d);
         let end = at + n * d;
-        put_row(file, n, d, i, &mut words[at..end]);
+        put_row(words, n, d, i, &mut masks[at..end]);
         i += 1;
     }
 }
 
-// The subproblems, the bottom first, and zeros after them.
-pub(crate) fn put_agenda(file: &[u8], n: usize, d: usize, subproblems: usize, words: &mut [u16])
-    requires { ⌜ Numbers n d × ((subproblems ≤ 512) × (subproblems * (n + 2) ≤ length (now words))) ⌝ }
-    ensures { λ r. ⌜ now (words .exit) ≡ filledAgenda (now (file .entry)) n d subproblems (length (now (words .entry))) ⌝ }
+// The domains, the tables and the agenda into the lent memory, zeros after the subproblems.
+pub(crate) fn put_search(
+    words: &[u16],
+    all: &[u16],
+    n: usize,
+    d: usize,
+    subproblems: usize,
+    domains: &mut [u16],
+    tables: &mut [u16],
+    agenda: &mut [u16],
+)
+    requires { ⌜ Lent (now words) (now all) n d subproblems (now domains) (now tables) (now agenda) ⌝ }
+    ensures { λ r. ⌜ (now (domains .exit) ≡ partIn (now (words .entry)) 9 n) × ((now (tables .exit) ≡ now (all .entry)) × (now (agenda .exit) ≡ slotsPart (now (words .entry)) n d subproblems (length (now (agenda .entry))))) ⌝ }
 {
-    let used = subproblems * (n + 2);
-    put_words(file, content::agenda_from(n, d), &mut words[..used]);
-    put_zeros(&mut words[used..]);
+    let last = 9 + n;
+    put_words(&words[9..last], domains);
+    put_words(all, tables);
+    let from = content::agenda_from(n, d);
+    let end = from + subproblems * (n + 2);
+    put_padded(&words[from..end], agenda);
 }

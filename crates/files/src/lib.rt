@@ -5,13 +5,15 @@ use search::state::Checks;
 use search::state::Counts;
 use search::state::State;
 use search::state::Steps;
+ghost use mathlib.Core.Path.{_≡_};
+ghost use lib.ListN.{length};
 ghost use Rattle.files.specs.Calls.{Saves, Loads};
+ghost use Rattle.files.specs.Work.Said.{Refused, Read, Ready};
 
 pub mod block;
 pub mod checksum;
 pub mod content;
 pub mod filling;
-pub mod obeying;
 pub mod reading;
 pub mod said;
 pub mod saved;
@@ -40,38 +42,103 @@ pub fn save(
             blocks: 0,
         };
     }
-    writing::put_blocks(n, d, domains, tables, agenda, state, blocks, file);
+    let mut words = room_for_content();
+    content::put(n, d, domains, tables, agenda, state, &mut words[..25553]);
+    writing::put_blocks(&words[..25553], blocks, file);
     Saved { refusal: 0, blocks }
+}
+
+// Nothing but a refusal.
+fn refuse(refusal: u32) -> Loaded
+    ensures { λ r. ⌜ Refused refusal r ⌝ }
+{
+    Loaded {
+        refusal,
+        n: 0,
+        d: 0,
+        state: State {
+            counts: Counts {
+                steps: Steps(0),
+                checks: Checks(0),
+            },
+            subproblems: 0,
+        },
+    }
+}
+
+// Room for the content of the largest file, and for its tables.
+fn room_for_content() -> [u16; 25553]
+    ensures { λ r. ⌜ 25553 ≡ length r ⌝ }
+{
+    [0; 25553]
+}
+
+fn room_for_tables() -> [u16; 16384]
+    ensures { λ r. ⌜ 16384 ≡ length r ⌝ }
+{
+    [0; 16384]
 }
 
 // Hands back what the file says and writes it into the lent memory; refused, changes nothing.
 pub fn load(file: &[u8], domains: &mut [u16], tables: &mut [u16], agenda: &mut [u16]) -> Loaded
     ensures { λ r. ⌜ Loads (now (file .entry)) (now (domains .entry)) (now (domains .exit)) (now (tables .entry)) (now (tables .exit)) (now (agenda .entry)) (now (agenda .exit)) r ⌝ }
 {
-    let refusal = reading::refusal(file, domains.len(), tables.len(), agenda.len());
+    let refusal = reading::refusal_of_file(file);
     if refusal != 0 {
-        return Loaded {
-            refusal,
-            n: 0,
-            d: 0,
-            state: State {
-                counts: Counts {
-                    steps: Steps(0),
-                    checks: Checks(0),
-                },
-                subproblems: 0,
-            },
-        };
+        return refuse(refusal);
+    }
+    let mut words = room_for_content();
+    filling::put_content(file, &mut words[..25553]);
+    load_content(file, &words[..25553], domains, tables, agenda)
+}
+
+// The same past 14, with the words of the content.
+fn load_content(
+    file: &[u8],
+    words: &[u16],
+    domains: &mut [u16],
+    tables: &mut [u16],
+    agenda: &mut [u16],
+) -> Loaded
+    requires { ⌜ Read (now file) (now words) ⌝ }
+    ensures { λ r. ⌜ Loads (now (file .entry)) (now (domains .entry)) (now (domains .exit)) (now (tables .entry)) (now (tables .exit)) (now (agenda .entry)) (now (agenda .exit)) r ⌝ }
+{
+    let refusal = reading::refusal_of_numbers(file);
+    if refusal != 0 {
+        return refuse(refusal);
     }
     let n = said::n(file);
     let d = said::d(file);
-    filling::put_words(file, 9, domains);
-    filling::put_tables(file, n, d, tables);
-    filling::put_agenda(file, n, d, said::subproblems(file), agenda);
+    let masks = n * n * d;
+    let mut all = room_for_tables();
+    filling::put_tables(words, n, d, &mut all[..masks]);
+    load_search(file, words, &all[..masks], domains, tables, agenda)
+}
+
+// The same once the words fit, with the tables in full.
+fn load_search(
+    file: &[u8],
+    words: &[u16],
+    all: &[u16],
+    domains: &mut [u16],
+    tables: &mut [u16],
+    agenda: &mut [u16],
+) -> Loaded
+    requires { ⌜ Ready (now file) (now words) (now all) ⌝ }
+    ensures { λ r. ⌜ Loads (now (file .entry)) (now (domains .entry)) (now (domains .exit)) (now (tables .entry)) (now (tables .exit)) (now (agenda .entry)) (now (agenda .exit)) r ⌝ }
+{
+    let refusal = reading::refusal(file, words, all, domains.len(), tables.len(), agenda.len());
+    if refusal != 0 {
+        return refuse(refusal);
+    }
+    let n = said::n(file);
+    let d = said::d(file);
+    let state = said::state(file);
+    filling::put_search(words, all, n, d, state.subproblems, domains, tables, agenda);
     Loaded {
         refusal: 0,
         n,
         d,
-        state: said::state(file),
+        state,
     }
 }

@@ -2,48 +2,50 @@
 use crate::block;
 use crate::checksum;
 use crate::content;
-use crate::obeying;
 use crate::said;
 ghost use mathlib.Core.Path.{_≡_};
-ghost use Prim.Native.Nat.{_+_, _-_, _*_, _/_, _^_, _<_, _≤_};
-ghost use lib.Dec.{ltb};
+ghost use mathlib.Core.Bool.{cond};
+ghost use Prim.Native.Nat.{_+_, _-_, _*_, _/_, _<_, _≤_};
+ghost use lib.ListN.{length};
 ghost use Rattle.splits.specs.Subproblems.{every};
 ghost use Rattle.search.specs.FirstChecks.{refusalOfLengths, wholeSlots};
 ghost use Rattle.files.specs.Reading.{goodBlock, refusalOfFile, refusalOfWords};
 ghost use Rattle.files.specs.Calls.{loadRefusal};
-ghost use Rattle.files.specs.Work.Said.{Numbers, numbersSaid, zeroIn, filled, domainBelow, pairBelow, rowBelow, regularIn};
+ghost use Rattle.files.specs.Work.Said.{goodIn, numbersSaid, zeroIn, filled, sizedIn, Ready};
 
-// Whether block `b` has its number, the number of blocks and its check.
-fn is_good(file: &[u8], b: usize) -> bool
-    requires { ⌜ b < 65536 ⌝ }
-    ensures { λ r. ⌜ r ≡ goodBlock (now (file .entry)) b ⌝ }
+// Whether a block has its number, that of blocks and its check.
+fn is_good(block: &[u8], number: usize, blocks: usize) -> bool
+    requires { ⌜ length (now block) ≡ 512 ⌝ }
+    ensures { λ r. ⌜ r ≡ goodIn (now (block .entry)) number blocks ⌝ }
 {
-    if (block::block_word(file, b, 0) as usize) != b + 1 {
+    if (block::word_in(block, 0) as usize) != number {
         return false;
     }
-    if (block::block_word(file, b, 1) as usize) != file.len() / 512 {
+    if (block::word_in(block, 1) as usize) != blocks {
         return false;
     }
-    block::block_word(file, b, 255) == checksum::check(file, b)
+    block::word_in(block, 255) == checksum::check(block)
 }
 
-// Whether every block is.
+// Whether every block is good.
 fn all_good(file: &[u8], blocks: usize) -> bool
-    requires { ⌜ blocks < 65536 ⌝ }
+    requires { ⌜ (length (now file) ≡ blocks * 512) × (blocks ≤ 101) ⌝ }
     ensures { λ r. ⌜ r ≡ every blocks (goodBlock (now (file .entry))) ⌝ }
 {
-    let mut b = 0;
-    while b < blocks {
-        if !is_good(file, b) {
+    let mut number = 1;
+    while number <= blocks {
+        let at = (number - 1) * 512;
+        let end = at + 512;
+        if !is_good(&file[at..end], number, blocks) {
             return false;
         }
-        b += 1;
+        number += 1;
     }
     true
 }
 
 // 14, or none.
-fn refusal_of_file(file: &[u8]) -> u32
+pub(crate) fn refusal_of_file(file: &[u8]) -> u32
     ensures { λ r. ⌜ r ≡ refusalOfFile (now (file .entry)) ⌝ }
 {
     let blocks = file.len() / 512;
@@ -110,111 +112,42 @@ fn fills(file: &[u8], words: usize) -> bool
     zeros_from(file, words, blocks * 253 - words)
 }
 
-// Whether a mask has no bit at `d` or above.
-fn is_below(mask: u16, d: usize) -> bool
-    requires { ⌜ d ≤ 16 ⌝ }
-    ensures { λ r. ⌜ r ≡ ltb mask (2 ^ d) ⌝ }
-{
-    (mask as u64) < (1 << d)
-}
-
-// Whether no domain has a bit at `d` or above.
-fn domains_below(file: &[u8], n: usize, d: usize) -> bool
-    requires { ⌜ Numbers n d ⌝ }
-    ensures { λ r. ⌜ r ≡ every n (domainBelow (now (file .entry)) n d) ⌝ }
-{
-    let mut i = 0;
-    while i < n {
-        if !is_below(said::domain(file, i), d) {
-            return false;
-        }
-        i += 1;
-    }
-    true
-}
-
-// Whether no mask for `i` below `j` has.
-fn pair_below(file: &[u8], n: usize, d: usize, i: usize, j: usize) -> bool
-    requires { ⌜ Numbers n d × ((i < n) × (j < n)) ⌝ }
-    ensures { λ r. ⌜ r ≡ pairBelow (now (file .entry)) n d i j ⌝ }
-{
-    if j <= i {
-        return true;
-    }
-    let mut a = 0;
-    while a < d {
-        if !is_below(said::allowed(file, n, d, i, j, a), d) {
-            return false;
-        }
-        a += 1;
-    }
-    true
-}
-
-// Whether no mask of `i` with a later variable has.
-fn row_below(file: &[u8], n: usize, d: usize, i: usize) -> bool
-    requires { ⌜ Numbers n d × (i < n) ⌝ }
-    ensures { λ r. ⌜ r ≡ rowBelow (now (file .entry)) n d i ⌝ }
-{
-    let mut j = 0;
-    while j < n {
-        if !pair_below(file, n, d, i, j) {
-            return false;
-        }
-        j += 1;
-    }
-    true
-}
-
-// Whether no mask of the tables has.
-fn masks_below(file: &[u8], n: usize, d: usize) -> bool
-    requires { ⌜ Numbers n d ⌝ }
-    ensures { λ r. ⌜ r ≡ every n (rowBelow (now (file .entry)) n d) ⌝ }
-{
-    let mut i = 0;
-    while i < n {
-        if !row_below(file, n, d, i) {
-            return false;
-        }
-        i += 1;
-    }
-    true
-}
-
-// Whether the problem and the subproblems obey the rules.
-fn is_regular(file: &[u8], n: usize, d: usize, subproblems: usize) -> bool
-    requires { ⌜ Numbers n d × (subproblems ≤ 512) ⌝ }
-    ensures { λ r. ⌜ r ≡ regularIn (now (file .entry)) n d subproblems ⌝ }
-{
-    if !domains_below(file, n, d) {
-        return false;
-    }
-    if !masks_below(file, n, d) {
-        return false;
-    }
-    obeying::all_obey(file, n, d, subproblems)
-}
-
-// 15, or none.
-fn refusal_of_words(file: &[u8]) -> u32
-    ensures { λ r. ⌜ r ≡ refusalOfWords (now (file .entry)) ⌝ }
+// 15, or none, of the numbers and of how many words there are.
+pub(crate) fn refusal_of_numbers(file: &[u8]) -> u32
+    ensures { λ r. ⌜ r ≡ cond (sizedIn (now (file .entry))) 0 15 ⌝ }
 {
     if !numbers_fit(file) {
         return 15;
     }
+    let words = content::words(said::n(file), said::d(file), said::subproblems(file));
+    if fills(file, words) {
+        return 0;
+    }
+    15
+}
+
+// 15, or none, of the rules: the first checks of the search that the words say, in an agenda of 512 slots.
+fn refusal_of_rules(file: &[u8], words: &[u16], tables: &[u16]) -> u32
+    requires { ⌜ Ready (now file) (now words) (now tables) ⌝ }
+    ensures { λ r. ⌜ r ≡ refusalOfWords (now (file .entry)) ⌝ }
+{
     let n = said::n(file);
     let d = said::d(file);
-    let subproblems = said::subproblems(file);
-    if !fills(file, content::words(n, d, subproblems)) {
-        return 15;
+    let domains = 9 + n;
+    let from = content::agenda_from(n, d);
+    let end = from + 512 * (n + 2);
+    let refusal = search::first::search_refusal(
+        n,
+        d,
+        &words[9..domains],
+        tables,
+        &words[from..end],
+        said::state(file),
+    );
+    if refusal == 0 {
+        return 0;
     }
-    if !is_regular(file, n, d, subproblems) {
-        return 15;
-    }
-    if 496 * (said::steps(file) as u64) < said::checks(file) {
-        return 15;
-    }
-    0
+    15
 }
 
 // Whether so many words are 1 to 512 whole slots.
@@ -249,17 +182,21 @@ fn refusal_of_lengths(n: usize, d: usize, domains: usize, tables: usize, agenda:
     3
 }
 
-// The refusal of load, of the numbers of words lent as domains, tables and agenda; 0 for none.
-pub(crate) fn refusal(file: &[u8], domains: usize, tables: usize, agenda: usize) -> u32
+// The refusal of load past 14, the numbers of words lent as domains, tables and agenda; 0 for none.
+pub(crate) fn refusal(
+    file: &[u8],
+    words: &[u16],
+    all: &[u16],
+    domains: usize,
+    tables: usize,
+    agenda: usize,
+) -> u32
+    requires { ⌜ Ready (now file) (now words) (now all) ⌝ }
     ensures { λ r. ⌜ r ≡ loadRefusal (now (file .entry)) domains tables agenda ⌝ }
 {
-    let blocks = refusal_of_file(file);
-    if blocks != 0 {
-        return blocks;
-    }
-    let words = refusal_of_words(file);
-    if words != 0 {
-        return words;
+    let rules = refusal_of_rules(file, words, all);
+    if rules != 0 {
+        return rules;
     }
     let n = said::n(file);
     let lengths = refusal_of_lengths(n, said::d(file), domains, tables, agenda);

@@ -1,44 +1,38 @@
--- `load` meets its contract: refused, nothing is changed; else the words are written.
+-- `load` meets its contract: 14 changes nothing; else the content decides.
 -- Assumes nothing.
 use borrow.Author.Needs.{needs}
-use mathlib.Core.Path.{refl}
-use native.Mathlib.Omega.{arith}
-use Rattle.files.proofs.LoadOutcomes.{load-refused, load-fits, load-accepted}
+use mathlib.Core.Path.{sym, _∙_}
+use Rattle.files.proofs.Whole.{file-whole}
+use Rattle.files.proofs.Refused.{refused-14}
+use Rattle.files.proofs.LoadOutcomes.{load-refused, content-read}
 use Rattle.files.proofs.load.Statement.{statement}
 use Rattle.files.proofs.load.Tie as tie
 
-refusal-requires : tie.Need-refusal-requires
-refusal-requires c κs = search needs
+refusal-of-file-requires : tie.Need-refusal-of-file-requires
+refusal-of-file-requires c κs = search needs
+
+refuse-requires : tie.Need-refuse-requires
+refuse-requires c κs = search needs
 
 returns : tie.Need-returns
-returns c = load-refused _ _ _ _ _ (c .before .refusal .ensures) (c .if1 .taken) _ refl refl refl refl refl refl
+returns c = load-refused _ _ _ _ _ (refused-14 _ _ _ _ _ (c .before .before .refusal-of-file .ensures) (c .before .if1 .taken)) (c .before .if1 .taken) _ (c .refuse .ensures)
 
-n-requires : tie.Need-n-requires
-n-requires c κs = search needs
+room-for-content-requires : tie.Need-room-for-content-requires
+room-for-content-requires c κs = search needs
 
-d-requires : tie.Need-d-requires
-d-requires c κs = search needs
+slice-aggregate-put-content : tie.Need-slice-aggregate-put-content
+slice-aggregate-put-content c = search needs
 
-put-words-requires : tie.Need-put-words-requires
-put-words-requires c κs =
-    let fits = load-fits (c .before .before .before .before .before .before .before .before .before .args .file .now) (c .before .before .before .before .before .before .before .before .before .args .domains .now) (c .before .before .before .before .before .before .before .before .before .args .tables .now) (c .before .before .before .before .before .before .before .before .before .args .agenda .now) _ (c .before .before .before .before .refusal .ensures) (λ i. omega (arith, c .before .before .before .before .before .before .before .before .shared-slice-known .given i)) (c .before .before .before .if1 .left) _ _ _ (c .before .before .n .ensures) (c .before .d .ensures) refl in
-    omega (arith, fits .domains-words, fits .numbers .variables)
+put-content-requires : tie.Need-put-content-requires
+put-content-requires c κs =
+    let whole = file-whole (c .before .before .before .before .before .before .before .before .args .file .now) (sym (c .before .before .before .refusal-of-file .ensures) ∙ c .before .before .if1 .left) in
+    (whole .whole, (whole .few, sym (c .before .room-for-content .ensures)))
 
-put-tables-requires : tie.Need-put-tables-requires
-put-tables-requires c κs =
-    let fits = load-fits (c .before .before .before .before .before .before .before .before .before .before .before .before .before .args .file .now) (c .before .before .before .before .before .before .before .before .before .before .before .before .before .args .domains .now) (c .before .before .before .before .before .before .before .before .before .before .before .before .before .args .tables .now) (c .before .before .before .before .before .before .before .before .before .before .before .before .before .args .agenda .now) _ (c .before .before .before .before .before .before .before .before .refusal .ensures) (λ i. omega (arith, c .before .before .before .before .before .before .before .before .before .before .before .before .shared-slice-known .given i)) (c .before .before .before .before .before .before .before .if1 .left) _ _ _ (c .before .before .before .before .before .before .n .ensures) (c .before .before .before .before .before .d .ensures) refl in
-    (fits .numbers, fits .tables-words)
+slice-aggregate-load-content : tie.Need-slice-aggregate-load-content
+slice-aggregate-load-content c = search needs
 
-subproblems-requires : tie.Need-subproblems-requires
-subproblems-requires c κs = search needs
-
-put-agenda-requires : tie.Need-put-agenda-requires
-put-agenda-requires c κs =
-    let fits = load-fits (c .before .before .before .before .before .before .before .before .before .before .before .before .before .before .before .before .before .before .args .file .now) (c .before .before .before .before .before .before .before .before .before .before .before .before .before .before .before .before .before .before .args .domains .now) (c .before .before .before .before .before .before .before .before .before .before .before .before .before .before .before .before .before .before .args .tables .now) (c .before .before .before .before .before .before .before .before .before .before .before .before .before .before .before .before .before .before .args .agenda .now) _ (c .before .before .before .before .before .before .before .before .before .before .before .before .before .refusal .ensures) (λ i. omega (arith, c .before .before .before .before .before .before .before .before .before .before .before .before .before .before .before .before .before .shared-slice-known .given i)) (c .before .before .before .before .before .before .before .before .before .before .before .before .if1 .left) _ _ _ (c .before .before .before .before .before .before .before .before .before .before .before .n .ensures) (c .before .before .before .before .before .before .before .before .before .before .d .ensures) (c .before .subproblems .ensures) in
-    (fits .numbers, (fits .few, fits .agenda-words))
-
-state-requires : tie.Need-state-requires
-state-requires c κs = search needs
+load-content-requires : tie.Need-load-content-requires
+load-content-requires c κs = content-read _ _ (sym (c .before .before .before .before .before .before .before .before .before .refusal-of-file .ensures) ∙ c .before .before .before .before .before .before .before .before .if1 .left) (c .before .before .before .before .before .put-content .ensures)
 
 same-length : tie.Need-same-length
 same-length c = search needs
@@ -50,22 +44,20 @@ same-length-3 : tie.Need-same-length-3
 same-length-3 c = search needs
 
 returns-2 : tie.Need-returns-2
-returns-2 c =
-    load-accepted _ _ _ _ _ (c .before .before .before .before .before .before .before .before .before .before .before .before .before .before .before .before .before .refusal .ensures) (λ i. omega (arith, c .before .before .before .before .before .before .before .before .before .before .before .before .before .before .before .before .before .before .before .before .before .shared-slice-known .given i)) (c .before .before .before .before .before .before .before .before .before .before .before .before .before .before .before .before .if1 .left) _ _ _ (c .before .before .before .before .before .before .before .before .before .before .before .before .before .before .before .n .ensures) (c .before .before .before .before .before .before .before .before .before .before .before .before .before .before .d .ensures) (c .before .before .before .before .before .subproblems .ensures) _ _ _ _ refl refl refl (c .state .ensures) (c .before .before .before .before .before .before .before .before .before .before .before .before .put-words .ensures) (c .before .before .before .before .before .before .before .before .put-tables .ensures) (c .before .before .before .put-agenda .ensures)
+returns-2 c = c .before .before .before .before .before .before .load-content .ensures
 
 pub load-spec : {M : Type 1} → statement M
 load-spec =
     tie.close
     (tie.spec
-    refusal-requires
+    refusal-of-file-requires
+    refuse-requires
     returns
-    n-requires
-    d-requires
-    put-words-requires
-    put-tables-requires
-    subproblems-requires
-    put-agenda-requires
-    state-requires
+    room-for-content-requires
+    slice-aggregate-put-content
+    put-content-requires
+    slice-aggregate-load-content
+    load-content-requires
     same-length
     same-length-2
     same-length-3

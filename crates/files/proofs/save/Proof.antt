@@ -3,6 +3,8 @@
 use borrow.Author.Needs.{needs}
 use mathlib.Core.Path.{refl, sym, _∙_}
 use native.Mathlib.Omega.{arith}
+use Prim.Native.Nat.{_-_}
+use Rattle.files.specs.Work.Said.{wordsOf}
 use Rattle.files.proofs.SaveOutcomes.{first-passed, save-refused, save-short, save-written}
 use Rattle.files.proofs.save.Statement.{statement}
 use Rattle.files.proofs.save.Tie as tie
@@ -14,8 +16,7 @@ returns : tie.Need-returns
 returns c = save-refused _ _ _ _ _ _ _ _ _ (c .before .search-refusal .ensures) (c .if1 .taken) refl refl
 
 words-requires : tie.Need-words-requires
-words-requires c κs =
-    let hands = first-passed _ _ _ _ _ _ (sym (c .before .search-refusal .ensures) ∙ c .if1 .left) in (hands .numbers, hands .few)
+words-requires c κs = let hands = first-passed _ _ _ _ _ _ (sym (c .before .search-refusal .ensures) ∙ c .if1 .left) in (hands .numbers, hands .few)
 
 add-blocks : tie.Need-add-blocks
 add-blocks c = search needs
@@ -24,19 +25,28 @@ mul-if2 : tie.Need-mul-if2
 mul-if2 c = search needs
 
 returns-2 : tie.Need-returns-2
-returns-2 c =
-    save-short _ _ _ _ _ _ _ (λ i. omega (arith, c .before .before .before .before .before .shared-slice-known3 .given i)) _ _ (c .before .before .before .search-refusal .ensures) (c .before .before .if1 .left) (c .before .words .ensures .0) _ (c .if2 .taken) refl refl
+returns-2 c = save-short _ _ _ _ _ _ _ (λ i. omega (arith, c .before .before .before .before .before .shared-slice-known3 .given i)) _ _ (c .before .before .before .search-refusal .ensures) (c .before .before .if1 .left) (c .before .words .ensures .0) _ (c .if2 .taken) refl refl
+
+room-for-content-requires : tie.Need-room-for-content-requires
+room-for-content-requires c κs = search needs
+
+slice-aggregate-put : tie.Need-slice-aggregate-put
+slice-aggregate-put c = search needs
+
+put-requires : tie.Need-put-requires
+put-requires c κs = (first-passed _ _ _ _ _ _ (sym (c .before .before .before .before .before .search-refusal .ensures) ∙ c .before .before .before .before .if1 .left), sym (c .before .room-for-content .ensures))
+
+slice-aggregate-put-blocks : tie.Need-slice-aggregate-put-blocks
+slice-aggregate-put-blocks c = search needs
 
 put-blocks-requires : tie.Need-put-blocks-requires
-put-blocks-requires c κs =
-    (first-passed _ _ _ _ _ _ (sym (c .before .before .before .before .search-refusal .ensures) ∙ c .before .before .before .if1 .left), (omega (arith, c .before .before .words .ensures .1), c .before .if2 .left))
+put-blocks-requires c κs = (c .before .before .before .put .kept .1 .1 .1 .1 .1 .1 .0 ∙ sym (c .before .before .before .before .before .room-for-content .ensures), (omega (arith, c .before .before .before .before .before .before .before .words .ensures .1), c .before .before .before .before .before .before .if2 .left))
 
 same-length : tie.Need-same-length
 same-length c = search needs
 
 returns-3 : tie.Need-returns-3
-returns-3 c =
-    save-written _ _ _ _ _ _ _ (λ i. omega (arith, c .before .before .before .before .before .before .before .before .before .shared-slice-known3 .given i)) _ _ (c .before .before .before .before .before .before .before .search-refusal .ensures) (c .before .before .before .before .before .before .if1 .left) (c .before .before .before .before .before .words .ensures .0) _ _ (c .before .before .before .before .if2 .left) refl refl (c .before .before .put-blocks .ensures)
+returns-3 c = save-written _ _ _ _ _ _ _ (λ i. omega (arith, c .before .before .before .before .before .before .before .before .before .before .before .before .before .before .shared-slice-known3 .given i)) _ _ (c .before .before .before .before .before .before .before .before .before .before .before .before .search-refusal .ensures) (c .before .before .before .before .before .before .before .before .before .before .before .if1 .left) (c .before .before .before .before .before .before .before .before .before .before .words .ensures .0) _ _ (c .before .before .before .before .before .before .before .before .before .if2 .left) refl refl _ (25553 - wordsOf (c .before .before .before .before .before .before .before .before .before .before .before .before .before .before .before .before .before .args .n) (c .before .before .before .before .before .before .before .before .before .before .before .before .before .before .before .before .before .args .d) (c .before .before .before .before .before .before .before .before .before .before .before .before .before .before .before .before .before .args .state .subproblems)) (c .before .before .before .before .before .before .put .ensures) (c .before .before .put-blocks .ensures)
 
 pub save-spec : {M : Type 1} → statement M
 save-spec =
@@ -48,6 +58,10 @@ save-spec =
     add-blocks
     mul-if2
     returns-2
+    room-for-content-requires
+    slice-aggregate-put
+    put-requires
+    slice-aggregate-put-blocks
     put-blocks-requires
     same-length
     returns-3)

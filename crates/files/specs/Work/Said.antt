@@ -1,32 +1,35 @@
--- What a file's words say, of numbers n and d that were read before, level by level as the loops of the code take it.
+-- What the code reads of a file, level by level as its loops take it.
 use mathlib.Core.Path.{_≡_}
-use mathlib.Core.Bool.{Bool, not, cond, _&&_, _||_}
+use mathlib.Core.Bool.{Bool, true, cond, _&&_}
 use mathlib.Core.List.{List, _++_, map}
-use Prim.Native.Nat.{ℕ, _+_, _-_, _*_, _^_, _≤_, _<_}
-use lib.ListN.{getD, replicate}
+use Prim.Native.Nat.{ℕ, _+_, _-_, _*_, _≤_}
+use lib.ListN.{length, getD, take, drop, replicate}
 use lib.Dec.{eqb, leb, ltb}
 use Rattle.splits.specs.Masks.{bit}
-use Rattle.splits.specs.Problem.{Problem, Table}
+use Rattle.splits.specs.Problem.{Table}
 use Rattle.splits.specs.Subproblems.{every}
 use Rattle.splits.specs.Splits.{below}
-use Rattle.search.specs.Agenda.{stackOf}
-use Rattle.search.specs.FirstChecks.{allObey}
 use Rattle.search.specs.declared.state.State.{State}
-use Rattle.files.specs.Blocks.{blocksFor}
+use Rattle.files.specs.Blocks.{checkOf, blocksFor}
 use Rattle.files.specs.Content.{each}
 use Rattle.files.specs.Reading.{
   blocksIn,
+  blockWord,
+  headOf,
   contentWord,
-  contentFrom,
   saidN,
   saidD,
   saidSteps,
   saidChecks,
   saidSubproblems,
+  saidAllowed,
   triangleWords,
   trianglePlace,
   gathered,
+  tableWords,
+  refusalOfFile,
 }
+use Rattle.files.specs.declared.saved.Loaded.{Loaded}
 
 -- n and d are in their ranges.
 pub record Numbers (n d : ℕ) : Type 0 where
@@ -35,11 +38,14 @@ pub record Numbers (n d : ℕ) : Type 0 where
   pub some-value : 1 ≤ d
   pub values : d ≤ 16
 
--- Variables i below j and a value, or the number past the last.
-pub record Pair (n i j a : ℕ) : Type 0 where
-  pub order : i < j
-  pub within : j < n
-  pub value : a ≤ 16
+-- The byte at a place; 0 past the end.
+unfoldable pub byteOf : List ℕ → ℕ → ℕ
+byteOf bytes i = getD bytes i 0
+
+-- 14: one block with its number, of so many.
+unfoldable pub goodIn : List ℕ → ℕ → ℕ → Bool
+goodIn block number blocks =
+    eqb (blockWord block 0 0) number && eqb (blockWord block 0 1) blocks && eqb (blockWord block 0 255) (checkOf (headOf block 0))
 
 -- The two counts and the number of subproblems.
 pub record StateSaid (file : List ℕ) (s : State) : Type 0 where
@@ -47,29 +53,7 @@ pub record StateSaid (file : List ℕ) (s : State) : Type 0 where
   pub checks : s .counts .checks .0 ≡ saidChecks file
   pub subproblems : s .subproblems ≡ saidSubproblems file
 
--- The mask for i below j and a.
-unfoldable pub maskIn : List ℕ → ℕ → ℕ → Table
-maskIn file n d i j a = contentWord file (9 + n + trianglePlace n d i j a)
-
--- For i above j, digit b of the mask of a.
-unfoldable pub mirroredIn : List ℕ → ℕ → ℕ → ℕ → ℕ → ℕ → ℕ → ℕ
-mirroredIn file n d i j a b = bit (maskIn file n d j i b) a
-
-unfoldable pub allowedIn : List ℕ → ℕ → ℕ → Table
-allowedIn file n d i j a =
-    cond (ltb i j) (maskIn file n d i j a) (cond (ltb j i) (gathered d (mirroredIn file n d i j a)) 0)
-
-unfoldable pub domainIn : List ℕ → ℕ → ℕ → ℕ
-domainIn file n i = getD (contentFrom file 9 n) i 0
-
-abbrev pub problemIn : List ℕ → ℕ → ℕ → Problem
-problemIn file n d = record { n = n; d = d; domain = domainIn file n; allowed = allowedIn file n d }
-
--- The domains of a slot that begins at a word of the content, zeros after them.
-unfoldable pub domainsSaid : List ℕ → ℕ → ℕ → List ℕ
-domainsSaid file n from = contentFrom file from n ++ replicate (32 - n) 0
-
--- 15: the numbers; zeros after the words; the masks.
+-- 15: the numbers; zeros after the words.
 unfoldable pub numbersSaid : List ℕ → Bool
 numbersSaid file =
     leb 1 (saidN file) && leb (saidN file) 32 && leb 1 (saidD file) && leb (saidD file) 16 && leb (saidSubproblems file) 512
@@ -80,18 +64,6 @@ zeroIn file from k = eqb (contentWord file (from + k)) 0
 unfoldable pub filled : List ℕ → ℕ → Bool
 filled file words = eqb (blocksIn file) (blocksFor words) && every (blocksIn file * 253 - words) (zeroIn file words)
 
-unfoldable pub domainBelow : List ℕ → ℕ → ℕ → ℕ → Bool
-domainBelow file n d i = ltb (domainIn file n i) (2 ^ d)
-
-unfoldable pub maskBelow : List ℕ → ℕ → ℕ → ℕ → ℕ → ℕ → Bool
-maskBelow file n d i j a = ltb (allowedIn file n d i j a) (2 ^ d)
-
-unfoldable pub pairBelow : List ℕ → ℕ → ℕ → ℕ → ℕ → Bool
-pairBelow file n d i j = not (ltb i j) || every d (maskBelow file n d i j)
-
-unfoldable pub rowBelow : List ℕ → ℕ → ℕ → ℕ → Bool
-rowBelow file n d i = every n (pairBelow file n d i)
-
 -- Where the agenda begins in a content of n variables and d values, and how many words a content has.
 unfoldable pub agendaStart : ℕ → ℕ → ℕ
 agendaStart n d = 9 + n + triangleWords n d
@@ -99,24 +71,69 @@ agendaStart n d = 9 + n + triangleWords n d
 unfoldable pub wordsOf : ℕ → ℕ → ℕ → ℕ
 wordsOf n d subproblems = agendaStart n d + subproblems * (n + 2)
 
-unfoldable pub agendaIn : List ℕ → ℕ → ℕ → ℕ → List ℕ
-agendaIn file n d subproblems = contentFrom file (agendaStart n d) (subproblems * (n + 2))
+unfoldable pub sizedIn : List ℕ → Bool
+sizedIn file = numbersSaid file && filled file (wordsOf (saidN file) (saidD file) (saidSubproblems file))
 
--- The problem and the subproblems obey the rules.
-unfoldable pub regularIn : List ℕ → ℕ → ℕ → ℕ → Bool
-regularIn file n d subproblems =
-    every n (domainBelow file n d) && every n (rowBelow file n d)
-    && allObey (problemIn file n d) (stackOf n (agendaIn file n d subproblems) subproblems)
+-- The masks in the words of a content: for i below j they stand there; the other way round they are put together of these digits; zeros of i with
+-- itself.
+unfoldable pub maskIn : List ℕ → ℕ → ℕ → Table
+maskIn words n d i j a = getD words (9 + n + trianglePlace n d i j a) 0
 
--- What load writes: the first a masks of two variables, the first j pairs of i, the first i rows; the agenda's words with zeros after them.
+unfoldable pub allowedIn : List ℕ → ℕ → ℕ → Table
+allowedIn words n d i j a =
+    cond (ltb i j) (maskIn words n d i j a) (cond (ltb j i) (gathered d (λ b. bit (maskIn words n d j i b) a)) 0)
+
+-- Digit b of column a of rows of digits, and the first a columns.
+unfoldable pub columnOf : List ℕ → ℕ → ℕ → ℕ
+columnOf rows a b = bit (getD rows b 0) a
+
+unfoldable pub columnPart : List ℕ → ℕ → List ℕ
+columnPart rows a = map (λ c. gathered (length rows) (columnOf rows c)) (below a)
+
+-- The first a masks of two variables, the first j pairs of i, the first i rows.
 unfoldable pub pairPart : List ℕ → ℕ → ℕ → ℕ → ℕ → ℕ → List ℕ
-pairPart file n d i j a = map (allowedIn file n d i j) (below a)
+pairPart words n d i j a = map (allowedIn words n d i j) (below a)
 
 unfoldable pub rowPart : List ℕ → ℕ → ℕ → ℕ → ℕ → List ℕ
-rowPart file n d i j = each (λ k. pairPart file n d i k d) (below j)
+rowPart words n d i j = each (λ k. pairPart words n d i k d) (below j)
 
 unfoldable pub tablePart : List ℕ → ℕ → ℕ → ℕ → List ℕ
-tablePart file n d i = each (λ k. rowPart file n d k n) (below i)
+tablePart words n d i = each (λ k. rowPart words n d k n) (below i)
 
-unfoldable pub filledAgenda : List ℕ → ℕ → ℕ → ℕ → ℕ → List ℕ
-filledAgenda file n d subproblems words = agendaIn file n d subproblems ++ replicate (words - subproblems * (n + 2)) 0
+-- So many words of a list from one on; the slots of so many subproblems in the words of a content, and zeros after them, so many in all.
+unfoldable pub partIn : List ℕ → ℕ → ℕ → List ℕ
+partIn words from w = take ((from + w) - from) (drop from words)
+
+unfoldable pub slotsPart : List ℕ → ℕ → ℕ → ℕ → ℕ → List ℕ
+slotsPart words n d subproblems all =
+    partIn words (agendaStart n d) (subproblems * (n + 2)) ++ replicate (all - subproblems * (n + 2)) 0
+
+-- Memory that takes a search of n, d and so many subproblems.
+pub record Lent (words all : List ℕ) (n d subproblems : ℕ) (domains tables agenda : List ℕ) : Type 0 where
+  pub numbers : Numbers n d
+  pub few : subproblems ≤ 512
+  pub long : length words ≡ 25553
+  pub domains-words : length domains ≡ n
+  pub tables-words : length all ≡ length tables
+  pub agenda-words : subproblems * (n + 2) ≤ length agenda
+
+-- A file that passed 14, and the words of its content.
+pub record Read (file words : List ℕ) : Type 0 where
+  pub whole : refusalOfFile file ≡ 0
+  pub long : length words ≡ 25553
+  pub says : (k : ℕ) → getD words k 0 ≡ contentWord file k
+
+-- Its numbers fit, too, and its tables are made.
+pub record Ready (file words tables : List ℕ) : Type 0 where
+  pub read : Read file words
+  pub sized : sizedIn file ≡ true
+  pub made : tables ≡ tableWords (saidN file) (saidD file) (saidAllowed file)
+
+-- A refusal, and zeros.
+pub record Refused (refusal : ℕ) (r : Loaded) : Type 0 where
+  pub its : r .refusal ≡ refusal
+  pub its-n : r .n ≡ 0
+  pub its-d : r .d ≡ 0
+  pub steps : r .state .counts .steps .0 ≡ 0
+  pub checks : r .state .counts .checks .0 ≡ 0
+  pub subproblems : r .state .subproblems ≡ 0

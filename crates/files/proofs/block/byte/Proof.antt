@@ -2,22 +2,18 @@
 -- Assumes nothing.
 use borrow.Author.Needs.{needs}
 use mathlib.Core.Path.{sym}
-use native.Mathlib.Omega.{arith}
 use lib.ListN.{List·getD-eq-default}
 use Rattle.files.proofs.block.byte.Statement.{statement}
 use Rattle.files.proofs.block.byte.Tie as tie
 
-shared-slice-read-wide : tie.Need-shared-slice-read-wide
-shared-slice-read-wide c = search needs
-
-wide-requires : tie.Need-wide-requires
-wide-requires c κs = search needs
+shared-slice-read-result : tie.Need-shared-slice-read-result
+shared-slice-read-result c = search needs
 
 returns : tie.Need-returns
 returns c = search needs
 
 returns-2 : tie.Need-returns-2
-returns-2 c = (sym (List·getD-eq-default (c .before .before .args .file .now) 0 (c .if1 .left)), omega arith)
+returns-2 c = sym (List·getD-eq-default (c .before .args .file .now) 0 (c .if1 .left))
 
 pub byte-spec : {M : Type 1} → statement M
-byte-spec = tie.close (tie.spec shared-slice-read-wide wide-requires returns returns-2)
+byte-spec = tie.close (tie.spec shared-slice-read-result returns returns-2)

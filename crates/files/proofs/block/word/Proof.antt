@@ -1,6 +1,7 @@
 -- `block::word` meets its contract.
 -- Assumes nothing.
 use borrow.Author.Needs.{needs}
+use mathlib.Core.Path.{_∙_}
 use Rattle.files.proofs.Places.{word-made, word-past}
 use Rattle.files.proofs.block.word.Statement.{statement}
 use Rattle.files.proofs.block.word.Tie as tie
@@ -10,6 +11,9 @@ mul-byte c = search needs
 
 byte-requires : tie.Need-byte-requires
 byte-requires c κs = search needs
+
+wide-requires : tie.Need-wide-requires
+wide-requires c κs = search needs
 
 mul-result : tie.Need-mul-result
 mul-result c = search needs
@@ -23,11 +27,14 @@ add-byte c = search needs
 byte-requires-2 : tie.Need-byte-requires-2
 byte-requires-2 c κs = search needs
 
+wide-requires-2 : tie.Need-wide-requires-2
+wide-requires-2 c κs = search needs
+
 add-result : tie.Need-add-result
 add-result c = search needs
 
 returns : tie.Need-returns
-returns c = word-made _ _ _ _ (c .before .byte .ensures .0) (c .byte2 .ensures .0)
+returns c = word-made _ _ _ _ (c .before .before .wide .ensures .0 ∙ c .before .before .before .byte .ensures) (c .wide2 .ensures .0 ∙ c .before .byte2 .ensures)
 
 returns-2 : tie.Need-returns-2
 returns-2 c = word-past _ _ (c .if1 .left)
@@ -38,10 +45,12 @@ word-spec =
     (tie.spec
     mul-byte
     byte-requires
+    wide-requires
     mul-result
     mul-byte-2
     add-byte
     byte-requires-2
+    wide-requires-2
     add-result
     returns
     returns-2)

@@ -11,16 +11,16 @@ use Rattle.files.proofs.checksum.sum.Statement.{statement}
 use Rattle.files.proofs.checksum.sum.Tie as tie
 
 abbrev Inv-loop : tie.InvT-loop
-Inv-loop file b sum₀ k₀ sum k = (k ≤ 255) × ((sum ≡ total k (blockWord file b)) × (sum ≤ k * 65535))
+Inv-loop block sum₀ k₀ sum k = (k ≤ 255) × ((sum ≡ total k (blockWord block 0)) × (sum ≤ k * 65535))
 
 abbrev μ-loop : tie.MeasureT-loop
-μ-loop file b sum₀ k₀ sum k = 255 - k
+μ-loop block sum₀ k₀ sum k = 255 - k
 
 loop-holds : tie.Need-loop-holds Inv-loop μ-loop
 loop-holds c = (omega arith, (total-none _, omega arith))
 
-block-word-requires : tie.Need-block-word-requires Inv-loop μ-loop
-block-word-requires c κs = search needs
+word-in-requires : tie.Need-word-in-requires Inv-loop μ-loop
+word-in-requires c κs = search needs
 
 cast-sum : tie.Need-cast-sum Inv-loop μ-loop
 cast-sum c = search needs
@@ -37,13 +37,12 @@ loop-less c = search needs
 loop-again : tie.Need-loop-again Inv-loop μ-loop
 loop-again c =
     let inv = c .before .before .loop .inv in
-    (omega arith, (total-more _ _ _ _ (inv .1 .0) (c .block-word .ensures), omega (arith, c .block-word .ok)))
+    (omega arith, (total-more _ _ _ _ (inv .1 .0) (c .word-in .ensures), omega (arith, c .word-in .ok)))
 
 returns : tie.Need-returns Inv-loop μ-loop
 returns c =
-    let inv = c .before .loop .inv in
     let end : c .before .loop .k ≡ 255 = omega arith in
-    total-end _ _ _ _ (inv .1 .0) end
+    total-end _ _ _ _ (c .before .loop .inv .1 .0) end
 
 pub sum-spec : {M : Type 1} → statement M
 sum-spec =
@@ -52,7 +51,7 @@ sum-spec =
     Inv-loop
     μ-loop
     loop-holds
-    block-word-requires
+    word-in-requires
     cast-sum
     add-sum
     add-k

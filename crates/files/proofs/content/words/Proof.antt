@@ -5,7 +5,7 @@ use mathlib.Core.Path.{ap}
 use Prim.Native.Nat.{ℕ, _+_, _*_}
 use native.Mathlib.Omega.{arith}
 use Rattle.files.specs.Work.Said.{wordsOf}
-use Rattle.files.proofs.Obeyed.{slots-few}
+use Rattle.files.proofs.Mirrors.{slots-few}
 use Rattle.files.proofs.content.words.Statement.{statement}
 use Rattle.files.proofs.content.words.Tie as tie
 

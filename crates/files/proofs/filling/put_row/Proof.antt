@@ -13,10 +13,10 @@ use Rattle.files.proofs.filling.put_row.Statement.{statement}
 use Rattle.files.proofs.filling.put_row.Tie as tie
 
 abbrev Inv-loop : tie.InvT-loop
-Inv-loop file n d i words₀ j₀ words j = (j ≤ n) × ((length words ≡ n * d) × (words ≡ rowPart file n d i j ++ drop (j * d) words₀))
+Inv-loop words n d i masks₀ j₀ masks j = (j ≤ n) × ((length masks ≡ n * d) × (masks ≡ rowPart words n d i j ++ drop (j * d) masks₀))
 
 abbrev μ-loop : tie.MeasureT-loop
-μ-loop file n d i words₀ j₀ words j = n - j
+μ-loop words n d i masks₀ j₀ masks j = n - j
 
 loop-holds : tie.Need-loop-holds Inv-loop μ-loop
 loop-holds c = (omega arith, (omega arith, row-none _ _ _ _ _))
@@ -55,8 +55,8 @@ put-pair-requires : tie.Need-put-pair-requires Inv-loop μ-loop
 put-pair-requires c κs =
     let a = c .before .before .before .before .before .args in
     let at = c .before .before .loop .j * a .d in
-    let within : at + a .d ≤ length (c .before .before .loop .words) = omega (arith, part-within (c .before .before .loop .j) (a .n) (a .d) (c .before .loop-test .taken)) in
-    (c .before .before .before .before .before .pre .0, (c .before .before .before .before .before .pre .1 .0, (c .before .loop-test .taken, mid-len at (at + a .d) (c .before .before .loop .words) within ∙ omega arith)))
+    let within : at + a .d ≤ length (c .before .before .loop .masks) = omega (arith, part-within (c .before .before .loop .j) (a .n) (a .d) (c .before .loop-test .taken)) in
+    (c .before .before .before .before .before .pre .0, (c .before .before .before .before .before .pre .1 .0, (c .before .loop-test .taken, (c .before .before .before .before .before .pre .1 .1 .0, mid-len at (at + a .d) (c .before .before .loop .masks) within ∙ omega arith))))
 
 add-j : tie.Need-add-j Inv-loop μ-loop
 add-j c = search needs
@@ -68,9 +68,9 @@ loop-again : tie.Need-loop-again Inv-loop μ-loop
 loop-again c =
     let a = c .before .before .before .before .before .before .before .before .args in
     let inv = c .before .before .before .before .before .loop .inv in
-    let within : c .before .before .before .before .before .loop .j * a .d + a .d ≤ length (a .words .now) = omega (arith, part-within (c .before .before .before .before .before .loop .j) (a .n) (a .d) (c .before .before .before .before .loop-test .taken)) in
+    let within : c .before .before .before .before .before .loop .j * a .d + a .d ≤ length (a .masks .now) = omega (arith, part-within (c .before .before .before .before .before .loop .j) (a .n) (a .d) (c .before .before .before .before .loop-test .taken)) in
     let next = row-more _ _ _ _ _ _ _ _ (inv .1 .1) (c .before .before .put-pair .ensures) within in
-    (omega arith, (row-kept _ _ _ _ _ _ _ next (omega arith) (c .before .before .before .before .before .before .before .before .pre .1 .1), next))
+    (omega arith, (row-kept _ _ _ _ _ _ _ next (omega arith) (c .before .before .before .before .before .before .before .before .pre .1 .1 .1), next))
 
 same-length : tie.Need-same-length Inv-loop μ-loop
 same-length c = search needs
@@ -78,7 +78,7 @@ same-length c = search needs
 returns : tie.Need-returns Inv-loop μ-loop
 returns c =
     let inv = c .before .loop .inv in
-    row-end _ _ _ _ _ _ _ (inv .1 .1) (omega arith) (c .before .before .before .before .pre .1 .1)
+    row-end _ _ _ _ _ _ _ (inv .1 .1) (omega arith) (c .before .before .before .before .pre .1 .1 .1)
 
 pub put-row-spec : {M : Type 1} → statement M
 put-row-spec =

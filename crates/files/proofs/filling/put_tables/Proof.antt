@@ -13,10 +13,10 @@ use Rattle.files.proofs.filling.put_tables.Statement.{statement}
 use Rattle.files.proofs.filling.put_tables.Tie as tie
 
 abbrev Inv-loop : tie.InvT-loop
-Inv-loop file n d words₀ i₀ words i = (i ≤ n) × ((length words ≡ n * n * d) × (words ≡ tablePart file n d i ++ drop (i * (n * d)) words₀))
+Inv-loop words n d masks₀ i₀ masks i = (i ≤ n) × ((length masks ≡ n * n * d) × (masks ≡ tablePart words n d i ++ drop (i * (n * d)) masks₀))
 
 abbrev μ-loop : tie.MeasureT-loop
-μ-loop file n d words₀ i₀ words i = n - i
+μ-loop words n d masks₀ i₀ masks i = n - i
 
 loop-holds : tie.Need-loop-holds Inv-loop μ-loop
 loop-holds c = (omega arith, (omega arith, table-none _ _ _ _))
@@ -65,8 +65,8 @@ put-row-requires : tie.Need-put-row-requires Inv-loop μ-loop
 put-row-requires c κs =
     let a = c .before .before .before .before .before .args in
     let at = c .before .before .loop .i * (a .n * a .d) in
-    let within : at + a .n * a .d ≤ length (c .before .before .loop .words) = omega (arith, part-within (c .before .before .loop .i) (a .n) (a .n * a .d) (c .before .loop-test .taken)) in
-    (c .before .before .before .before .before .pre .0, (c .before .loop-test .taken, mid-len at (at + a .n * a .d) (c .before .before .loop .words) within ∙ omega arith))
+    let within : at + a .n * a .d ≤ length (c .before .before .loop .masks) = omega (arith, part-within (c .before .before .loop .i) (a .n) (a .n * a .d) (c .before .loop-test .taken)) in
+    (c .before .before .before .before .before .pre .0, (c .before .loop-test .taken, (c .before .before .before .before .before .pre .1 .0, mid-len at (at + a .n * a .d) (c .before .before .loop .masks) within ∙ omega arith)))
 
 add-i : tie.Need-add-i Inv-loop μ-loop
 add-i c = search needs
@@ -78,9 +78,9 @@ loop-again : tie.Need-loop-again Inv-loop μ-loop
 loop-again c =
     let a = c .before .before .before .before .before .before .before .before .args in
     let inv = c .before .before .before .before .before .loop .inv in
-    let within : c .before .before .before .before .before .loop .i * (a .n * a .d) + a .n * a .d ≤ length (a .words .now) = omega (arith, part-within (c .before .before .before .before .before .loop .i) (a .n) (a .n * a .d) (c .before .before .before .before .loop-test .taken)) in
+    let within : c .before .before .before .before .before .loop .i * (a .n * a .d) + a .n * a .d ≤ length (a .masks .now) = omega (arith, part-within (c .before .before .before .before .before .loop .i) (a .n) (a .n * a .d) (c .before .before .before .before .loop-test .taken)) in
     let next = table-more _ _ _ _ _ _ _ (inv .1 .1) (c .before .before .put-row .ensures) within in
-    (omega arith, (table-kept _ _ _ _ _ _ next (omega arith) (c .before .before .before .before .before .before .before .before .pre .1), next))
+    (omega arith, (table-kept _ _ _ _ _ _ next (omega arith) (c .before .before .before .before .before .before .before .before .pre .1 .1), next))
 
 same-length : tie.Need-same-length Inv-loop μ-loop
 same-length c = search needs
@@ -88,7 +88,7 @@ same-length c = search needs
 returns : tie.Need-returns Inv-loop μ-loop
 returns c =
     let inv = c .before .loop .inv in
-    table-end _ _ _ _ _ _ (inv .1 .1) (omega arith) (c .before .before .before .before .pre .1)
+    table-end _ _ _ _ _ _ (inv .1 .1) (omega arith) (c .before .before .before .before .pre .1 .1)
 
 pub put-tables-spec : {M : Type 1} → statement M
 put-tables-spec =

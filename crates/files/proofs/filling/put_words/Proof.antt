@@ -2,36 +2,35 @@
 -- Assumes nothing.
 use borrow.Author.Needs.{needs}
 use mathlib.Core.Path.{_≡_, refl}
+use mathlib.Core.List.{_++_}
 use Prim.Native.Nat.{_-_, _≤_}
 use native.Mathlib.Omega.{arith}
-use mathlib.Core.List.{_++_}
-use lib.ListN.{length, drop, length-set}
-use Rattle.files.specs.Reading.{contentFrom}
-use Rattle.files.proofs.Mirrors.{copy-start, copy-said}
-use Rattle.files.proofs.Filled.{copied}
+use lib.ListN.{length, take, drop, length-set}
+use Rattle.search.proofs.Copies.{copy-more}
+use Rattle.files.proofs.Filled.{copy-whole}
 use Rattle.files.proofs.filling.put_words.Statement.{statement}
 use Rattle.files.proofs.filling.put_words.Tie as tie
 
 abbrev Inv-loop : tie.InvT-loop
-Inv-loop file from words₀ i₀ words i = (i ≤ length words₀) × ((length words ≡ length words₀) × (words ≡ contentFrom file from i ++ drop i words₀))
+Inv-loop words out₀ i₀ out i = (i ≤ length words) × ((length out ≡ length words) × (out ≡ take i words ++ drop i out₀))
 
 abbrev μ-loop : tie.MeasureT-loop
-μ-loop file from words₀ i₀ words i = length words₀ - i
+μ-loop words out₀ i₀ out i = length words - i
 
 loop-holds : tie.Need-loop-holds Inv-loop μ-loop
-loop-holds c = (omega arith, (refl, copy-start _ _ _))
+loop-holds c = (omega arith, (omega arith, refl))
 
-add-content-word : tie.Need-add-content-word Inv-loop μ-loop
-add-content-word c = search needs
+mul-out : tie.Need-mul-out Inv-loop μ-loop
+mul-out c = search needs
 
-content-word-requires : tie.Need-content-word-requires Inv-loop μ-loop
-content-word-requires c κs = search needs
+shared-slice-read-out : tie.Need-shared-slice-read-out Inv-loop μ-loop
+shared-slice-read-out c = search needs
 
-mul-words : tie.Need-mul-words Inv-loop μ-loop
-mul-words c = search needs
+mul-out-2 : tie.Need-mul-out-2 Inv-loop μ-loop
+mul-out-2 c = search needs
 
-slice-write-words : tie.Need-slice-write-words Inv-loop μ-loop
-slice-write-words c = search needs
+slice-write-out : tie.Need-slice-write-out Inv-loop μ-loop
+slice-write-out c = search needs
 
 add-i : tie.Need-add-i Inv-loop μ-loop
 add-i c = search needs
@@ -42,15 +41,15 @@ loop-less c = search needs
 loop-again : tie.Need-loop-again Inv-loop μ-loop
 loop-again c =
     let inv = c .before .before .loop .inv in
-    (omega arith, (simp length-set (inv .1 .0), copy-said _ _ _ _ _ _ (inv .1 .1) (c .content-word .ensures) (omega arith)))
+    (omega arith, (simp length-set (inv .1 .0), copy-more _ _ _ _ _ (inv .1 .1) refl (omega arith) (omega arith)))
 
 same-length : tie.Need-same-length Inv-loop μ-loop
 same-length c = search needs
 
 returns : tie.Need-returns Inv-loop μ-loop
 returns c =
-    let inv = c .before .loop .inv in
-    copied _ _ _ _ _ (inv .1 .1) (omega arith)
+    let end : c .before .loop .i ≡ length (c .before .before .args .words .now) = omega arith in
+    copy-whole _ _ _ _ (c .before .loop .inv .1 .1) end (c .before .before .pre)
 
 pub put-words-spec : {M : Type 1} → statement M
 put-words-spec =
@@ -59,10 +58,10 @@ put-words-spec =
     Inv-loop
     μ-loop
     loop-holds
-    add-content-word
-    content-word-requires
-    mul-words
-    slice-write-words
+    mul-out
+    shared-slice-read-out
+    mul-out-2
+    slice-write-out
     add-i
     loop-less
     loop-again

@@ -1,7 +1,7 @@
 -- `reading::numbers_fit` meets its contract.
 -- Assumes nothing.
 use borrow.Author.Needs.{needs}
-use Rattle.files.proofs.Obeyed.{numbers-1, numbers-2, numbers-3, numbers-4, numbers-5}
+use Rattle.files.proofs.Found.{numbers-1, numbers-2, numbers-3, numbers-4, numbers-5}
 use Rattle.files.proofs.reading.numbers_fit.Statement.{statement}
 use Rattle.files.proofs.reading.numbers_fit.Tie as tie
 

@@ -1,7 +1,7 @@
 -- `reading::refusal_of_file` meets its contract.
 -- Assumes nothing.
 use borrow.Author.Needs.{needs}
-use Rattle.files.proofs.Obeyed.{file-length, file-none, file-many, file-good, file-bad}
+use Rattle.files.proofs.Found.{file-length, file-none, file-many, file-good, file-bad}
 use Rattle.files.proofs.reading.refusal_of_file.Statement.{statement}
 use Rattle.files.proofs.reading.refusal_of_file.Tie as tie
 

@@ -8,7 +8,7 @@ use mathlib.Core.Bool.{true}
 use Rattle.splits.specs.Subproblems.{every}
 use Rattle.search.proofs.FirstLoops.{every-start, every-end}
 use Rattle.files.specs.Work.Said.{zeroIn}
-use Rattle.files.proofs.Obeyed.{zero-stop, zero-turn}
+use Rattle.files.proofs.Found.{zero-stop, zero-turn}
 use Rattle.files.proofs.reading.zeros_from.Statement.{statement}
 use Rattle.files.proofs.reading.zeros_from.Tie as tie
 

@@ -1,6 +1,7 @@
 -- `writing::head_word` meets its contract.
 -- Assumes nothing.
 use borrow.Author.Needs.{needs}
+use mathlib.Core.Path.{refl}
 use Rattle.files.proofs.Written.{head-number, head-count, head-content}
 use Rattle.files.proofs.writing.head_word.Statement.{statement}
 use Rattle.files.proofs.writing.head_word.Tie as tie
@@ -20,20 +21,23 @@ cast-result-2 c = search needs
 returns-2 : tie.Need-returns-2
 returns-2 c = head-count _ _ _ _ (c .if2 .taken)
 
-mul-word : tie.Need-mul-word
-mul-word c = search needs
+mul-result : tie.Need-mul-result
+mul-result c = search needs
 
-sub-word : tie.Need-sub-word
-sub-word c = search needs
+sub-result : tie.Need-sub-result
+sub-result c = search needs
 
-add-word : tie.Need-add-word
-add-word c = search needs
+add-result-2 : tie.Need-add-result-2
+add-result-2 c = search needs
 
-word-requires : tie.Need-word-requires
-word-requires c κs = search needs
+mul-result-2 : tie.Need-mul-result-2
+mul-result-2 c = search needs
+
+shared-slice-read-result : tie.Need-shared-slice-read-result
+shared-slice-read-result c = search needs
 
 returns-3 : tie.Need-returns-3
-returns-3 c = head-content _ _ _ _ _ (c .before .before .if1 .left) (c .before .if2 .left) (c .before .before .before .before .before .before .pre .1 .1 .1) (c .word .ensures)
+returns-3 c = head-content _ _ _ _ _ (c .before .before .if1 .left) (c .before .if2 .left) (c .before .before .before .pre .1 .1 .1) refl
 
 pub head-word-spec : {M : Type 1} → statement M
 head-word-spec =
@@ -44,8 +48,9 @@ head-word-spec =
     returns
     cast-result-2
     returns-2
-    mul-word
-    sub-word
-    add-word
-    word-requires
+    mul-result
+    sub-result
+    add-result-2
+    mul-result-2
+    shared-slice-read-result
     returns-3)

@@ -20,11 +20,17 @@ same-length c = search needs
 
 returns : tie.Need-returns
 returns c =
-    let long = c .before .before .before .before .before .before .before .before .before .before .before .before .before .before .pre .1 .1 .1 in
+    let long = c .before .before .before .before .before .before .before .before .before .before .before .before .pre .1 .1 .1 in
     let head = c .before .before .before .before .before .before .before .before .put-head .ensures in
     let check = check-written _ _ _ _ _ _ head (c .before .before .before .before .check .ensures) in
     block-end _ _ _ _ _ (block-more _ _ _ _ _ _ _ _ head check (omega arith) long (c .before .before .put-word .ensures)) long
 
 pub put-block-spec : {M : Type 1} → statement M
 put-block-spec =
-    tie.close (tie.spec put-head-requires check-requires put-word-requires same-length returns)
+    tie.close
+    (tie.spec
+    put-head-requires
+    check-requires
+    put-word-requires
+    same-length
+    returns)

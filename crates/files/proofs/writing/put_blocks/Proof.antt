@@ -6,16 +6,16 @@ use Prim.Native.Nat.{_+_, _-_, _*_, _≤_}
 use native.Mathlib.Omega.{arith}
 use lib.ListN.{length}
 use borrow.Rule.Slice.PartMut.{mid-len}
-use Rattle.files.specs.Work.Saved.{handed, filePart}
+use Rattle.files.specs.Work.Saved.{filePart}
 use Rattle.files.proofs.Written.{file-none, file-more, file-kept, file-end}
 use Rattle.files.proofs.writing.put_blocks.Statement.{statement}
 use Rattle.files.proofs.writing.put_blocks.Tie as tie
 
 abbrev Inv-loop : tie.InvT-loop
-Inv-loop n d domains tables agenda state blocks file₀ b₀ file b = (b ≤ blocks) × ((length file ≡ length file₀) × (file ≡ filePart blocks (handed n d domains tables agenda state) b file₀))
+Inv-loop words blocks file₀ b₀ file b = (b ≤ blocks) × ((length file ≡ length file₀) × (file ≡ filePart blocks words b file₀))
 
 abbrev μ-loop : tie.MeasureT-loop
-μ-loop n d domains tables agenda state blocks file₀ b₀ file b = blocks - b
+μ-loop words blocks file₀ b₀ file b = blocks - b
 
 loop-holds : tie.Need-loop-holds Inv-loop μ-loop
 loop-holds c = (omega arith, (refl, file-none _ _ _))
@@ -37,7 +37,7 @@ part-put-block-end c = search needs
 
 put-block-requires : tie.Need-put-block-requires Inv-loop μ-loop
 put-block-requires c κs =
-    let pre = c .before .before .before .before .before .before .before .pre in
+    let pre = c .before .before .before .before .before .pre in
     let at = 512 * c .before .before .loop .b in
     (pre .0, (pre .1 .0, (c .before .loop-test .taken, mid-len at (at + 512) (c .before .before .loop .file) (omega arith) ∙ omega arith)))
 
@@ -49,7 +49,7 @@ loop-less c = search needs
 
 loop-again : tie.Need-loop-again Inv-loop μ-loop
 loop-again c =
-    let a = c .before .before .before .before .before .before .before .before .before .before .args in
+    let a = c .before .before .before .before .before .before .before .before .args in
     let within : 512 * c .before .before .before .before .before .loop .b + 512 ≤ length (a .file .now) = omega arith in
     let next = file-more _ _ _ _ _ _ (c .before .before .before .before .before .loop .inv .1 .1) (c .before .before .put-block .ensures) within in
     (omega arith, (file-kept _ _ _ _ _ next (omega arith), next))
@@ -58,7 +58,7 @@ same-length : tie.Need-same-length Inv-loop μ-loop
 same-length c = search needs
 
 returns : tie.Need-returns Inv-loop μ-loop
-returns c = let end : c .before .loop .b ≡ c .before .before .before .before .before .before .args .blocks = omega arith in file-end _ _ _ _ _ (c .before .loop .inv .1 .1) end
+returns c = let end : c .before .loop .b ≡ c .before .before .before .before .args .blocks = omega arith in file-end _ _ _ _ _ (c .before .loop .inv .1 .1) end
 
 pub put-blocks-spec : {M : Type 1} → statement M
 put-blocks-spec =

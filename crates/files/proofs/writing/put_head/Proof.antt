@@ -5,19 +5,19 @@ use mathlib.Core.Path.{_≡_}
 use Prim.Native.Nat.{_-_, _≤_}
 use native.Mathlib.Omega.{arith}
 use lib.ListN.{length}
-use Rattle.files.specs.Work.Saved.{handed, blockPart}
+use Rattle.files.specs.Work.Saved.{blockPart}
 use Rattle.files.proofs.Written.{block-none, block-more, part-length, head-word, head-end}
 use Rattle.files.proofs.writing.put_head.Statement.{statement}
 use Rattle.files.proofs.writing.put_head.Tie as tie
 
 abbrev Inv-loop : tie.InvT-loop
-Inv-loop n d domains tables agenda state blocks b block₀ k₀ block k = (k ≤ 255) × ((length block ≡ 512) × (block ≡ blockPart blocks (handed n d domains tables agenda state) b k block₀))
+Inv-loop words blocks b block₀ k₀ block k = (k ≤ 255) × ((length block ≡ 512) × (block ≡ blockPart blocks words b k block₀))
 
 abbrev μ-loop : tie.MeasureT-loop
-μ-loop n d domains tables agenda state blocks b block₀ k₀ block k = 255 - k
+μ-loop words blocks b block₀ k₀ block k = 255 - k
 
 loop-holds : tie.Need-loop-holds Inv-loop μ-loop
-loop-holds c = (omega arith, (c .before .before .before .before .pre .1 .1 .1, block-none _ _ _ _))
+loop-holds c = (omega arith, (c .before .before .pre .1 .1 .1, block-none _ _ _ _))
 
 head-word-requires : tie.Need-head-word-requires Inv-loop μ-loop
 head-word-requires c κs = search needs
@@ -33,7 +33,7 @@ loop-less c = search needs
 
 loop-again : tie.Need-loop-again Inv-loop μ-loop
 loop-again c =
-    let long = c .before .before .before .before .before .before .before .before .before .before .before .pre .1 .1 .1 in
+    let long = c .before .before .before .before .before .before .before .before .before .pre .1 .1 .1 in
     let word = head-word _ _ _ _ _ (c .before .before .before .before .before .loop-test .taken) (c .before .before .before .before .head-word .ensures) in
     let next = block-more _ _ _ _ _ _ _ _ (c .before .before .before .before .before .before .loop .inv .1 .1) word (omega arith) long (c .before .before .put-word .ensures) in
     (omega arith, (part-length _ _ _ _ _ _ next (omega arith) long, next))

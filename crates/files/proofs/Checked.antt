@@ -1,0 +1,217 @@
+-- The rules that 15 speaks of are kept exactly if the search that the file says, in an agenda of 512 slots, passes search's first checks.
+-- Assumes nothing.
+use mathlib.Core.Path.{_≡_, refl, sym, ap, _∙_}
+use mathlib.Core.Logic.{⊎-elim}
+use mathlib.Core.Bool.{Bool, true, _&&_}
+use mathlib.Core.List.{List, _++_}
+use Prim.Native.Nat.{ℕ, _+_, _-_, _*_, _^_, _≤_, _<_}
+use native.Mathlib.Omega.{arith}
+use native.Mathlib.Nat.{mul-le-mul-right}
+use native.Mathlib.Decide.{decLt}
+use lib.ListN.{length, getD, take, drop, replicate, length-replicate, List·getD-eq-default}
+use lib.Seq.{take-all}
+use lib.Dec.{eqb}
+use borrow.Author.Tests.{eqb-true}
+use Rattle.splits.specs.Problem.{tableOf}
+use Rattle.splits.specs.Subproblems.{every}
+use Rattle.splits.proofs.Tests.{and-left, and-right, every-at}
+use Rattle.search.specs.Agenda.{slotsIn, stackOf, stackWords, agendaOf}
+use Rattle.search.specs.FirstChecks.{WholeSlots, searchRefusal}
+use Rattle.search.specs.declared.state.State.{State}
+use Rattle.search.proofs.Encoding.{stack-of-words}
+use Rattle.files.specs.Blocks.{blocksFor}
+use Rattle.files.specs.Reading.{blocksIn, contentWord, contentFrom, saidN, saidD, saidSteps, saidChecks, saidSubproblems, saidDomains, saidAllowed, saidAgenda, saidSearch, saidWords, agendaFrom, tableWords, refusalOfWords}
+use Rattle.files.specs.Promises.{Bytes}
+use Rattle.files.specs.Work.Said.{Numbers, StateSaid, numbersSaid, zeroIn, filled, agendaStart, wordsOf, sizedIn, Read, Ready}
+use Rattle.files.proofs.Lists.{seq, seq-join, map-is, zeros-at}
+use Rattle.files.proofs.Triangle.{table-other}
+use Rattle.files.proofs.Stacks.{agenda-read}
+use Rattle.files.proofs.Whole.{Whole, file-whole}
+use Rattle.files.proofs.Accepted.{Accepts, words-accept, accept-words, words-either}
+use Rattle.files.proofs.Passing.{slots-in, search-passing, passing-search}
+use Rattle.files.proofs.Tables.{rules-agree}
+use Rattle.files.proofs.RoundTrip.{said-canonical, said-length}
+use Rattle.files.proofs.Loading.{said-passing}
+use Rattle.files.proofs.Places.{content-from, length-from, content-word-small}
+use Rattle.files.proofs.Mirrors.{part-at, part-long, triangle-few}
+use Rattle.files.proofs.Filled.{content-past}
+use Rattle.files.proofs.Refused.{sized-numbers}
+
+-- ---- parts of the words read
+
+-- A part of them is so many words of the content.
+pub part-read : (file words : List ℕ) → Read file words → (from w : ℕ) → from + w ≤ 25553 → take ((from + w) - from) (drop from words) ≡ contentFrom file from w
+unfolding contentFrom
+part-read file words read from w h =
+    sym (map-is (λ k. contentWord file (from + k)) w (take ((from + w) - from) (drop from words)) (part-long words from w (omega (arith, read .long)))
+    (λ k l. sym (read .says (from + k)) ∙ sym (part-at words from w k l)))
+
+-- ---- the agenda
+
+-- Words of the content are words.
+from-small : (file : List ℕ) (from words : ℕ) → Bytes file → (i : ℕ) → getD (contentFrom file from words) i 0 < 2 ^ 16
+from-small file from words small i = elim (decLt i words) [
+  | yes h ↦ rw (content-from file from words i h) (content-word-small file small (from + i))
+  | no h ↦
+      let past : length (contentFrom file from words) ≤ i = omega (arith, length-from file from words) in
+      rw (List·getD-eq-default (contentFrom file from words) 0 past) (omega arith)
+]
+
+-- The words of the stack that they say are these words.
+words-said : (file : List ℕ) (n from m : ℕ) → Bytes file
+    → stackWords n (stackOf n (contentFrom file from (m * (n + 2))) m) ≡ contentFrom file from (m * (n + 2))
+words-said file n from m small =
+    let l : List ℕ = contentFrom file from (m * (n + 2)) in
+    let long : length l ≡ m * (n + 2) = length-from file from (m * (n + 2)) in
+    stack-of-words n l m (omega arith) (from-small file from (m * (n + 2)) small) ∙ take-all (m * (n + 2)) l (omega arith)
+
+-- With zeros after them they are the agenda of the stack that the file says.
+pub agenda-said : (file : List ℕ) (words : ℕ) → Bytes file
+    → contentFrom file (agendaFrom file) (saidSubproblems file * (saidN file + 2)) ++ replicate (words - saidSubproblems file * (saidN file + 2)) 0
+    ≡ agendaOf (saidN file) words (saidSearch file .stack)
+unfolding agendaOf saidAgenda
+agenda-said file words small =
+    let n : ℕ = saidN file in
+    let m : ℕ = saidSubproblems file in
+    let said = words-said file n (agendaFrom file) m small in
+    rw (said, length-from file (agendaFrom file) (m * (n + 2))) refl
+
+-- ---- the first checks
+
+module _ (file : List ℕ) (small : Bytes file) (whole : Whole file) (sized : sizedIn file ≡ true) where
+  numbers : Numbers (saidN file) (saidD file) × (saidSubproblems file ≤ 512)
+  numbers = sized-numbers file (saidN file) (saidD file) (saidSubproblems file) refl refl refl sized
+
+  -- Its words fill its blocks.
+  record Full : Type 0 where
+    pub fills : blocksIn file ≡ blocksFor (saidWords file)
+    pub zeros : (k : ℕ) → saidWords file ≤ k → contentWord file k ≡ 0
+
+  full : Full
+  unfolding sizedIn filled zeroIn wordsOf agendaStart
+  full =
+      let words : ℕ = saidWords file in
+      let test : ℕ → Bool = λ k. eqb (contentWord file (words + k)) 0 in
+      let blocks : Bool = eqb (blocksIn file) (blocksFor words) in
+      let both = and-right (numbersSaid file) (blocks && every (blocksIn file * 253 - words) test) sized in
+      record {
+        fills = eqb-true (blocksIn file) (blocksFor words) (and-left blocks (every (blocksIn file * 253 - words) test) both);
+        zeros = λ k l. elim (decLt k (blocksIn file * 253)) [
+          | yes h ↦
+              let at : words + (k - words) ≡ k = omega arith in
+              rw (← at) (eqb-true (contentWord file (words + (k - words))) 0
+              (every-at test (blocksIn file * 253 - words) (k - words) (omega arith) (and-right blocks (every (blocksIn file * 253 - words) test) both)))
+          | no h ↦ content-past file k (omega (arith, whole .whole))
+        ];
+      }
+
+  -- The largest agenda.
+  abbrev memory : List ℕ
+  memory = agendaOf (saidN file) (512 * (saidN file + 2)) (saidSearch file .stack)
+
+  slots : WholeSlots (saidN file) (512 * (saidN file + 2))
+  slots = (512, omega arith, omega arith, refl)
+
+  fits : saidSubproblems file ≤ slotsIn (saidN file) (512 * (saidN file + 2))
+  fits = rw (slots-in (saidN file) 512) (numbers .1)
+
+  -- The words from the agenda's first on are that agenda.
+  memory-is : contentFrom file (agendaFrom file) (512 * (saidN file + 2)) ≡ memory
+  unfolding contentFrom seq
+  memory-is =
+      let n : ℕ = saidN file in
+      let used : ℕ = saidSubproblems file * (n + 2) in
+      let left : ℕ = 512 * (n + 2) - used in
+      let few : used ≤ 512 * (n + 2) = mul-le-mul-right (n + 2) (numbers .1) in
+      let all : used + left ≡ 512 * (n + 2) = omega arith in
+      let zeros : contentFrom file (agendaFrom file + used) left ≡ replicate left 0 =
+      map-is (λ k. contentWord file (agendaFrom file + used + k)) left (replicate left 0) (length-replicate left 0)
+      (λ k l. full .zeros (agendaFrom file + used + k) (omega arith) ∙ sym (zeros-at left k)) in
+      ap (contentFrom file (agendaFrom file)) (sym all) ∙ seq-join (contentWord file) (agendaFrom file) used left
+      ∙ ap (λ (t : List ℕ). contentFrom file (agendaFrom file) used ++ t) zeros ∙ agenda-said file (512 * (n + 2)) small
+
+  -- It holds the stack that the file says.
+  memory-read : stackOf (saidN file) memory (saidSubproblems file) ≡ saidSearch file .stack
+  memory-read =
+      let few = numbers .0 .variables in
+      ap (stackOf (saidN file) memory) (sym (said-length file small few))
+      ∙ agenda-read (saidN file) few (512 * (saidN file + 2)) (saidSearch file .stack) (said-canonical file small few)
+
+  -- The refusal of the first checks.
+  abbrev checked : ℕ
+  checked =
+      searchRefusal (saidN file) (saidD file) (saidDomains file) (tableWords (saidN file) (saidD file) (saidAllowed file)) memory
+      (saidSteps file) (saidChecks file) (saidSubproblems file)
+
+  -- An accepted file passes them.
+  accepted-passes : Accepts file → checked ≡ 0
+  accepted-passes a =
+      passing-search (saidN file) (saidD file) (saidDomains file) (tableWords (saidN file) (saidD file) (saidAllowed file)) memory
+      (saidSteps file) (saidChecks file) (saidSubproblems file) (said-passing file a small (512 * (saidN file + 2)) slots fits)
+
+  -- One that passes them is accepted.
+  passes-accepted : checked ≡ 0 → Accepts file
+  passes-accepted e =
+      let n : ℕ = saidN file in
+      let d : ℕ = saidD file in
+      let tables : List ℕ = tableWords n d (saidAllowed file) in
+      let h = search-passing n d (saidDomains file) tables memory (saidSteps file) (saidChecks file) (saidSubproblems file) e in
+      record {
+        some-variable = numbers .0 .some-variable;
+        variables = numbers .0 .variables;
+        some-value = numbers .0 .some-value;
+        values = numbers .0 .values;
+        few = numbers .1;
+        fills = full .fills;
+        zeros = λ k l m. full .zeros k l;
+        domains = h .proper .domains;
+        masks = λ i j a l k m.
+            let other : i ≡ j → ⊥ = λ q. absurd (omega arith) in
+            rw (← table-other n d (saidAllowed file) i j a (omega arith) k other m) (h .proper .masks i j a (omega arith) k other m);
+        rules = λ P m.
+            rules-agree n d (λ i. getD (saidDomains file) i 0) (tableOf n d tables) (saidAllowed file) (table-other n d (saidAllowed file)) (h .proper .domains) P
+            (h .rules P (rw memory-read m));
+        counted = h .counted;
+      }
+
+  -- So 15 is given exactly if they refuse.
+  pub passes-none : checked ≡ 0 → 0 ≡ refusalOfWords file
+  passes-none e = sym (accept-words file (passes-accepted e))
+
+  pub refused-given : (checked ≡ 0 → ⊥) → 15 ≡ refusalOfWords file
+  refused-given f = ⊎-elim (λ z. absurd (f (accepted-passes (words-accept file z)))) (λ z. sym z) (words-either file)
+
+-- ---- as the code makes them
+
+module _ (file words tables : List ℕ) (small : Bytes file) (ready : Ready file words tables) (n d from r : ℕ) (s : State) (is-n : n ≡ saidN file)
+    (is-d : d ≡ saidD file) (is-from : from ≡ agendaStart n d) (said : StateSaid file s)
+    (is-r : r ≡ searchRefusal n d (take ((9 + n) - 9) (drop 9 words)) tables (take ((from + 512 * (n + 2)) - from) (drop from words)) (s .counts .steps .0) (s .counts .checks .0) (s .subproblems)) where
+  pub sized-parts : Numbers n d × (saidSubproblems file ≤ 512)
+  sized-parts = sized-numbers file n d (saidSubproblems file) is-n is-d refl (ready .sized)
+
+  domains-read : take ((9 + n) - 9) (drop 9 words) ≡ saidDomains file
+  domains-read = part-read file words (ready .read) 9 n (omega (arith, sized-parts .0 .variables)) ∙ ap (contentFrom file 9) is-n
+
+  start-few : from ≤ 7977
+  unfolding agendaStart
+  start-few = omega (arith, triangle-few n d (sized-parts .0), sized-parts .0 .variables)
+
+  start-is : from ≡ agendaFrom file
+  unfolding agendaStart
+  start-is = is-from ∙ rw (is-n, is-d) refl
+
+  slots-read : take ((from + 512 * (n + 2)) - from) (drop from words) ≡ agendaOf (saidN file) (512 * (saidN file + 2)) (saidSearch file .stack)
+  slots-read =
+      part-read file words (ready .read) from (512 * (n + 2)) (omega (arith, start-few, sized-parts .0 .variables))
+      ∙ rw (start-is, is-n) (memory-is file small (file-whole file (ready .read .whole)) (ready .sized))
+
+  made : r ≡ checked file small (file-whole file (ready .read .whole)) (ready .sized)
+  made = is-r ∙ rw (domains-read, slots-read, ready .made, said .steps, said .checks, said .subproblems, is-n, is-d) refl
+
+  -- They pass.
+  pub rules-kept : r ≡ 0 → 0 ≡ refusalOfWords file
+  rules-kept z = passes-none file small (file-whole file (ready .read .whole)) (ready .sized) (sym made ∙ z)
+
+  -- They refuse.
+  pub rules-broken : (r ≡ 0 → ⊥) → 15 ≡ refusalOfWords file
+  rules-broken f = refused-given file small (file-whole file (ready .read .whole)) (ready .sized) (λ z. f (made ∙ z))

@@ -1,0 +1,51 @@
+-- `block::word_in` meets its contract.
+-- Assumes nothing.
+use borrow.Author.Needs.{needs}
+use Rattle.files.proofs.Places.{word-in}
+use Rattle.files.proofs.block.word_in.Statement.{statement}
+use Rattle.files.proofs.block.word_in.Tie as tie
+
+mul-wide : tie.Need-mul-wide
+mul-wide c = search needs
+
+shared-slice-read-wide : tie.Need-shared-slice-read-wide
+shared-slice-read-wide c = search needs
+
+wide-requires : tie.Need-wide-requires
+wide-requires c κs = search needs
+
+mul-result : tie.Need-mul-result
+mul-result c = search needs
+
+mul-wide-2 : tie.Need-mul-wide-2
+mul-wide-2 c = search needs
+
+add-wide : tie.Need-add-wide
+add-wide c = search needs
+
+shared-slice-read-wide-2 : tie.Need-shared-slice-read-wide-2
+shared-slice-read-wide-2 c = search needs
+
+wide-requires-2 : tie.Need-wide-requires-2
+wide-requires-2 c κs = search needs
+
+add-result : tie.Need-add-result
+add-result c = search needs
+
+returns : tie.Need-returns
+returns c = word-in _ _ _ _ (c .before .before .wide .ensures .0) (c .wide2 .ensures .0)
+
+pub word-in-spec : {M : Type 1} → statement M
+word-in-spec =
+    tie.close
+    (tie.spec
+    mul-wide
+    shared-slice-read-wide
+    wide-requires
+    mul-result
+    mul-wide-2
+    add-wide
+    shared-slice-read-wide-2
+    wide-requires-2
+    add-result
+    returns)

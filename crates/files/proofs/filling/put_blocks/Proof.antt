@@ -1,0 +1,107 @@
+-- `filling::put_blocks` meets its contract. The invariant: the blocks passed are read.
+-- Assumes nothing.
+use borrow.Author.Needs.{needs}
+use mathlib.Core.Path.{_≡_, _∙_}
+use mathlib.Core.List.{_++_}
+use Prim.Native.Nat.{_+_, _-_, _*_, _≤_}
+use native.Mathlib.Omega.{arith}
+use lib.ListN.{length, drop}
+use borrow.Rule.Slice.PartMut.{mid-len}
+use Rattle.files.specs.Reading.{contentFrom}
+use Rattle.files.proofs.Mirrors.{part-long}
+use Rattle.files.proofs.Filled.{blocks-none, blocks-more, blocks-kept, blocks-end}
+use Rattle.files.proofs.filling.put_blocks.Statement.{statement}
+use Rattle.files.proofs.filling.put_blocks.Tie as tie
+
+abbrev Inv-loop : tie.InvT-loop
+Inv-loop file blocks words₀ b₀ words b = (b ≤ blocks) × ((length words ≡ blocks * 253) × (words ≡ contentFrom file 0 (b * 253) ++ drop (b * 253) words₀))
+
+abbrev μ-loop : tie.MeasureT-loop
+μ-loop file blocks words₀ b₀ words b = blocks - b
+
+loop-holds : tie.Need-loop-holds Inv-loop μ-loop
+loop-holds c = (omega arith, (omega arith, blocks-none _ _))
+
+mul-at : tie.Need-mul-at Inv-loop μ-loop
+mul-at c = search needs
+
+add-end : tie.Need-add-end Inv-loop μ-loop
+add-end c = search needs
+
+mul-to : tie.Need-mul-to Inv-loop μ-loop
+mul-to c = search needs
+
+add-last : tie.Need-add-last Inv-loop μ-loop
+add-last c = search needs
+
+sub-put-block : tie.Need-sub-put-block Inv-loop μ-loop
+sub-put-block c = search needs
+
+part-put-block-start : tie.Need-part-put-block-start Inv-loop μ-loop
+part-put-block-start c = search needs
+
+part-put-block-end : tie.Need-part-put-block-end Inv-loop μ-loop
+part-put-block-end c = search needs
+
+mul-put-block : tie.Need-mul-put-block Inv-loop μ-loop
+mul-put-block c = search needs
+
+sub-put-block-2 : tie.Need-sub-put-block-2 Inv-loop μ-loop
+sub-put-block-2 c = search needs
+
+part-put-block-start-2 : tie.Need-part-put-block-start-2 Inv-loop μ-loop
+part-put-block-start-2 c = search needs
+
+part-put-block-end-2 : tie.Need-part-put-block-end-2 Inv-loop μ-loop
+part-put-block-end-2 c = search needs
+
+put-block-requires : tie.Need-put-block-requires Inv-loop μ-loop
+put-block-requires c κs =
+    let to = c .before .before .before .loop .b * 253 in
+    let within : to + 253 ≤ length (c .before .before .before .loop .words) = omega arith in
+    (part-long (c .before .before .before .before .before .before .args .file .now) (c .before .before .before .loop .b * 512) 512 (omega arith), mid-len to (to + 253) (c .before .before .before .loop .words) within ∙ omega arith)
+
+add-b : tie.Need-add-b Inv-loop μ-loop
+add-b c = search needs
+
+loop-less : tie.Need-loop-less Inv-loop μ-loop
+loop-less c = search needs
+
+loop-again : tie.Need-loop-again Inv-loop μ-loop
+loop-again c =
+    let inv = c .before .before .before .before .before .before .loop .inv in
+    let next = blocks-more _ _ _ _ _ (inv .1 .1) (c .before .before .put-block .ensures) (omega arith) in
+    (omega arith, (blocks-kept _ _ _ _ _ next (omega arith) (c .before .before .before .before .before .before .before .before .before .pre .1 .1), next))
+
+same-length : tie.Need-same-length Inv-loop μ-loop
+same-length c = search needs
+
+returns : tie.Need-returns Inv-loop μ-loop
+returns c =
+    let end : c .before .loop .b ≡ c .before .before .before .before .args .blocks = omega arith in
+    blocks-end _ _ _ _ _ (c .before .loop .inv .1 .1) end (c .before .before .before .before .pre .1 .1)
+
+pub put-blocks-spec : {M : Type 1} → statement M
+put-blocks-spec =
+    tie.close
+    (tie.spec
+    Inv-loop
+    μ-loop
+    loop-holds
+    mul-at
+    add-end
+    mul-to
+    add-last
+    sub-put-block
+    part-put-block-start
+    part-put-block-end
+    mul-put-block
+    sub-put-block-2
+    part-put-block-start-2
+    part-put-block-end-2
+    put-block-requires
+    add-b
+    loop-less
+    loop-again
+    same-length
+    returns)

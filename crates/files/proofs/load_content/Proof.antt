@@ -1,0 +1,88 @@
+-- `load_content` meets its contract.
+-- Assumes nothing.
+use borrow.Author.Needs.{needs}
+use mathlib.Core.Path.{refl}
+use native.Mathlib.Omega.{arith}
+use lib.ListN.{length-take}
+use Rattle.files.proofs.Refused.{sized-found, sized-refused, sized-numbers, refused-15}
+use Rattle.files.proofs.Filled.{tables-few, made-fits, made-count}
+use Rattle.files.proofs.LoadOutcomes.{load-refused, made-ready}
+use Rattle.files.proofs.load_content.Statement.{statement}
+use Rattle.files.proofs.load_content.Tie as tie
+
+refusal-of-numbers-requires : tie.Need-refusal-of-numbers-requires
+refusal-of-numbers-requires c κs = search needs
+
+refuse-requires : tie.Need-refuse-requires
+refuse-requires c κs = search needs
+
+returns : tie.Need-returns
+returns c = load-refused _ _ _ _ _ (refused-15 _ _ _ _ _ (c .before .before .before .before .before .before .before .before .pre .whole) (sized-refused _ _ (c .before .before .refusal-of-numbers .ensures) (c .before .if1 .taken)) (c .before .if1 .taken)) (c .before .if1 .taken) _ (c .refuse .ensures)
+
+n-requires : tie.Need-n-requires
+n-requires c κs = search needs
+
+d-requires : tie.Need-d-requires
+d-requires c κs = search needs
+
+mul-masks : tie.Need-mul-masks
+mul-masks c = let s = sized-numbers (c .before .before .before .before .before .before .before .before .before .args .file .now) _ _ _ (c .before .n .ensures) (c .d .ensures) refl (sized-found _ _ (c .before .before .before .refusal-of-numbers .ensures) (c .before .before .if1 .left)) in let few = tables-few _ _ (s .0) in omega (arith, few .0)
+
+mul-masks-2 : tie.Need-mul-masks-2
+mul-masks-2 c = let s = sized-numbers (c .before .before .before .before .before .before .before .before .before .args .file .now) _ _ _ (c .before .n .ensures) (c .d .ensures) refl (sized-found _ _ (c .before .before .before .refusal-of-numbers .ensures) (c .before .before .if1 .left)) in let few = tables-few _ _ (s .0) in omega (arith, few .1)
+
+room-for-tables-requires : tie.Need-room-for-tables-requires
+room-for-tables-requires c κs = search needs
+
+array-borrow-prefix-all : tie.Need-array-borrow-prefix-all
+array-borrow-prefix-all c = let s = sized-numbers (c .before .before .before .before .before .before .before .before .before .before .args .file .now) _ _ _ (c .before .before .n .ensures) (c .before .d .ensures) refl (sized-found _ _ (c .before .before .before .before .refusal-of-numbers .ensures) (c .before .before .before .if1 .left)) in let few = tables-few _ _ (s .0) in omega (arith, few .1, c .room-for-tables .ensures)
+
+slice-aggregate-put-tables : tie.Need-slice-aggregate-put-tables
+slice-aggregate-put-tables c = let s = sized-numbers (c .before .before .before .before .before .before .before .before .before .before .before .args .file .now) _ _ _ (c .before .before .before .n .ensures) (c .before .before .d .ensures) refl (sized-found _ _ (c .before .before .before .before .before .refusal-of-numbers .ensures) (c .before .before .before .before .if1 .left)) in let few = tables-few _ _ (s .0) in simp length-take (omega (arith, few .1, c .before .room-for-tables .ensures))
+
+put-tables-requires : tie.Need-put-tables-requires
+put-tables-requires c κs = let s = sized-numbers (c .before .before .before .before .before .before .before .before .before .before .before .args .file .now) _ _ _ (c .before .before .before .n .ensures) (c .before .before .d .ensures) refl (sized-found _ _ (c .before .before .before .before .before .refusal-of-numbers .ensures) (c .before .before .before .before .if1 .left)) in let few = tables-few _ _ (s .0) in (s .0, (c .before .before .before .before .before .before .before .before .before .before .before .pre .long, simp length-take (omega (arith, few .1, c .before .room-for-tables .ensures))))
+
+array-share-prefix-all : tie.Need-array-share-prefix-all
+array-share-prefix-all c = made-fits _ _ _ _ _ (c .before .put-tables .ensures)
+
+slice-aggregate-load-search : tie.Need-slice-aggregate-load-search
+slice-aggregate-load-search c = made-count _ _ _ _ _ (c .before .before .put-tables .ensures)
+
+load-search-requires : tie.Need-load-search-requires
+load-search-requires c κs = made-ready _ _ _ _ _ _ _ (c .before .before .before .before .before .before .before .before .before .before .before .before .before .before .before .before .before .pre) (sized-found _ _ (c .before .before .before .before .before .before .before .before .before .before .before .refusal-of-numbers .ensures) (c .before .before .before .before .before .before .before .before .before .before .if1 .left)) (c .before .before .before .before .before .before .before .before .before .n .ensures) (c .before .before .before .before .before .before .before .before .d .ensures) refl (c .before .before .before .before .before .put-tables .ensures)
+
+same-length : tie.Need-same-length
+same-length c = search needs
+
+same-length-2 : tie.Need-same-length-2
+same-length-2 c = search needs
+
+same-length-3 : tie.Need-same-length-3
+same-length-3 c = search needs
+
+returns-2 : tie.Need-returns-2
+returns-2 c = c .before .before .before .before .before .before .load-search .ensures
+
+pub load-content-spec : {M : Type 1} → statement M
+load-content-spec =
+    tie.close
+    (tie.spec
+    refusal-of-numbers-requires
+    refuse-requires
+    returns
+    n-requires
+    d-requires
+    mul-masks
+    mul-masks-2
+    room-for-tables-requires
+    array-borrow-prefix-all
+    slice-aggregate-put-tables
+    put-tables-requires
+    array-share-prefix-all
+    slice-aggregate-load-search
+    load-search-requires
+    same-length
+    same-length-2
+    same-length-3
+    returns-2)
