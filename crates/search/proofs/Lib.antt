@@ -5,6 +5,7 @@ pub mod Obeying
 pub mod Joining
 pub mod Marked
 pub mod Turning
+pub mod Exchanging
 pub mod Pairs
 pub mod FirstParts
 pub mod Decisions

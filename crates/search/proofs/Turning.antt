@@ -25,7 +25,7 @@ use Rattle.search.proofs.Joining.{bit-shr}
 
 -- ---- digits of shifted words
 
-bit-shl : (m s q : ℕ) → bit (m * 2 ^ s) (s + q) ≡ bit m q
+pub bit-shl : (m s q : ℕ) → bit (m * 2 ^ s) (s + q) ≡ bit m q
 bit-shl m s q = sym (bit-shr (m * 2 ^ s) s q) ∙ ap (λ (x : ℕ). bit x q) (shl-shr m s)
 
 low-digit : (j p m : ℕ) → bit (m % 2 ^ (j + 1 + p)) p ≡ bit m p
@@ -38,7 +38,7 @@ bit-low w m p h =
     ap (λ (x : ℕ). bit (m % 2 ^ x) p) e ∙ low-digit (w - p - 1) p m
 
 -- the digits of what a word has not
-bit-not : (w b v : ℕ) → b < 2 ^ w → v < w → bit (2 ^ w - 1 - b) v ≡ 1 - bit b v
+pub bit-not : (w b v : ℕ) → b < 2 ^ w → v < w → bit (2 ^ w - 1 - b) v ≡ 1 - bit b v
 bit-not zero b v h l = absurd (not-suc-le-zero l)
 bit-not (suc w) b zero h l = omega (arith, bit-zero (2 ^ suc w - 1 - b), bit-zero b)
 bit-not (suc w) b (suc v) h l =
@@ -64,7 +64,7 @@ riseFits k s = every 64 (λ p. eqb (bit k p) 1 || leb s p)
 unfoldable sinkFits : ℕ → ℕ → Bool
 sinkFits k s = every 64 (λ p. eqb (bit k p) 1 || ltb (s + p) 64)
 
-joined-lt : (a x k : ℕ) → k < 2 ^ 64 → bitOr (bitAnd a k) (bitAnd x (2 ^ 64 - 1 - k)) < 2 ^ 64
+pub joined-lt : (a x k : ℕ) → k < 2 ^ 64 → bitOr (bitAnd a k) (bitAnd x (2 ^ 64 - 1 - k)) < 2 ^ 64
 joined-lt a x k h =
     or-lt 64 (bitAnd a k) (bitAnd x (2 ^ 64 - 1 - k)) (lt-of-le-of-lt (and-le-r a k) h)
     (lt-of-le-of-lt (and-le-r x (2 ^ 64 - 1 - k)) (ones-sub-lt 64 k))

@@ -1,9 +1,10 @@
 // The 16 by 16 bit matrix, rows for columns.
 ghost use mathlib.Core.Path.{_≡_};
-ghost use Prim.Native.Nat.{_+_, _≤_, _<_};
+ghost use Prim.Native.Nat.{_+_, _-_, _*_, _%_, _^_, _≤_, _<_};
+ghost use lib.Bits.{bitAnd};
 ghost use lib.ListN.{length};
 ghost use Rattle.search.specs.Matrix.{Turned};
-ghost use Rattle.search.specs.Work.Matrices.{rowIn, four, matrixOf, risen, sunk, byOne, byTwo, within, byFour, byEight, columns, difference, wordAt, rowsOf, Words};
+ghost use Rattle.search.specs.Work.Matrices.{rowIn, four, matrixOf, unlike, risen, sunk, byOne, byTwo, within, byFour, byEight, columns, difference, wordAt, rowsOf, Words};
 
 // 16 rows of 16 bits, four rows to a word.
 pub(crate) struct Matrix {
@@ -13,44 +14,51 @@ pub(crate) struct Matrix {
     fourth: u64,
 }
 
-// Bits of `a` where `keep` has one, elsewhere those of `b` from so many places below.
-fn risen(a: u64, b: u64, keep: u64, places: usize) -> u64
+// The digits of a mask in which `a`, so many places above, differs from `b`.
+fn unlike(a: u64, b: u64, mask: u64, places: usize) -> u64
     requires { ⌜ places < 64 ⌝ }
-    ensures { λ r. ⌜ r ≡ risen a b keep places ⌝ }
+    ensures { λ r. ⌜ r ≡ unlike a b mask places ⌝ }
 {
-    (a & keep) | ((b << places) & !keep)
+    ((a >> places) ^ b) & mask
 }
 
-// The same from so many places above.
-fn sunk(a: u64, b: u64, keep: u64, places: usize) -> u64
+// `a`, but so many places above those of the mask the digits of `b`.
+fn risen(a: u64, b: u64, mask: u64, places: usize) -> u64
     requires { ⌜ places < 64 ⌝ }
-    ensures { λ r. ⌜ r ≡ sunk a b keep places ⌝ }
+    ensures { λ r. ⌜ r ≡ risen a b (2 ^ 64 - 1 - mask * 2 ^ places % 2 ^ 64) places ⌝ }
 {
-    (a & keep) | ((b >> places) & !keep)
+    a ^ (unlike(a, b, mask, places) << places)
+}
+
+// `a`, but in those of the mask the digits of `b` from so many places above.
+fn sunk(a: u64, b: u64, mask: u64, places: usize) -> u64
+    requires { ⌜ places < 64 ⌝ }
+    ensures { λ r. ⌜ r ≡ sunk a b (2 ^ 64 - 1 - mask) places ⌝ }
+{
+    a ^ unlike(b, a, mask, places)
+}
+
+// Both within a word.
+fn swapped(x: u64, mask: u64, places: usize) -> u64
+    requires { ⌜ (places < 64) × (bitAnd mask (mask * 2 ^ places % 2 ^ 64) ≡ 0) ⌝ }
+    ensures { λ r. ⌜ r ≡ risen (sunk x x (2 ^ 64 - 1 - mask) places) x (2 ^ 64 - 1 - mask * 2 ^ places % 2 ^ 64) places ⌝ }
+{
+    let digits = unlike(x, x, mask, places);
+    (x ^ digits) ^ (digits << places)
 }
 
 // Four rows, the digit of weight 1 of row and column exchanged.
 fn by_one(x: u64) -> u64
     ensures { λ r. ⌜ r ≡ byOne x ⌝ }
 {
-    risen(
-        sunk(x, x, 0xFFFF5555FFFF5555, 15),
-        x,
-        0xAAAAFFFFAAAAFFFF,
-        15,
-    )
+    swapped(x, 0x0000AAAA0000AAAA, 15)
 }
 
 // That of weight 2.
 fn by_two(x: u64) -> u64
     ensures { λ r. ⌜ r ≡ byTwo x ⌝ }
 {
-    risen(
-        sunk(x, x, 0xFFFFFFFF33333333, 30),
-        x,
-        0xCCCCCCCCFFFFFFFF,
-        30,
-    )
+    swapped(x, 0x00000000CCCCCCCC, 30)
 }
 
 // Both of these in all rows.
@@ -71,9 +79,9 @@ fn by_four(m: Matrix) -> Matrix
 {
     Matrix {
         first: risen(m.first, m.second, 0x0F0F0F0F0F0F0F0F, 4),
-        second: sunk(m.second, m.first, 0xF0F0F0F0F0F0F0F0, 4),
+        second: sunk(m.second, m.first, 0x0F0F0F0F0F0F0F0F, 4),
         third: risen(m.third, m.fourth, 0x0F0F0F0F0F0F0F0F, 4),
-        fourth: sunk(m.fourth, m.third, 0xF0F0F0F0F0F0F0F0, 4),
+        fourth: sunk(m.fourth, m.third, 0x0F0F0F0F0F0F0F0F, 4),
     }
 }
 
@@ -84,8 +92,8 @@ fn by_eight(m: Matrix) -> Matrix
     Matrix {
         first: risen(m.first, m.third, 0x00FF00FF00FF00FF, 8),
         second: risen(m.second, m.fourth, 0x00FF00FF00FF00FF, 8),
-        third: sunk(m.third, m.first, 0xFF00FF00FF00FF00, 8),
-        fourth: sunk(m.fourth, m.second, 0xFF00FF00FF00FF00, 8),
+        third: sunk(m.third, m.first, 0x00FF00FF00FF00FF, 8),
+        fourth: sunk(m.fourth, m.second, 0x00FF00FF00FF00FF, 8),
     }
 }
 

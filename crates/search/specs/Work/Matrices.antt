@@ -21,6 +21,10 @@ four row k = row k + row (k + 1) * 65536 + row (k + 2) * 4294967296 + row (k + 3
 unfoldable pub matrixOf : (ℕ → ℕ) → Matrix
 matrixOf row = record { first = four row 0; second = four row 4; third = four row 8; fourth = four row 12 }
 
+-- The digits of a mask in which a, so many places above, differs from b.
+unfoldable pub unlike : ℕ → ℕ → ℕ → ℕ → ℕ
+unlike a b mask places = bitAnd (bitXor (a / 2 ^ places) b) mask
+
 -- Bits of a where `keep` has one, elsewhere those of b from so many places below, or above.
 unfoldable pub risen : ℕ → ℕ → ℕ → ℕ → ℕ
 risen a b keep places = bitOr (bitAnd a keep) (bitAnd (b * 2 ^ places % 2 ^ 64) (2 ^ 64 - 1 - keep))

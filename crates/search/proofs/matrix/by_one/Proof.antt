@@ -1,19 +1,17 @@
--- `matrix::by_one` meets its contract: the definition follows the calls.
+-- `matrix::by_one` meets its contract: the places do not meet.
 -- Assumes nothing.
-use borrow.Author.Needs.{needs}
+use mathlib.Core.Path.{refl}
+use native.Mathlib.Omega.{arith}
 use Rattle.search.specs.Work.Matrices.{byOne}
 use Rattle.search.proofs.matrix.by_one.Statement.{statement}
 use Rattle.search.proofs.matrix.by_one.Tie as tie
 
-sunk-requires : tie.Need-sunk-requires
-sunk-requires c κs = search needs
-
-risen-requires : tie.Need-risen-requires
-risen-requires c κs = search needs
+swapped-requires : tie.Need-swapped-requires
+swapped-requires c κs = (omega arith, refl)
 
 returns : tie.Need-returns
 unfolding byOne
-returns c = cc
+returns c = c .swapped .ensures
 
 pub by-one-spec : {M : Type 1} → statement M
-by-one-spec = tie.close (tie.spec sunk-requires risen-requires returns)
+by-one-spec = tie.close (tie.spec swapped-requires returns)

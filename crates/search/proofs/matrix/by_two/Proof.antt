@@ -1,19 +1,17 @@
--- `matrix::by_two` meets its contract: the definition follows the calls.
+-- `matrix::by_two` meets its contract: the places do not meet.
 -- Assumes nothing.
-use borrow.Author.Needs.{needs}
+use mathlib.Core.Path.{refl}
+use native.Mathlib.Omega.{arith}
 use Rattle.search.specs.Work.Matrices.{byTwo}
 use Rattle.search.proofs.matrix.by_two.Statement.{statement}
 use Rattle.search.proofs.matrix.by_two.Tie as tie
 
-sunk-requires : tie.Need-sunk-requires
-sunk-requires c κs = search needs
-
-risen-requires : tie.Need-risen-requires
-risen-requires c κs = search needs
+swapped-requires : tie.Need-swapped-requires
+swapped-requires c κs = (omega arith, refl)
 
 returns : tie.Need-returns
 unfolding byTwo
-returns c = cc
+returns c = c .swapped .ensures
 
 pub by-two-spec : {M : Type 1} → statement M
-by-two-spec = tie.close (tie.spec sunk-requires risen-requires returns)
+by-two-spec = tie.close (tie.spec swapped-requires returns)

@@ -1,17 +1,18 @@
--- `matrix::risen` meets its contract: the definition follows the code.
+-- `matrix::risen` meets its contract: what differs is exchanged.
 -- Assumes nothing.
-use mathlib.Core.Path.{refl}
 use borrow.Author.Needs.{needs}
-use Rattle.search.specs.Work.Matrices.{risen}
+use Rattle.search.proofs.Exchanging.{risen-made}
 use Rattle.search.proofs.matrix.risen.Statement.{statement}
 use Rattle.search.proofs.matrix.risen.Tie as tie
+
+unlike-requires : tie.Need-unlike-requires
+unlike-requires c κs = search needs
 
 shl-result : tie.Need-shl-result
 shl-result c = search needs
 
 returns : tie.Need-returns
-unfolding risen
-returns c = refl
+returns c = rw (c .unlike .ensures) (risen-made _ _ _ _ (c .before .fits .a .fits))
 
 pub risen-spec : {M : Type 1} → statement M
-risen-spec = tie.close (tie.spec shl-result returns)
+risen-spec = tie.close (tie.spec unlike-requires shl-result returns)

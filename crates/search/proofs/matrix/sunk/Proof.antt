@@ -1,17 +1,15 @@
--- `matrix::sunk` meets its contract: the definition follows the code.
+-- `matrix::sunk` meets its contract: what differs is exchanged.
 -- Assumes nothing.
-use mathlib.Core.Path.{refl}
 use borrow.Author.Needs.{needs}
-use Rattle.search.specs.Work.Matrices.{sunk}
+use Rattle.search.proofs.Exchanging.{sunk-made}
 use Rattle.search.proofs.matrix.sunk.Statement.{statement}
 use Rattle.search.proofs.matrix.sunk.Tie as tie
 
-shr-result : tie.Need-shr-result
-shr-result c = search needs
+unlike-requires : tie.Need-unlike-requires
+unlike-requires c κs = search needs
 
 returns : tie.Need-returns
-unfolding sunk
-returns c = refl
+returns c = rw (c .unlike .ensures) (sunk-made _ _ _ _ (c .before .fits .a .fits) (c .before .fits .mask .fits))
 
 pub sunk-spec : {M : Type 1} → statement M
-sunk-spec = tie.close (tie.spec shr-result returns)
+sunk-spec = tie.close (tie.spec unlike-requires returns)
