@@ -12,14 +12,14 @@ use lib.Seq.{length-take-le, getD-set-same, getD-set-other, getD-take, getD-drop
 use lib.Pow.{pow-mono, pow-pos}
 use lib.Dec.{eqb, leb}
 use borrow.Author.Tests.{eq-eqb, ne-eqb, lt-ltb, le-ltb, eqb-true, le-leb, lt-leb}
-use Rattle.splits.specs.Masks.{bit, common, minus, size}
+use Rattle.splits.specs.Masks.{bit, single, common, minus, size}
 use Rattle.splits.specs.Problem.{total}
 use Rattle.splits.specs.Subproblems.{every}
-use Rattle.splits.proofs.Masks.{common-none, not-minus, single-lt}
+use Rattle.splits.proofs.Masks.{common-none, not-minus, single-lt, bit-single-same, bit-single-other}
 use Rattle.splits.proofs.Tests.{every-at}
 use Rattle.search.specs.Agenda.{holding, subproblemOf, slotAt}
 use Rattle.search.specs.Work.Slots.{SlotIn}
-use Rattle.search.specs.Work.Lanes.{Half, Beyond, Below, Kept, KeptTo, keyOf, partOf, furtherAt, FurtherTo, exceeding}
+use Rattle.search.specs.Work.Lanes.{Half, Beyond, Below, Kept, KeptTo, keyOf, Turned, partOf, furtherAt, FurtherTo, exceeding}
 use Rattle.search.proofs.Joining.{bit-shr}
 use Rattle.search.proofs.Turning.{bit-low}
 
@@ -45,6 +45,10 @@ all-beyond = refl
 -- As the code shifts.
 pub shift-is : (i : ℕ) → i ≤ 32 → 1 * 2 ^ i % 2 ^ 64 ≡ 2 ^ i
 shift-is i h = simp one-mul (mod-eq-of-lt (single-lt 64 i (omega arith)))
+
+-- Within a u32.
+pub one-is : (j : ℕ) → j < 32 → 1 * 2 ^ j % 2 ^ 32 ≡ single j
+one-is j h = simp one-mul (mod-eq-of-lt (single-lt 32 j h))
 
 pub shift-small : (i : ℕ) → i ≤ 32 → (1 ≤ 1 * 2 ^ i % 2 ^ 64) × (1 * 2 ^ i % 2 ^ 64 ≤ 4294967296)
 shift-small i h = rw (shift-is i h) (pow-pos i, pow-mono h)
@@ -148,41 +152,44 @@ slot-lanes n k agenda lanes D high low m slot fits b kept hi lo e =
 
 -- ---- the piece for a variable
 
+-- A mask as it is, and all that is outside it.
+pub turned-not : (mask test : ℕ) → mask < 2 ^ 16 → test ≡ 1 → Turned mask test (65535 - mask)
+turned-not mask test h e m k = rw (eq-eqb test 1 e) (not-minus 16 m mask k h)
+
+pub turned-same : (mask test : ℕ) → (test ≡ 1 → ⊥) → Turned mask test mask
+turned-same mask test e m k = rw (ne-eqb test 1 e) refl
+
 -- A mask of it by two tests.
-module _ (m mask from after : ℕ) where
-  pub part-after : after ≡ 1 → m ≡ partOf m mask from after
+module _ (m mask at after : ℕ) where
+  pub part-after : after ≡ 1 → m ≡ partOf m mask at after
   unfolding partOf
   part-after e = rw (eq-eqb after 1 e) refl
 
-  pub part-at : (after ≡ 1 → ⊥) → from ≡ 1 → minus m mask ≡ partOf m mask from after
+  pub part-other : (after ≡ 1 → ⊥) → m < 2 ^ 16 → (r : ℕ) → Turned mask at r → common m r ≡ partOf m mask at after
   unfolding partOf
-  part-at h e = rw (ne-eqb after 1 h, eq-eqb from 1 e) refl
+  part-other h k r t = t m k ∙ rw (ne-eqb after 1 h) refl
 
-  pub part-before : (after ≡ 1 → ⊥) → (from ≡ 1 → ⊥) → common m mask ≡ partOf m mask from after
-  unfolding partOf
-  part-before h e = rw (ne-eqb after 1 h, ne-eqb from 1 e) refl
-
--- The tests are those of the variables from j on, and after it.
-part-is : (l row : List ℕ) (j from after i : ℕ) → Beyond j from → Beyond (j + 1) after → i < 32
-    → partOf (getD l i 0) (getD row i 0) (bit from i) (bit after i) ≡ furtherAt l row j i
+-- The tests are those of variable j and of those after it.
+part-is : (l row : List ℕ) (j after i : ℕ) → Beyond (j + 1) after → i < 32
+    → partOf (getD l i 0) (getD row i 0) (bit (single j) i) (bit after i) ≡ furtherAt l row j i
 unfolding partOf furtherAt
-part-is l row j from after i f a h = elim (decLt i j) [
-  | yes k ↦ rw (f .before i k, a .before i (omega arith), lt-ltb i j k) refl
+part-is l row j after i a h = elim (decLt i j) [
+  | yes k ↦ rw (bit-single-other j i (λ e. omega arith), a .before i (omega arith), lt-ltb i j k) refl
   | no k ↦ elim (ℕ-discrete i j) [
-    | yes e ↦ rw (f .after i (omega arith) h, a .before i (omega arith), le-ltb i j (omega arith), eq-eqb i j e) refl
+    | yes e ↦ rw (le-ltb i j (omega arith), eq-eqb i j e, a .before i (omega arith), e, bit-single-same j) refl
     | no e ↦ rw (a .after i (omega arith) h, le-ltb i j (omega arith), ne-eqb i j e) refl
   ]
 ]
 
 -- Two masks more of it.
-module _ (l row : List ℕ) (j from after low low′ high high′ i : ℕ) (f : Beyond j from) (a : Beyond (j + 1) after) (h : i < 16)
-    (fl : Half from 0 low) (al : Half after 0 low′) (fh : Half from 16 high) (ah : Half after 16 high′) (r : List ℕ) (so-far : FurtherTo l row j i r) (x y : ℕ)
+module _ (l row : List ℕ) (j at after low low′ high high′ i : ℕ) (f : at ≡ single j) (a : Beyond (j + 1) after) (h : i < 16)
+    (fl : Half at 0 low) (al : Half after 0 low′) (fh : Half at 16 high) (ah : Half after 16 high′) (r : List ℕ) (so-far : FurtherTo l row j i r) (x y : ℕ)
     (first : x ≡ partOf (getD l i 0) (getD row i 0) (bit low i) (bit low′ i)) (second : y ≡ partOf (getD l (i + 16) 0) (getD row (i + 16) 0) (bit high i) (bit high′ i)) where
   first-is : x ≡ furtherAt l row j i
-  first-is = first ∙ rw (fl i h, al i h) (let e : 0 + i ≡ i = omega arith in rw e (part-is l row j from after i f a (omega arith)))
+  first-is = first ∙ rw (fl i h, al i h, f) (let e : 0 + i ≡ i = omega arith in rw e (part-is l row j after i a (omega arith)))
 
   second-is : y ≡ furtherAt l row j (i + 16)
-  second-is = second ∙ rw (fh i h, ah i h) (let e : 16 + i ≡ i + 16 = omega arith in rw e (part-is l row j from after (i + 16) f a (omega arith)))
+  second-is = second ∙ rw (fh i h, ah i h, f) (let e : 16 + i ≡ i + 16 = omega arith in rw e (part-is l row j after (i + 16) a (omega arith)))
 
   pub further-more : FurtherTo l row j (i + 1) (set (set r i x) (i + 16) y)
   further-more = record {

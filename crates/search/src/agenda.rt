@@ -96,20 +96,16 @@ fn put_domains(words: &mut [u16], domains: [u16; 32])
     }
 }
 
-// The first `n` words are the domains. All 32 are written at once.
+// The first `n` words are the domains.
 fn put_front(n: usize, slot: &mut [u16], domains: [u16; 32])
     requires { ⌜ (n ≤ 32) × (n ≤ length (now slot)) ⌝ }
     ensures { λ r. ⌜ now (slot .exit) ≡ take n domains ++ drop n (now (slot .entry)) ⌝ }
 {
-    if n == 32 {
-        put_domains(&mut slot[..32], domains);
-        return;
-    }
     put_domains(&mut slot[..n], domains);
 }
 
-// The words of a slot.
-fn put_words(n: usize, slot: &mut [u16], p: Subproblem)
+// The words of a slot, one by one.
+fn put_each(n: usize, slot: &mut [u16], p: Subproblem)
     requires { ⌜ (n ≤ 32) × (length (now slot) ≡ n + 2) ⌝ }
     ensures { λ r. ⌜ now (slot .exit) ≡ slotWords n p ⌝ }
 {
@@ -117,6 +113,18 @@ fn put_words(n: usize, slot: &mut [u16], p: Subproblem)
     put_front(n, slot, domains);
     slot[n] = (p.marked / 65536) as u16;
     slot[n + 1] = (p.marked % 65536) as u16;
+}
+
+// The same; of 32 variables all at once.
+fn put_words(n: usize, slot: &mut [u16], p: Subproblem)
+    requires { ⌜ (n ≤ 32) × (length (now slot) ≡ n + 2) ⌝ }
+    ensures { λ r. ⌜ now (slot .exit) ≡ slotWords n p ⌝ }
+{
+    if n == 32 {
+        put_each(32, slot, p);
+        return;
+    }
+    put_each(n, slot, p);
 }
 
 // Slot `k` holds the subproblem.

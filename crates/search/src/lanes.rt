@@ -6,7 +6,7 @@ ghost use lib.ListN.{getD};
 ghost use lib.Dec.{eqb};
 ghost use Rattle.splits.specs.Masks.{bit, minus, size};
 ghost use Rattle.splits.specs.Problem.{total};
-ghost use Rattle.search.specs.Work.Lanes.{Half, Beyond, Below, LeastKey, lost, loses, cutTo, partOf, FurtherTo, exceeding};
+ghost use Rattle.search.specs.Work.Lanes.{Half, Beyond, Below, LeastKey, lost, loses, cutTo, Turned, partOf, FurtherTo, exceeding};
 
 fn least(a: u16, b: u16) -> u16
     ensures { λ r. ⌜ r ≡ min a b ⌝ }
@@ -143,18 +143,25 @@ pub(crate) fn cut(mut domains: [u16; 32], row: [u16; 32]) -> [u16; 32]
     domains
 }
 
-// A domain of the piece for a variable: cut to its mask before it, at the values outside the mask for it, whole after it.
-fn part(whole: u16, mask: u16, i: usize, from: u16, after: u16) -> u16
+// A mask, or of a variable in the half of a set all that is outside it.
+fn turned(mask: u16, half: u16, i: usize) -> u16
     requires { ⌜ i < 16 ⌝ }
-    ensures { λ r. ⌜ r ≡ partOf whole mask (bit from i) (bit after i) ⌝ }
+    ensures { λ r. ⌜ Turned mask (bit half i) r ⌝ }
 {
+    if (half >> i) % 2 == 1 { !mask } else { mask }
+}
+
+// A domain of the piece for a variable: cut to its mask before it, at the values outside the mask for it, whole after it.
+fn part(whole: u16, mask: u16, i: usize, at: u16, after: u16) -> u16
+    requires { ⌜ i < 16 ⌝ }
+    ensures { λ r. ⌜ r ≡ partOf whole mask (bit at i) (bit after i) ⌝ }
+{
+    let turned = turned(mask, at, i);
     if (after >> i) % 2 == 1 {
-        return whole;
+        whole
+    } else {
+        whole & turned
     }
-    if (from >> i) % 2 == 1 {
-        return outside(whole, mask);
-    }
-    whole & mask
 }
 
 // All of them, for variable `j`.
@@ -162,19 +169,13 @@ pub(crate) fn further(domains: [u16; 32], row: [u16; 32], j: usize) -> [u16; 32]
     requires { ⌜ j < 32 ⌝ }
     ensures { λ r. ⌜ FurtherTo domains row j 16 r ⌝ }
 {
-    let from = beyond(j);
+    let at: u32 = 1 << j;
     let after = beyond(j + 1);
     let mut piece = domains;
     let mut i = 0;
     while i < 16 {
-        piece[i] = part(domains[i], row[i], i, low_of(from), low_of(after));
-        piece[i + 16] = part(
-            domains[i + 16],
-            row[i + 16],
-            i,
-            high_of(from),
-            high_of(after),
-        );
+        piece[i] = part(domains[i], row[i], i, low_of(at), low_of(after));
+        piece[i + 16] = part(domains[i + 16], row[i + 16], i, high_of(at), high_of(after));
         i += 1;
     }
     piece

@@ -3,7 +3,7 @@ use mathlib.Core.Path.{_≡_}
 use mathlib.Core.Logic.{_⊎_}
 use mathlib.Core.Bool.{Bool, not, cond, _&&_}
 use mathlib.Core.List.{List, []}
-use Prim.Native.Nat.{ℕ, _+_, _*_, _≤_, _<_}
+use Prim.Native.Nat.{ℕ, _+_, _*_, _^_, _≤_, _<_}
 use lib.ListN.{length, getD}
 use lib.Dec.{eqb, ltb}
 use Rattle.splits.specs.Masks.{bit, single, common, minus, size}
@@ -57,9 +57,13 @@ loses masks row = some 32 (λ i. lost (getD masks i 0) (getD row i 0))
 unfoldable pub cutTo : List ℕ → List ℕ → ℕ → List ℕ
 cutTo masks row i = changed i (λ j m. common m (getD row j 0)) masks
 
--- A mask of the piece for a variable, by whether it is that variable's or a later one's, and whether a later one's: cut to its own before it, the rest for it, whole after it.
+-- What cuts as a mask does or, where a test is 1, takes away what the mask keeps.
+abbrev pub Turned : ℕ → ℕ → ℕ → Type 0
+Turned mask test r = (m : ℕ) → m < 2 ^ 16 → common m r ≡ cond (eqb test 1) (minus m mask) (common m mask)
+
+-- A mask of the piece for a variable, by whether it is that variable's and whether a later one's: cut to its own before it, the rest for it, whole after it.
 unfoldable pub partOf : ℕ → ℕ → ℕ → ℕ → ℕ
-partOf m mask from after = cond (eqb after 1) m (cond (eqb from 1) (minus m mask) (common m mask))
+partOf m mask at after = cond (eqb after 1) m (cond (eqb at 1) (minus m mask) (common m mask))
 
 -- The piece for variable j: mask i of it.
 unfoldable pub furtherAt : List ℕ → List ℕ → ℕ → ℕ → ℕ

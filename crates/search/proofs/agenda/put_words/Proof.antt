@@ -1,54 +1,28 @@
 -- `search::agenda::put_words` meets its contract.
 -- Assumes nothing.
-use mathlib.Core.Path.{_≡_}
-use native.Mathlib.Omega.{arith}
-use lib.ListN.{length, length-set}
-use Rattle.search.proofs.Encoding.{slot-filled}
 use borrow.Author.Needs.{needs}
 use Rattle.search.proofs.agenda.put_words.Statement.{statement}
 use Rattle.search.proofs.agenda.put_words.Tie as tie
 
-put-front-requires : tie.Need-put-front-requires
-put-front-requires c κs = search needs
-
-cast-slot : tie.Need-cast-slot
-cast-slot c = search needs
-
-mul-slot : tie.Need-mul-slot
-mul-slot c = search needs
-
-slice-write-slot : tie.Need-slice-write-slot
-slice-write-slot c = search needs
-
-cast-slot-2 : tie.Need-cast-slot-2
-cast-slot-2 c = search needs
-
-add-slot : tie.Need-add-slot
-add-slot c = search needs
-
-mul-slot-2 : tie.Need-mul-slot-2
-mul-slot-2 c = search needs
-
-slice-write-slot-2 : tie.Need-slice-write-slot-2
-slice-write-slot-2 c = simp length-set (omega arith)
+put-each-requires : tie.Need-put-each-requires
+put-each-requires c κs = search needs
 
 same-length : tie.Need-same-length
 same-length c = search needs
 
 returns : tie.Need-returns
-returns c = let long : length (c .before .before .before .before .before .before .before .before .args .p .domains) ≡ 32 = search needs in slot-filled (c .before .before .before .before .before .before .before .before .args .n) (c .before .before .before .before .before .before .before .before .args .p) _ _ (c .before .before .before .before .put-front .ensures) (omega arith) (omega arith)
+returns c = rw (c .before .before .before .before .if1 .taken) (c .before .before .put-each .ensures)
+
+put-each-requires-2 : tie.Need-put-each-requires-2
+put-each-requires-2 c κs = search needs
+
+same-length-2 : tie.Need-same-length-2
+same-length-2 c = search needs
+
+returns-2 : tie.Need-returns-2
+returns-2 c = search needs
 
 pub put-words-spec : {M : Type 1} → statement M
 put-words-spec =
     tie.close
-    (tie.spec
-    put-front-requires
-    cast-slot
-    mul-slot
-    slice-write-slot
-    cast-slot-2
-    add-slot
-    mul-slot-2
-    slice-write-slot-2
-    same-length
-    returns)
+    (tie.spec put-each-requires same-length returns put-each-requires-2 same-length-2 returns-2)

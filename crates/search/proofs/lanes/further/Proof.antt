@@ -4,25 +4,28 @@ use mathlib.Core.Path.{_≡_}
 use Prim.Native.Nat.{_≤_, _-_}
 use native.Mathlib.Omega.{arith}
 use Rattle.search.specs.Work.Lanes.{FurtherTo}
-use Rattle.search.proofs.Halves.{further-none, further-more}
+use Rattle.search.proofs.Halves.{one-is, further-none, further-more}
 use borrow.Author.Needs.{needs}
 use Rattle.search.proofs.lanes.further.Statement.{statement}
 use Rattle.search.proofs.lanes.further.Tie as tie
 
 abbrev Inv-loop : tie.InvT-loop
-Inv-loop j domains row from after piece₀ i₀ piece i = (i ≤ 16) × FurtherTo domains row j i piece
+Inv-loop j domains row at after piece₀ i₀ piece i = (i ≤ 16) × FurtherTo domains row j i piece
 
 abbrev μ-loop : tie.MeasureT-loop
-μ-loop j domains row from after piece₀ i₀ piece i = 16 - i
+μ-loop j domains row at after piece₀ i₀ piece i = 16 - i
 
-beyond-requires : tie.Need-beyond-requires Inv-loop μ-loop
-beyond-requires c κs = search needs
+cast-at : tie.Need-cast-at Inv-loop μ-loop
+cast-at c = search needs
+
+shl-at : tie.Need-shl-at Inv-loop μ-loop
+shl-at c = search needs
 
 add-beyond : tie.Need-add-beyond Inv-loop μ-loop
 add-beyond c = search needs
 
-beyond-requires-2 : tie.Need-beyond-requires-2 Inv-loop μ-loop
-beyond-requires-2 c κs = search needs
+beyond-requires : tie.Need-beyond-requires Inv-loop μ-loop
+beyond-requires c κs = search needs
 
 loop-holds : tie.Need-loop-holds Inv-loop μ-loop
 loop-holds c = (search needs, further-none _ _ _ (search needs))
@@ -97,7 +100,7 @@ loop-less : tie.Need-loop-less Inv-loop μ-loop
 loop-less c = search needs
 
 loop-again : tie.Need-loop-again Inv-loop μ-loop
-loop-again c = (omega arith, further-more _ _ _ _ _ _ _ _ _ _ (c .before .before .before .before .before .before .before .before .before .beyond .ensures) (c .before .before .before .before .before .before .before .before .beyond2 .ensures) (c .before .before .before .before .before .before .loop-test .taken) (c .before .before .before .before .before .low-of .ensures) (c .before .before .before .before .low-of2 .ensures) (c .before .before .high-of .ensures) (c .before .high-of2 .ensures) _ (c .before .before .before .before .before .before .before .loop .inv .1) _ _ (c .before .before .before .part .ensures) (c .part2 .ensures))
+loop-again c = (omega arith, further-more _ _ _ _ _ _ _ _ _ _ (one-is _ (c .before .before .before .before .before .before .before .before .before .pre)) (c .before .before .before .before .before .before .before .before .beyond .ensures) (c .before .before .before .before .before .before .loop-test .taken) (c .before .before .before .before .before .low-of .ensures) (c .before .before .before .before .low-of2 .ensures) (c .before .before .high-of .ensures) (c .before .high-of2 .ensures) _ (c .before .before .before .before .before .before .before .loop .inv .1) _ _ (c .before .before .before .part .ensures) (c .part2 .ensures))
 
 returns : tie.Need-returns Inv-loop μ-loop
 returns c = let end : c .before .loop .i ≡ 16 = omega arith in rw (← end) (c .before .loop .inv .1)
@@ -108,9 +111,10 @@ further-spec =
     (tie.spec
     Inv-loop
     μ-loop
-    beyond-requires
+    cast-at
+    shl-at
     add-beyond
-    beyond-requires-2
+    beyond-requires
     loop-holds
     mul-part
     array-read-part

@@ -1,11 +1,13 @@
 -- `search::lanes::part` meets its contract.
 -- Assumes nothing.
-use mathlib.Core.Path.{_∙_}
 use Rattle.splits.specs.Masks.{bit}
-use Rattle.search.proofs.Halves.{part-after, part-at, part-before}
+use Rattle.search.proofs.Halves.{part-after, part-other}
 use borrow.Author.Needs.{needs}
 use Rattle.search.proofs.lanes.part.Statement.{statement}
 use Rattle.search.proofs.lanes.part.Tie as tie
+
+turned-requires : tie.Need-turned-requires
+turned-requires c κs = search needs
 
 cast-if1 : tie.Need-cast-if1
 cast-if1 c = search needs
@@ -17,24 +19,9 @@ returns : tie.Need-returns
 unfolding bit
 returns c = part-after _ _ _ _ (c .if1 .taken)
 
-cast-if2 : tie.Need-cast-if2
-cast-if2 c = search needs
-
-shr-if2 : tie.Need-shr-if2
-shr-if2 c = search needs
-
-outside-requires : tie.Need-outside-requires
-outside-requires c κs = search needs
-
 returns-2 : tie.Need-returns-2
 unfolding bit
-returns-2 c = c .outside .ensures ∙ part-at _ _ _ _ (c .before .before .if1 .left) (c .before .if2 .taken)
-
-returns-3 : tie.Need-returns-3
-unfolding bit
-returns-3 c = part-before _ _ _ _ (c .before .if1 .left) (c .if2 .left)
+returns-2 c = part-other _ _ _ _ (c .if1 .left) (c .before .before .fits .whole .fits) _ (c .before .turned .ensures)
 
 pub part-spec : {M : Type 1} → statement M
-part-spec =
-    tie.close
-    (tie.spec cast-if1 shr-if1 returns cast-if2 shr-if2 outside-requires returns-2 returns-3)
+part-spec = tie.close (tie.spec turned-requires cast-if1 shr-if1 returns returns-2)
