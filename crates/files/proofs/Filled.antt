@@ -4,21 +4,23 @@ use mathlib.Core.Path.{_≡_, refl, sym, ap, _∙_}
 use mathlib.Core.List.{List, [], _∷_, _++_, map, map-append, append-assoc, append-nil}
 use Prim.Native.Nat.{ℕ, suc, _+_, _-_, _*_, _/_, _%_, _≤_, _<_}
 use native.Mathlib.Omega.{arith}
-use native.Mathlib.Nat.{mul-le-mul, mul-le-mul-right, zero-mul, zero-add}
+use native.Mathlib.Nat.{mul-le-mul, mul-le-mul-right, zero-mul, zero-add, add-mul}
 use native.Mathlib.Numerals.{add-one}
 use native.Mathlib.Decide.{decLt}
 use lib.ListN.{length, getD, take, drop, set, replicate, length-append, length-drop, length-replicate, take-append-drop, List·getD-eq-default}
-use lib.Seq.{drop-cons, append-snoc, set-at, take-at, take-all, drop-drop, drop-length, length-take-le}
+use lib.Seq.{getD-take, getD-drop, drop-cons, append-snoc, set-at, take-at, take-all, drop-drop, drop-length, length-take-le}
 use borrow.Rule.Slice.PartMut.{putMid, midOf, postOf, post-is, mid-len}
+use Rattle.splits.specs.Problem.{total}
 use Rattle.splits.specs.Splits.{below}
 use Rattle.search.proofs.Copies.{put-part, splice-between}
 use Rattle.files.specs.Blocks.{wordAt}
 use Rattle.files.specs.Content.{each}
 use Rattle.files.specs.Reading.{blockWord, contentWord, contentFrom}
-use Rattle.files.specs.Work.Said.{Numbers, allowedIn, pairPart, rowPart, tablePart}
-use Rattle.files.proofs.Lists.{map-length, map-is, map-same, each-more, each-length, total-const, seq, seq-join, zeros-at}
+use Rattle.files.specs.Work.Said.{Numbers, allowedIn, pairPart, rowPart, afterPart, tablePart}
+use Rattle.files.proofs.Lists.{map-length, map-at, map-is, map-same, each-more, each-same, each-split, each-one, each-length, total-const, seq, seq-is, seq-each, seq-join, zeros-at}
 use Rattle.files.proofs.Places.{content-from, length-from}
 use Rattle.files.proofs.Found.{part-words}
+use Rattle.files.proofs.Mirrors.{part-at, part-long, pair-zeros, mask-at}
 
 -- ---- values written one after the other
 
@@ -102,10 +104,23 @@ content-in block k h =
     let at : 2 + (0 + k) % 253 ≡ 2 + k = omega arith in
     rw (div, at) refl
 
--- The words of a block's content are its content.
-pub content-block : (block m : List ℕ) → m ≡ map (λ k. blockWord block 0 (2 + k)) (below 253) → m ≡ contentFrom block 0 253
+-- A block has 253 words between its first two and its check.
+pub content-count : (block all : List ℕ) → all ≡ map (blockWord block 0) (below 256) → length (take (255 - 2) (drop 2 all)) ≡ 253
+content-count block all e =
+    let long : length all ≡ 256 = ap length e ∙ map-length (blockWord block 0) 256 in
+    length-take-le 253 (drop 2 all) (omega (arith, length-drop 2 all))
+
+pub content-within : (block all : List ℕ) → all ≡ map (blockWord block 0) (below 256) → 255 ≤ length all
+content-within block all e = let long : length all ≡ 256 = ap length e ∙ map-length (blockWord block 0) 256 in omega arith
+
+-- They are its content.
+pub content-block : (block all m : List ℕ) → all ≡ map (blockWord block 0) (below 256) → m ≡ take (255 - 2) (drop 2 all) → m ≡ contentFrom block 0 253
 unfolding contentFrom
-content-block block m e = e ∙ map-same (λ k. blockWord block 0 (2 + k)) (λ k. contentWord block (0 + k)) 253 (content-in block)
+content-block block all m e s =
+    s ∙ sym (map-is (λ k. contentWord block (0 + k)) 253 (take 253 (drop 2 all)) (content-count block all e)
+    (λ k h.
+    let at : getD all (2 + k) 0 ≡ blockWord block 0 (2 + k) = ap (λ (l : List ℕ). getD l (2 + k) 0) e ∙ map-at (blockWord block 0) 256 (2 + k) 0 (omega arith) in
+    sym (content-in block k h) ∙ sym (getD-take 253 (drop 2 all) k 0 h ∙ getD-drop 2 all k 0 ∙ at)))
 
 -- The content of a block is that of its words in the file.
 content-part : (file : List ℕ) (b : ℕ) → contentFrom (take ((b * 512 + 512) - b * 512) (drop (b * 512) file)) 0 253 ≡ contentFrom file (b * 253) 253
@@ -186,6 +201,17 @@ content-made file l ys zs blocks e h s y z =
 
 -- ---- rows
 
+-- The masks of i with the variables after it stand together.
+pairs-together : (words : List ℕ) (n d i p from : ℕ) → p ≡ total i (λ h. n - suc h) → from ≡ 9 + n + p * d
+    → each (λ k. pairPart words n d i (i + (1 + k)) d) (below (n - suc i)) ≡ seq (λ k. getD words k 0) from ((n - suc i) * d)
+unfolding pairPart
+pairs-together words n d i p from is-p is-from =
+    let g : ℕ → ℕ = λ k. getD words k 0 in
+    each-same (λ k. map (allowedIn words n d i (i + (1 + k))) (below d)) (λ k. seq g (from + total k (λ j. d)) d) (n - suc i)
+    (λ k l. sym (seq-is g (from + total k (λ j. d)) d (map (allowedIn words n d i (i + (1 + k))) (below d)) (map-length (allowedIn words n d i (i + (1 + k))) d)
+    (λ v m. mask-at words n d i k p (from + total k (λ j. d) + v) v is-p (omega (arith, total-const k d)) ∙ sym (map-at (allowedIn words n d i (i + (1 + k))) d v 0 m))))
+    ∙ seq-each g from (λ j. d) (n - suc i) ∙ ap (seq g from) (total-const (n - suc i) d)
+
 module _ (words : List ℕ) (n d i : ℕ) where
   pair-length : (j a : ℕ) → length (pairPart words n d i j a) ≡ a
   unfolding pairPart
@@ -215,14 +241,67 @@ module _ (words : List ℕ) (n d i : ℕ) where
       ∙ rw (← up, add-one, next-pair) refl
 
   -- The memory stays as long.
-  pub row-kept : (l m : List ℕ) (j : ℕ) → m ≡ rowPart words n d i j ++ drop (j * d) l → j ≤ n → length l ≡ n * d → length m ≡ n * d
-  row-kept l m j e h s =
-      let within : j * d ≤ n * d = mul-le-mul-right d h in
+  pub row-kept : (l m : List ℕ) (j k : ℕ) → m ≡ rowPart words n d i j ++ drop (j * d) l → j ≤ k → length l ≡ k * d → length m ≡ k * d
+  row-kept l m j k e h s =
+      let within : j * d ≤ k * d = mul-le-mul-right d h in
       ap length e ∙ length-append (rowPart words n d i j) (drop (j * d) l) ∙ omega (arith, row-length j, length-drop (j * d) l)
 
   -- All are written.
-  pub row-end : (l m : List ℕ) (j : ℕ) → m ≡ rowPart words n d i j ++ drop (j * d) l → j ≡ n → length l ≡ n * d → m ≡ rowPart words n d i n
-  row-end l m j e s h = rw (e, s, sym h, drop-length, append-nil) refl
+  pub row-end : (l m : List ℕ) (j k : ℕ) → m ≡ rowPart words n d i j ++ drop (j * d) l → j ≡ k → length l ≡ k * d → m ≡ rowPart words n d i k
+  row-end l m j k e s h = rw (e, s, sym h, drop-length, append-nil) refl
+
+  -- Zeros, and the masks that stand together.
+  module _ (l ys : List ℕ) (long : length l ≡ (n - i) * d) (h : i < n) (y : ys ≡ replicate (length (take d l)) 0) (p from : ℕ) (words-long : length words ≡ 25553)
+      (within : from + (n - (i + 1)) * d ≤ 7977) where
+    own : d ≤ length l
+    own = let some : 1 * d ≤ (n - i) * d = mul-le-mul-right d (omega arith) in omega arith
+
+    zeros : ys ≡ replicate d 0
+    zeros = y ∙ ap (λ (x : ℕ). replicate {A = ℕ} x 0) (length-take-le d l own)
+
+    size : length ys ≡ d
+    size = ap length zeros ∙ length-replicate d 0
+
+    count : length (take ((from + (n - (i + 1)) * d) - from) (drop from words)) ≡ (n - (i + 1)) * d
+    count = part-long words from ((n - (i + 1)) * d) (omega arith)
+
+    -- What is left for the masks.
+    pub after-rest : length (take ((from + (n - (i + 1)) * d) - from) (drop from words)) ≡ length (midOf d (length (ys ++ drop d l) - d) (ys ++ drop d l))
+    after-rest =
+        let sum : (n - i) * d ≡ (n - (i + 1)) * d + 1 * d = ap (λ (x : ℕ). x * d) (omega arith) ∙ add-mul (n - (i + 1)) 1 d in
+        count ∙ sym (rest-long l ys d size own ∙ omega arith)
+
+    -- Both.
+    pub after-made : (zs : List ℕ) → p ≡ total i (λ h. n - suc h) → from ≡ 9 + n + p * d → zs ≡ take ((from + (n - (i + 1)) * d) - from) (drop from words)
+        → putMid d (length (ys ++ drop d l) - d) (ys ++ drop d l) zs ≡ afterPart words n d i
+    unfolding afterPart
+    after-made zs is-p is-from z =
+        let f : ℕ → List ℕ = λ k. pairPart words n d i (i + k) d in
+        let w : ℕ = (n - (i + 1)) * d in
+        let one : n - i ≡ 1 + (n - suc i) = omega arith in
+        let none : ys ≡ f 0 = pair-zeros words (take d l) ys n d i (i + 0) (length-take-le d l own) (omega arith) (omega arith) y in
+        let rest : zs ≡ each (λ k. f (1 + k)) (below (n - suc i)) =
+        z ∙ sym (seq-is (λ k. getD words k 0) from w (take ((from + w) - from) (drop from words)) count (λ k l. sym (part-at words from w k l)))
+        ∙ ap (seq (λ k. getD words k 0) from) (rw add-one refl) ∙ sym (pairs-together words n d i p from is-p is-from) in
+        front-rest l ys zs d size own ∙ rw (none, rest) (sym (ap (λ (k : ℕ). each f (below k)) one ∙ each-split f 1 (n - suc i) ∙ rw (each-one f) refl))
+
+  -- The row is put together of both.
+  pub row-made : (l ys zs : List ℕ) → length l ≡ n * d → i < n → ys ≡ rowPart words n d i i → zs ≡ afterPart words n d i
+      → putMid (i * d) (length (ys ++ drop (i * d) l) - i * d) (ys ++ drop (i * d) l) zs ≡ rowPart words n d i n
+  unfolding rowPart afterPart
+  row-made l ys zs long h y z =
+      let whole : n ≡ i + (n - i) = omega arith in
+      let some : i * d ≤ n * d = mul-le-mul-right d (omega arith) in
+      front-rest l ys zs (i * d) (ap length y ∙ row-length i) (omega arith)
+      ∙ rw (y, z) (sym (ap (λ (k : ℕ). each (λ k. pairPart words n d i k d) (below k)) whole ∙ each-split (λ k. pairPart words n d i k d) i (n - i)))
+
+  -- What is left of the memory for the second.
+  pub row-rest : (l ys : List ℕ) → length l ≡ n * d → i < n → ys ≡ rowPart words n d i i
+      → length (midOf (i * d) (length (ys ++ drop (i * d) l) - i * d) (ys ++ drop (i * d) l)) ≡ (n - i) * d
+  row-rest l ys long h y =
+      let some : i * d ≤ n * d = mul-le-mul-right d (omega arith) in
+      let sum : (i + (n - i)) * d ≡ n * d = ap (λ (x : ℕ). x * d) (omega arith) in
+      rest-long l ys (i * d) (ap length y ∙ row-length i) (omega arith) ∙ omega (arith, add-mul i (n - i) d)
 
 -- ---- the tables
 
@@ -276,6 +355,21 @@ rows-few n d i s h =
     let few : i ≤ 32 = omega (arith, s .variables) in
     let all : i * (n * d) ≤ 32 * 512 = mul-le-mul few (row-few n d s) in
     omega arith
+
+-- Those before a variable's own are part of its row.
+pub own-few : (n d i : ℕ) → Numbers n d → i < n → (i * d ≤ n * d) × (n * d ≤ 512)
+own-few n d i s h = (mul-le-mul-right d (omega arith), row-few n d s)
+
+-- There is room for those of a variable with itself.
+pub own-fits : (l : List ℕ) (n d i : ℕ) → length l ≡ (n - i) * d → i < n → d ≤ length l
+own-fits l n d i e h = let some : 1 * d ≤ (n - i) * d = mul-le-mul-right d (omega arith) in omega arith
+
+-- A part of the words and one of the memory, for the masks of two variables.
+pub turned-fits : (words m : List ℕ) (from at d : ℕ) → length words ≡ 25553 → from + d ≤ 25553 → d ≤ 16 → at + d ≤ length m
+    → (length (take ((from + d) - from) (drop from words)) ≤ 16) × (length (midOf at ((at + d) - at) m) ≡ length (take ((from + d) - from) (drop from words)))
+turned-fits words m from at d e h few within =
+    let size : length (take ((from + d) - from) (drop from words)) ≡ d = part-long words from d (omega arith) in
+    (omega arith, mid-len at (at + d) m within ∙ omega arith)
 
 -- And those of the tables.
 pub tables-few : (n d : ℕ) → Numbers n d → (n * n ≤ 1024) × (n * n * d ≤ 16384)

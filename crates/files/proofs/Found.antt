@@ -14,7 +14,7 @@ use Rattle.splits.specs.Splits.{below}
 use Rattle.search.proofs.FirstLoops.{every-stop, every-turn}
 use Rattle.files.specs.Blocks.{wordAt, checkOf, blocksFor}
 use Rattle.files.specs.Reading.{blockWord, headOf, contentWord, saidN, saidD, saidSubproblems, goodBlock, refusalOfFile}
-use Rattle.files.specs.Work.Said.{goodIn, byteOf, numbersSaid, zeroIn, filled}
+use Rattle.files.specs.Work.Said.{goodIn, valueAt, numbersSaid, zeroIn, filled}
 use Rattle.files.proofs.Lists.{map-at, map-same}
 
 -- ---- the words of a block, and of bytes taken as one
@@ -37,16 +37,16 @@ pub part-words : (file : List ℕ) (b k : ℕ) → k < 256 → blockWord (take (
 part-words file b = words-same (take ((b * 512 + 512) - b * 512) (drop (b * 512) file)) file b
     (λ i q. getD-take ((b * 512 + 512) - b * 512) (drop (b * 512) file) i 0 (omega arith) ∙ getD-drop (b * 512) file i 0)
 
--- A byte that was read.
-pub byte-of : (bytes : List ℕ) (i x : ℕ) → x ≡ getD bytes i 0 → x ≡ byteOf bytes i
-unfolding byteOf
-byte-of bytes i x e = e
+-- A value that was read.
+pub value-of : (bytes : List ℕ) (i x : ℕ) → x ≡ getD bytes i 0 → x ≡ valueAt bytes i
+unfolding valueAt
+value-of bytes i x e = e
 
 -- The check of bytes taken as one block is that of the bytes.
-pub check-whole : (bytes block : List ℕ) (r : ℕ) → block ≡ map (byteOf bytes) (below 512) → r ≡ checkOf (headOf block 0) → r ≡ checkOf (headOf bytes 0)
-unfolding byteOf
+pub check-whole : (bytes block : List ℕ) (r : ℕ) → block ≡ map (valueAt bytes) (below 512) → r ≡ checkOf (headOf block 0) → r ≡ checkOf (headOf bytes 0)
+unfolding valueAt
 check-whole bytes block r e h =
-    let at : (i : ℕ) → i < 512 → getD block i 0 ≡ getD bytes (0 * 512 + i) 0 = λ i q. ap (λ (l : List ℕ). getD l i 0) e ∙ map-at (byteOf bytes) 512 i 0 q ∙ ap (λ (j : ℕ). getD bytes j 0) (omega arith) in
+    let at : (i : ℕ) → i < 512 → getD block i 0 ≡ getD bytes (0 * 512 + i) 0 = λ i q. ap (λ (l : List ℕ). getD l i 0) e ∙ map-at (valueAt bytes) 512 i 0 q ∙ ap (λ (j : ℕ). getD bytes j 0) (omega arith) in
     h ∙ ap checkOf (heads-same block bytes 0 (words-same block bytes 0 at))
 
 -- ---- 14: one block

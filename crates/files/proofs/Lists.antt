@@ -86,6 +86,17 @@ pub each-none : (f : ℕ → List ℕ) → each f (below 0) ≡ []
 unfolding each below
 each-none f = refl
 
+-- Those below a, and those of the b after them.
+pub each-split : (f : ℕ → List ℕ) (a b : ℕ) → each f (below (a + b)) ≡ each f (below a) ++ each (λ k. f (a + k)) (below b)
+each-split f a zero = ap (λ (n : ℕ). each f (below n)) (add-zero a) ∙ sym (append-nil (each f (below a))) ∙ ap (λ (l : List ℕ). each f (below a) ++ l) (sym (each-none (λ k. f (a + k))))
+each-split f a (suc b) =
+    ap (λ (n : ℕ). each f (below n)) (add-suc a b) ∙ each-more f (a + b) ∙ ap (λ (l : List ℕ). l ++ f (a + b)) (each-split f a b)
+    ∙ append-assoc (each f (below a)) (each (λ k. f (a + k)) (below b)) (f (a + b)) ∙ ap (λ (l : List ℕ). each f (below a) ++ l) (sym (each-more (λ k. f (a + k)) b))
+
+-- That of 0 alone.
+pub each-one : (f : ℕ → List ℕ) → each f (below 1) ≡ f 0
+each-one f = each-more f 0 ∙ ap (λ (l : List ℕ). l ++ f 0) (each-none f)
+
 -- Of numbers renamed.
 pub each-map : (f : ℕ → List ℕ) (g : ℕ → ℕ) (l : List ℕ) → each f (map g l) ≡ each (λ x. f (g x)) l
 unfolding each

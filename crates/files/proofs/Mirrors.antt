@@ -2,13 +2,13 @@
 -- Assumes nothing.
 use mathlib.Core.Path.{_≡_, refl, sym, ap, _∙_}
 use mathlib.Core.Bool.{cond}
-use mathlib.Core.List.{List, _++_, map}
+use mathlib.Core.List.{List, _++_, map, append-nil}
 use Prim.Native.Nat.{ℕ, zero, suc, _+_, _-_, _*_, _/_, _^_, _≤_, _<_}
 use native.Mathlib.Omega.{arith}
-use native.Mathlib.Nat.{mul-le-mul, zero-mul, add-zero, add-suc}
+use native.Mathlib.Nat.{mul-le-mul, mul-le-mul-right, zero-mul, add-zero, add-suc, add-mul}
 use native.Mathlib.Numerals.{add-one}
 use lib.ListN.{length, getD, take, drop, replicate, length-drop, length-replicate, List·getD-eq-default}
-use lib.Seq.{getD-take, getD-drop, length-take-le}
+use lib.Seq.{getD-take, getD-drop, length-take-le, take-all}
 use lib.Dec.{ltb}
 use borrow.Author.Tests.{lt-ltb, le-ltb}
 use Rattle.splits.specs.Masks.{bit}
@@ -18,8 +18,8 @@ use Rattle.splits.proofs.Masks.{bit-above}
 use Rattle.search.specs.Matrix.{Turned}
 use Rattle.files.specs.Reading.{contentWord, saidN, saidD, saidAllowed, triangleWords, trianglePlace, gathered}
 use Rattle.files.specs.Work.Said.{Numbers, maskIn, allowedIn, columnOf, columnPart, pairPart, agendaStart, partIn, slotsPart}
-use Rattle.files.proofs.Lists.{map-is, map-same, zeros-at, padded-at}
-use Rattle.files.proofs.Triangle.{place-lt}
+use Rattle.files.proofs.Lists.{map-is, map-same, total-below, zeros-at, padded-at}
+use Rattle.files.proofs.Triangle.{rest-total, place-lt}
 use Rattle.files.proofs.Gathered.{gathered-same, gathered-bits}
 
 -- ---- the pairs before those of i
@@ -76,6 +76,13 @@ place-within n d i j p s h l e =
     let same : (p + (j - (i + 1))) * d ≡ (total i (λ h. n - suc h) + (j - suc i)) * d = rw (e, add-one) refl in
     omega (arith, triangle-few n d s, s .variables, s .some-value)
 
+-- So do those with the variables after i.
+pub after-within : (n d i p : ℕ) → Numbers n d → i < n → p ≡ total i (λ h. n - suc h) → 9 + n + p * d + (n - (i + 1)) * d ≤ 7977
+after-within n d i p s h e =
+    let all : total i (λ h. n - suc h) + (n - suc i) ≤ n * (n - 1) / 2 = rw (← rest-total n) (total-below n (λ h. n - suc h) i h) in
+    let up : (p + (n - (i + 1))) * d ≤ n * (n - 1) / 2 * d = mul-le-mul-right d (rw (e, add-one) all) in
+    omega (arith, add-mul p (n - (i + 1)) d, triangle-few n d s, s .variables)
+
 -- Where they begin.
 pub place-made : (n d i j p : ℕ) → p ≡ total i (λ h. n - suc h) → 9 + n + (p + (j - (i + 1))) * d ≡ 9 + n + trianglePlace n d i j 0
 unfolding trianglePlace
@@ -119,6 +126,12 @@ module _ (rows all turned : List ℕ) (few : length rows ≤ 16) (e : all ≡ ro
       s ∙ sym (map-is (λ c. gathered (length rows) (columnOf rows c)) (length rows) (take k turned) size
       (λ c q. sym (getD-take k turned c 0 (omega arith) ∙ column-is c (omega arith))))
 
+-- The same where there are 16 rows.
+pub columns-whole : (rows all turned out : List ℕ) → length rows ≡ 16 → all ≡ rows → Turned all turned → out ≡ turned → out ≡ columnPart rows (length rows)
+columns-whole rows all turned out e same t s =
+    let none : 16 - length rows ≡ 0 = omega arith in
+    columns-made rows all turned (omega arith) (same ∙ rw none (sym (append-nil rows))) t out 16 (sym e) (s ∙ sym (take-all 16 turned (omega (arith, t .long))))
+
 -- ---- what is allowed
 
 module _ (words : List ℕ) (n d i j : ℕ) where
@@ -137,6 +150,15 @@ module _ (words : List ℕ) (n d i j : ℕ) where
   unfolding allowedIn
   allowed-self a h l = rw (le-ltb i j h, le-ltb j i l) refl
 
+-- That of the k-th variable after i.
+pub mask-at : (words : List ℕ) (n d i k p x v : ℕ) → p ≡ total i (λ h. n - suc h) → x ≡ 9 + n + p * d + k * d + v
+    → getD words x 0 ≡ allowedIn words n d i (i + (1 + k)) v
+unfolding maskIn trianglePlace
+mask-at words n d i k p x v is-p is-x =
+    let back : i + (1 + k) - suc i ≡ k = omega arith in
+    let place : x ≡ 9 + n + ((total i (λ h. n - suc h) + (i + (1 + k) - suc i)) * d + v) = is-x ∙ rw (is-p, back) (omega arith) in
+    ap (λ (y : ℕ). getD words y 0) place ∙ sym (allowed-above words n d i (i + (1 + k)) v (omega arith))
+
 -- The words of a part.
 pub part-at : (l : List ℕ) (at w k : ℕ) → k < w → getD (take ((at + w) - at) (drop at l)) k 0 ≡ getD l (at + k) 0
 part-at l at w k h = getD-take ((at + w) - at) (drop at l) k 0 (omega arith) ∙ getD-drop at l k 0
@@ -150,13 +172,6 @@ module _ (words : List ℕ) (n d i j at : ℕ) (e : at ≡ 9 + n + trianglePlace
   mask-row : (a : ℕ) → a < d → getD (take ((at + d) - at) (drop at words)) a 0 ≡ maskIn words n d i j a
   unfolding maskIn trianglePlace
   mask-row a h = part-at words at d a h ∙ ap (λ (k : ℕ). getD words k 0) (omega arith)
-
-  -- So they are copied.
-  pub pair-copied : (out : List ℕ) → at + d ≤ 25553 → length words ≡ 25553 → i < j → out ≡ take ((at + d) - at) (drop at words) → out ≡ pairPart words n d i j d
-  unfolding pairPart
-  pair-copied out h w l s =
-      s ∙ sym (map-is (allowedIn words n d i j) d (take ((at + d) - at) (drop at words)) (part-long words at d (omega arith))
-      (λ a q. allowed-above words n d i j a l ∙ sym (mask-row a q)))
 
   -- The other way round they are turned.
   pub pair-turned : (out : List ℕ) → at + d ≤ 25553 → length words ≡ 25553 → i < j

@@ -1,16 +1,18 @@
 -- The words of a file as the code reads them, and the check that it works out.
 -- Assumes nothing.
 use mathlib.Core.Path.{_≡_, refl, sym, ap, _∙_}
-use mathlib.Core.List.{List}
+use mathlib.Core.List.{List, map}
 use Prim.Native.Nat.{ℕ, _+_, _-_, _*_, _/_, _%_, _≤_, _<_}
 use native.Mathlib.Omega.{arith}
 use native.Mathlib.Nat.{zero-add}
 use native.Mathlib.Numerals.{add-one}
 use lib.ListN.{length, getD, List·getD-eq-default}
 use Rattle.splits.specs.Problem.{total}
+use Rattle.splits.specs.Splits.{below}
 use Rattle.files.specs.Blocks.{wordAt, checkOf}
 use Rattle.files.specs.Reading.{blockWord, headOf, contentWord, contentFrom}
-use Rattle.files.proofs.Lists.{map-length, map-at}
+use Rattle.files.specs.Work.Said.{valueAt, lowWord}
+use Rattle.files.proofs.Lists.{map-length, map-at, total-same}
 use Rattle.files.proofs.Sums.{total-is}
 use Rattle.files.proofs.Words.{word-small}
 
@@ -31,6 +33,21 @@ word-past file k h =
 pub word-in : (block : List ℕ) (k high low : ℕ) → high ≡ getD block (2 * k) 0 → low ≡ getD block (2 * k + 1) 0 → high * 256 + low ≡ blockWord block 0 k
 unfolding blockWord
 word-in block k high low e h = word-made block k high low e h ∙ ap (wordAt block) (sym (zero-add k))
+
+-- The same by its low byte first and its bytes exchanged.
+pub low-made : (block : List ℕ) (k low high : ℕ) → low ≡ getD block (2 * k) 0 → high ≡ getD block (2 * k + 1) 0 → low + high * 256 ≡ lowWord block k
+unfolding lowWord
+low-made block k low high e h = rw (e, h) refl
+
+pub low-exchanged : (block : List ℕ) → ((i : ℕ) → getD block i 0 < 256) → (low : List ℕ) → low ≡ map (lowWord block) (below 256) → (k x : ℕ) → k < 256
+    → x ≡ getD low k 0 % 256 * 256 + getD low k 0 / 256 → x ≡ blockWord block 0 k
+unfolding lowWord
+low-exchanged block small low e k x h s =
+    let w : ℕ = getD block (2 * k) 0 + getD block (2 * k + 1) 0 * 256 in
+    let read : getD low k 0 ≡ w = ap (λ (l : List ℕ). getD l k 0) e ∙ map-at (lowWord block) 256 k 0 h in
+    let first : w % 256 ≡ getD block (2 * k) 0 = omega (arith, small (2 * k), small (2 * k + 1)) in
+    let second : w / 256 ≡ getD block (2 * k + 1) 0 = omega (arith, small (2 * k), small (2 * k + 1)) in
+    s ∙ rw (read, first, second) (word-in block k (getD block (2 * k) 0) (getD block (2 * k + 1) 0) refl refl)
 
 -- A word of a block has 16 bits.
 pub block-word-small : (file : List ℕ) → ((i : ℕ) → getD file i 0 < 256) → (b k : ℕ) → blockWord file b k < 65536
@@ -65,6 +82,12 @@ content-from file from words i h = map-at (λ k. contentWord file (from + k)) wo
 pub length-from : (file : List ℕ) (from words : ℕ) → length (contentFrom file from words) ≡ words
 unfolding contentFrom
 length-from file from words = map-length (λ k. contentWord file (from + k)) words
+
+-- The sum of the words that were read.
+pub sum-read : (block words : List ℕ) (t : ℕ) → words ≡ map (blockWord block 0) (below 256) → t ≡ total 255 (valueAt words) → t ≡ total 255 (blockWord block 0)
+unfolding valueAt
+sum-read block words t e h =
+    h ∙ total-same 255 (λ k. getD words k 0) (blockWord block 0) (λ k l. ap (λ (x : List ℕ). getD x k 0) e ∙ map-at (blockWord block 0) 256 k 0 (omega arith))
 
 -- The sum folded twice, taken from 65535, is the check.
 pub check-made : (file : List ℕ) (b t y z : ℕ) → ((i : ℕ) → getD file i 0 < 256) → t ≡ total 255 (blockWord file b) → y ≡ t % 65536 + t / 65536

@@ -1,9 +1,12 @@
 // Bytes, words and blocks of a file.
 ghost use mathlib.Core.Path.{_≡_};
+ghost use mathlib.Core.List.{map};
 ghost use Prim.Native.Nat.{_+_, _*_, _/_, _%_, _<_};
 ghost use lib.ListN.{length, getD};
+ghost use Rattle.splits.specs.Splits.{below};
 ghost use Rattle.files.specs.Blocks.{wordAt};
 ghost use Rattle.files.specs.Reading.{blockWord, contentWord};
+ghost use Rattle.files.specs.Work.Said.{lowWord};
 
 // A byte as a word.
 fn wide(byte: u8) -> u16
@@ -54,4 +57,48 @@ pub(crate) fn word_in(block: &[u8], k: usize) -> u16
     ensures { λ r. ⌜ r ≡ blockWord (now (block .entry)) 0 k ⌝ }
 {
     wide(block[2 * k]) * 256 + wide(block[2 * k + 1])
+}
+
+// Word `k` of one block if its low byte came first.
+fn low_word(block: &[u8], k: usize) -> u16
+    requires { ⌜ (length (now block) ≡ 512) × (k < 256) ⌝ }
+    ensures { λ r. ⌜ r ≡ lowWord (now (block .entry)) k ⌝ }
+{
+    wide(block[2 * k]) + wide(block[2 * k + 1]) * 256
+}
+
+// All these words: a plain move where the processor holds words so.
+fn low_words(block: &[u8]) -> [u16; 256]
+    requires { ⌜ length (now block) ≡ 512 ⌝ }
+    ensures { λ r. ⌜ r ≡ map (lowWord (now (block .entry))) (below 256) ⌝ }
+{
+    let mut words = [0u16; 256];
+    let mut k = 0;
+    while k < 256 {
+        words[k] = low_word(block, k);
+        k += 1;
+    }
+    words
+}
+
+// A word with its bytes exchanged.
+fn exchanged(word: u16) -> u16
+    ensures { λ r. ⌜ r ≡ word % 256 * 256 + word / 256 ⌝ }
+{
+    word % 256 * 256 + word / 256
+}
+
+// The words of one block, in two loops that take eight words at a time.
+pub(crate) fn words_of(block: &[u8]) -> [u16; 256]
+    requires { ⌜ length (now block) ≡ 512 ⌝ }
+    ensures { λ r. ⌜ r ≡ map (blockWord (now (block .entry)) 0) (below 256) ⌝ }
+{
+    let low = low_words(block);
+    let mut words = [0u16; 256];
+    let mut k = 0;
+    while k < 256 {
+        words[k] = exchanged(low[k]);
+        k += 1;
+    }
+    words
 }

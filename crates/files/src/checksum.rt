@@ -7,19 +7,19 @@ ghost use lib.ListN.{length};
 ghost use Rattle.splits.specs.Problem.{total};
 ghost use Rattle.splits.specs.Splits.{below};
 ghost use Rattle.files.specs.Blocks.{checkOf};
-ghost use Rattle.files.specs.Reading.{blockWord, headOf};
+ghost use Rattle.files.specs.Reading.{headOf};
 ghost use Rattle.files.specs.Calls.{Check-of};
-ghost use Rattle.files.specs.Work.Said.{byteOf};
+ghost use Rattle.files.specs.Work.Said.{valueAt};
 
 // The sum of the words of a block before its check.
-fn sum(block: &[u8]) -> u32
-    requires { ⌜ length (now block) ≡ 512 ⌝ }
-    ensures { λ r. ⌜ r ≡ total 255 (blockWord (now (block .entry)) 0) ⌝ }
+fn sum(words: &[u16]) -> u32
+    requires { ⌜ length (now words) ≡ 256 ⌝ }
+    ensures { λ r. ⌜ r ≡ total 255 (valueAt (now (words .entry))) ⌝ }
 {
     let mut sum: u32 = 0;
     let mut k = 0;
     while k < 255 {
-        sum += block::word_in(block, k) as u32;
+        sum += words[k] as u32;
         k += 1;
     }
     sum
@@ -37,13 +37,14 @@ pub(crate) fn check(block: &[u8]) -> u16
     requires { ⌜ length (now block) ≡ 512 ⌝ }
     ensures { λ r. ⌜ r ≡ checkOf (headOf (now (block .entry)) 0) ⌝ }
 {
-    let sum = folded(folded(sum(block)));
+    let words = block::words_of(block);
+    let sum = folded(folded(sum(&words[..256])));
     65535 - (sum as u16)
 }
 
 // The bytes as one block: the first 512, or all and zeros after them.
 fn as_block(bytes: &[u8]) -> [u8; 512]
-    ensures { λ r. ⌜ r ≡ map (byteOf (now (bytes .entry))) (below 512) ⌝ }
+    ensures { λ r. ⌜ r ≡ map (valueAt (now (bytes .entry))) (below 512) ⌝ }
 {
     let mut block = [0u8; 512];
     let mut i = 0;

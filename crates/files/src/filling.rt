@@ -7,7 +7,7 @@ ghost use mathlib.Core.List.{_++_};
 ghost use Prim.Native.Nat.{_+_, _-_, _*_, _/_, _<_, _≤_};
 ghost use lib.ListN.{length, replicate};
 ghost use Rattle.files.specs.Reading.{contentFrom};
-ghost use Rattle.files.specs.Work.Said.{Numbers, columnPart, pairPart, rowPart, tablePart, partIn, slotsPart, Lent};
+ghost use Rattle.files.specs.Work.Said.{Numbers, columnPart, rowPart, afterPart, tablePart, partIn, slotsPart, Lent};
 
 // A copy.
 pub(crate) fn put_words(words: &[u16], out: &mut [u16])
@@ -47,11 +47,8 @@ fn put_block(block: &[u8], words: &mut [u16])
     requires { ⌜ (length (now block) ≡ 512) × (length (now words) ≡ 253) ⌝ }
     ensures { λ r. ⌜ now (words .exit) ≡ contentFrom (now (block .entry)) 0 253 ⌝ }
 {
-    let mut k = 0;
-    while k < 253 {
-        words[k] = block::word_in(block, 2 + k);
-        k += 1;
-    }
+    let all = block::words_of(block);
+    put_words(&all[2..255], words);
 }
 
 // The words of the content of so many blocks.
@@ -81,36 +78,61 @@ pub(crate) fn put_content(file: &[u8], words: &mut [u16])
     put_zeros(&mut words[used..]);
 }
 
-// Rows for columns: the masks of two variables the other way round.
+// A copy of 16 words.
+fn put_sixteen(words: &[u16], out: &mut [u16])
+    requires { ⌜ (length (now words) ≡ 16) × (length (now out) ≡ 16) ⌝ }
+    ensures { λ r. ⌜ now (out .exit) ≡ now (words .entry) ⌝ }
+{
+    let mut i = 0;
+    while i < 16 {
+        out[i] = words[i];
+        i += 1;
+    }
+}
+
+// Rows for columns: the masks of two variables the other way round, 16 of them in loops of that many turns.
 fn put_turned(rows: &[u16], columns: &mut [u16])
     requires { ⌜ (length (now rows) ≤ 16) × (length (now columns) ≡ length (now rows)) ⌝ }
     ensures { λ r. ⌜ now (columns .exit) ≡ columnPart (now (rows .entry)) (length (now (rows .entry))) ⌝ }
 {
     let mut all = [0u16; 16];
+    if rows.len() == 16 {
+        put_sixteen(rows, &mut all[..16]);
+        let turned = search::matrix::turned(all);
+        put_sixteen(&turned[..16], columns);
+        return;
+    }
     put_padded(rows, &mut all[..16]);
     let turned = search::matrix::turned(all);
     let count = columns.len();
     put_words(&turned[..count], columns);
 }
 
-// The masks of two variables, zeros of one with itself.
-fn put_pair(words: &[u16], n: usize, d: usize, i: usize, j: usize, masks: &mut [u16])
-    requires { ⌜ Numbers n d × ((i < n) × ((j < n) × ((length (now words) ≡ 25553) × (length (now masks) ≡ d)))) ⌝ }
-    ensures { λ r. ⌜ now (masks .exit) ≡ pairPart (now (words .entry)) n d i j d ⌝ }
+// The masks of a variable with those before it, which stand the other way round.
+fn put_before(words: &[u16], n: usize, d: usize, i: usize, masks: &mut [u16])
+    requires { ⌜ Numbers n d × ((i < n) × ((length (now words) ≡ 25553) × (length (now masks) ≡ i * d))) ⌝ }
+    ensures { λ r. ⌜ now (masks .exit) ≡ rowPart (now (words .entry)) n d i i ⌝ }
 {
-    if i < j {
-        let at = said::place(n, d, i, j);
+    let mut j = 0;
+    while j < i {
+        let from = said::place(n, d, j, i);
+        let to = from + d;
+        let at = j * d;
         let end = at + d;
-        put_words(&words[at..end], masks);
-        return;
+        put_turned(&words[from..to], &mut masks[at..end]);
+        j += 1;
     }
-    if j < i {
-        let at = said::place(n, d, j, i);
-        let end = at + d;
-        put_turned(&words[at..end], masks);
-        return;
-    }
-    put_zeros(masks);
+}
+
+// Zeros for it with itself, and its masks with those after it, which stand together.
+fn put_after(words: &[u16], n: usize, d: usize, i: usize, masks: &mut [u16])
+    requires { ⌜ Numbers n d × ((i < n) × ((length (now words) ≡ 25553) × (length (now masks) ≡ (n - i) * d))) ⌝ }
+    ensures { λ r. ⌜ now (masks .exit) ≡ afterPart (now (words .entry)) n d i ⌝ }
+{
+    let from = 9 + n + said::pairs_before(n, i) * d;
+    let to = from + (n - (i + 1)) * d;
+    put_zeros(&mut masks[..d]);
+    put_words(&words[from..to], &mut masks[d..]);
 }
 
 // The masks of a variable with every other.
@@ -118,13 +140,9 @@ fn put_row(words: &[u16], n: usize, d: usize, i: usize, masks: &mut [u16])
     requires { ⌜ Numbers n d × ((i < n) × ((length (now words) ≡ 25553) × (length (now masks) ≡ n * d))) ⌝ }
     ensures { λ r. ⌜ now (masks .exit) ≡ rowPart (now (words .entry)) n d i n ⌝ }
 {
-    let mut j = 0;
-    while j < n {
-        let at = j * d;
-        let end = at + d;
-        put_pair(words, n, d, i, j, &mut masks[at..end]);
-        j += 1;
-    }
+    let own = i * d;
+    put_before(words, n, d, i, &mut masks[..own]);
+    put_after(words, n, d, i, &mut masks[own..]);
 }
 
 // The tables, from the words of a content.

@@ -38,9 +38,13 @@ pub record Numbers (n d : ℕ) : Type 0 where
   pub some-value : 1 ≤ d
   pub values : d ≤ 16
 
--- The byte at a place; 0 past the end.
-unfoldable pub byteOf : List ℕ → ℕ → ℕ
-byteOf bytes i = getD bytes i 0
+-- The value at a place; 0 past the end.
+unfoldable pub valueAt : List ℕ → ℕ → ℕ
+valueAt values i = getD values i 0
+
+-- Word k of bytes, the low byte first.
+unfoldable pub lowWord : List ℕ → ℕ → ℕ
+lowWord bytes k = getD bytes (2 * k) 0 + getD bytes (2 * k + 1) 0 * 256
 
 -- 14: one block with its number, of so many.
 unfoldable pub goodIn : List ℕ → ℕ → ℕ → Bool
@@ -90,12 +94,15 @@ columnOf rows a b = bit (getD rows b 0) a
 unfoldable pub columnPart : List ℕ → ℕ → List ℕ
 columnPart rows a = map (λ c. gathered (length rows) (columnOf rows c)) (below a)
 
--- The first a masks of two variables, the first j pairs of i, the first i rows.
+-- The first a masks of two variables; the first j pairs of i, and those from i with itself on; the first i rows.
 unfoldable pub pairPart : List ℕ → ℕ → ℕ → ℕ → ℕ → ℕ → List ℕ
 pairPart words n d i j a = map (allowedIn words n d i j) (below a)
 
 unfoldable pub rowPart : List ℕ → ℕ → ℕ → ℕ → ℕ → List ℕ
 rowPart words n d i j = each (λ k. pairPart words n d i k d) (below j)
+
+unfoldable pub afterPart : List ℕ → ℕ → ℕ → ℕ → List ℕ
+afterPart words n d i = each (λ k. pairPart words n d i (i + k) d) (below (n - i))
 
 unfoldable pub tablePart : List ℕ → ℕ → ℕ → ℕ → List ℕ
 tablePart words n d i = each (λ k. rowPart words n d k n) (below i)

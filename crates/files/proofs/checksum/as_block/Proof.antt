@@ -7,14 +7,14 @@ use Prim.Native.Nat.{ℕ, _-_, _≤_}
 use native.Mathlib.Omega.{arith}
 use lib.ListN.{length, drop, replicate, length-replicate}
 use Rattle.splits.specs.Splits.{below}
-use Rattle.files.specs.Work.Said.{byteOf}
+use Rattle.files.specs.Work.Said.{valueAt}
 use Rattle.files.proofs.Filled.{front-none, front-more, front-end}
-use Rattle.files.proofs.Found.{byte-of}
+use Rattle.files.proofs.Found.{value-of}
 use Rattle.files.proofs.checksum.as_block.Statement.{statement}
 use Rattle.files.proofs.checksum.as_block.Tie as tie
 
 abbrev Inv-loop : tie.InvT-loop
-Inv-loop bytes block₀ i₀ block i = (i ≤ 512) × (block ≡ map (byteOf bytes) (below i) ++ drop i (replicate 512 0))
+Inv-loop bytes block₀ i₀ block i = (i ≤ 512) × (block ≡ map (valueAt bytes) (below i) ++ drop i (replicate 512 0))
 
 abbrev μ-loop : tie.MeasureT-loop
 μ-loop bytes block₀ i₀ block i = 512 - i
@@ -37,7 +37,7 @@ loop-less c = search needs
 loop-again : tie.Need-loop-again Inv-loop μ-loop
 loop-again c =
     let long : length {A = ℕ} (replicate 512 0) ≡ 512 = length-replicate {A = ℕ} 512 0 in
-    (omega arith, front-more _ _ _ _ _ (c .before .before .loop .inv .1) (byte-of _ _ _ (c .byte .ensures)) (omega arith))
+    (omega arith, front-more _ _ _ _ _ (c .before .before .loop .inv .1) (value-of _ _ _ (c .byte .ensures)) (omega arith))
 
 returns : tie.Need-returns Inv-loop μ-loop
 returns c =

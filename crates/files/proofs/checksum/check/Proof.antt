@@ -1,13 +1,22 @@
 -- `checksum::check` meets its contract.
 -- Assumes nothing.
 use borrow.Author.Needs.{needs}
+use mathlib.Core.Path.{ap, _∙_}
 use native.Mathlib.Omega.{arith}
-use Rattle.files.proofs.Places.{check-made}
+use lib.ListN.{length}
+use Rattle.files.proofs.Lists.{map-length}
+use Rattle.files.proofs.Places.{sum-read, check-made}
 use Rattle.files.proofs.checksum.check.Statement.{statement}
 use Rattle.files.proofs.checksum.check.Tie as tie
 
+words-of-requires : tie.Need-words-of-requires
+words-of-requires c κs = search needs
+
+slice-aggregate-sum : tie.Need-slice-aggregate-sum
+slice-aggregate-sum c = search needs
+
 sum-requires : tie.Need-sum-requires
-sum-requires c κs = search needs
+sum-requires c κs = ap length (c .before .words-of .ensures) ∙ map-length _ 256
 
 folded-requires : tie.Need-folded-requires
 folded-requires c κs = search needs
@@ -22,9 +31,17 @@ sub-result : tie.Need-sub-result
 sub-result c = search needs
 
 returns : tie.Need-returns
-returns c = check-made _ _ _ _ _ (λ i. omega (arith, c .before .before .before .shared-slice-known .given i)) (c .before .before .sum .ensures) (c .before .folded .ensures) (c .folded2 .ensures)
+returns c = check-made _ _ _ _ _ (λ i. omega (arith, c .before .before .before .before .before .shared-slice-known .given i)) (sum-read _ _ _ (c .before .before .before .before .words-of .ensures) (c .before .before .sum .ensures)) (c .before .folded .ensures) (c .folded2 .ensures)
 
 pub check-spec : {M : Type 1} → statement M
 check-spec =
     tie.close
-    (tie.spec sum-requires folded-requires folded-requires-2 cast-result sub-result returns)
+    (tie.spec
+    words-of-requires
+    slice-aggregate-sum
+    sum-requires
+    folded-requires
+    folded-requires-2
+    cast-result
+    sub-result
+    returns)

@@ -1,32 +1,36 @@
 -- `checksum::sum` meets its contract. The invariant: the words passed are summed, each at most 65535.
 -- Assumes nothing.
 use borrow.Author.Needs.{needs}
-use mathlib.Core.Path.{_≡_}
+use mathlib.Core.Path.{_≡_, refl}
 use Prim.Native.Nat.{_-_, _*_, _≤_}
 use native.Mathlib.Omega.{arith}
 use Rattle.splits.specs.Problem.{total}
-use Rattle.files.specs.Reading.{blockWord}
+use Rattle.files.specs.Work.Said.{valueAt}
 use Rattle.files.proofs.Places.{total-none, total-more, total-end}
+use Rattle.files.proofs.Found.{value-of}
 use Rattle.files.proofs.checksum.sum.Statement.{statement}
 use Rattle.files.proofs.checksum.sum.Tie as tie
 
 abbrev Inv-loop : tie.InvT-loop
-Inv-loop block sum₀ k₀ sum k = (k ≤ 255) × ((sum ≡ total k (blockWord block 0)) × (sum ≤ k * 65535))
+Inv-loop words sum₀ k₀ sum k = (k ≤ 255) × ((sum ≡ total k (valueAt words)) × (sum ≤ k * 65535))
 
 abbrev μ-loop : tie.MeasureT-loop
-μ-loop block sum₀ k₀ sum k = 255 - k
+μ-loop words sum₀ k₀ sum k = 255 - k
 
 loop-holds : tie.Need-loop-holds Inv-loop μ-loop
 loop-holds c = (omega arith, (total-none _, omega arith))
 
-word-in-requires : tie.Need-word-in-requires Inv-loop μ-loop
-word-in-requires c κs = search needs
+mul-sum : tie.Need-mul-sum Inv-loop μ-loop
+mul-sum c = search needs
+
+shared-slice-read-sum : tie.Need-shared-slice-read-sum Inv-loop μ-loop
+shared-slice-read-sum c = search needs
 
 cast-sum : tie.Need-cast-sum Inv-loop μ-loop
-cast-sum c = search needs
+cast-sum c = omega (arith, c .shared-slice-known .given (c .before .before .loop .k))
 
 add-sum : tie.Need-add-sum Inv-loop μ-loop
-add-sum c = search needs
+add-sum c = omega (arith, c .shared-slice-known .given (c .before .before .loop .k))
 
 add-k : tie.Need-add-k Inv-loop μ-loop
 add-k c = search needs
@@ -37,7 +41,7 @@ loop-less c = search needs
 loop-again : tie.Need-loop-again Inv-loop μ-loop
 loop-again c =
     let inv = c .before .before .loop .inv in
-    (omega arith, (total-more _ _ _ _ (inv .1 .0) (c .word-in .ensures), omega (arith, c .word-in .ok)))
+    (omega arith, (total-more _ _ _ _ (inv .1 .0) (value-of _ _ _ refl), omega (arith, c .shared-slice-known .given (c .before .before .loop .k))))
 
 returns : tie.Need-returns Inv-loop μ-loop
 returns c =
@@ -51,7 +55,8 @@ sum-spec =
     Inv-loop
     μ-loop
     loop-holds
-    word-in-requires
+    mul-sum
+    shared-slice-read-sum
     cast-sum
     add-sum
     add-k
