@@ -8,7 +8,7 @@ use native.Mathlib.Omega.{arith}
 use native.Mathlib.Decide.{ℕ-discrete, decLt}
 use native.Mathlib.Nat.{lt-of-lt-of-le}
 use lib.Pow.{pow-mono}
-use lib.Bits.{bitAnd, and-le-r}
+use lib.Bits.{bitAnd, bitOr, and-le-r}
 use lib.Count.{trailingZeros, trailing-le}
 use lib.Dec.{eqb, ltb}
 use lib.ListN.{length, getD, take, replicate, length-take, List·getD-append}
@@ -47,6 +47,22 @@ wrong-none whole m = go (eqb m 0)
     go : (b : Bool) → eqb (cond b 1 (minus m whole)) 0 ≡ (not b && eqb (minus m whole) 0)
     go true = refl
     go false = refl
+
+joined-same : (n : ℕ) (f g : ℕ → ℕ) → ((k : ℕ) → k < n → f k ≡ g k) → joined n f ≡ joined n g
+unfolding joined
+joined-same zero f g h = refl
+joined-same (suc n) f g h = ap (λ (x : ℕ). bitOr x (f n)) (joined-same n f g (λ k l. h k (omega arith))) ∙ ap (bitOr (joined n g)) (h n (omega arith))
+
+-- what is wrong with the first k of as many
+pub wrong-front : (n k : ℕ) (domains slot : List ℕ) (r : ℕ) → length domains ≡ n → k ≡ n
+    → r ≡ joined (length (take k domains)) (wrongIn (take k domains) (take k slot)) → r ≡ joined (length domains) (wrongIn domains slot)
+unfolding wrongIn
+wrong-front n k domains slot r e s h =
+    let long : length (take k domains) ≡ length domains = simp length-take (omega arith) in
+    h ∙ ap (λ (x : ℕ). joined x (wrongIn (take k domains) (take k slot))) long
+    ∙ joined-same (length domains) (wrongIn (take k domains) (take k slot)) (wrongIn domains slot) (λ i l.
+    ap (λ (m : ℕ). partWrong m (getD (take k slot) i 0)) (getD-take k domains i 0 (omega arith))
+    ∙ ap (partWrong (getD domains i 0)) (getD-take k slot i 0 (omega arith)))
 
 -- ---- a mask of one value
 

@@ -332,6 +332,17 @@ fn wrong_in(domains: &[u16], slot: &[u16]) -> u16
     wrong
 }
 
+// The same; of 32 domains by a loop of as many turns, so that the machine takes eight at once.
+fn wrong_with(n: usize, domains: &[u16], slot: &[u16]) -> u16
+    requires { ⌜ (length (now domains) ≡ n) × (n ≤ length (now slot)) ⌝ }
+    ensures { λ r. ⌜ r ≡ joined (length (now (domains .entry))) (wrongIn (now (domains .entry)) (now (slot .entry))) ⌝ }
+{
+    if n == 32 {
+        return wrong_in(&domains[0..n], &slot[0..n]);
+    }
+    wrong_in(domains, slot)
+}
+
 // Whether a mask has one value: it is that of its lowest alone.
 fn is_single(mask: u16) -> bool
     ensures { λ r. ⌜ r ≡ eqb (size mask) 1 ⌝ }
@@ -447,7 +458,7 @@ fn obeys(slot: &[u16], n: usize, d: usize, domains: &[u16], tables: &[u16]) -> b
     if (1 << n) <= (marked as u64) {
         return false;
     }
-    if wrong_in(domains, slot) != 0 {
+    if wrong_with(n, domains, slot) != 0 {
         return false;
     }
     marks_obey(slot, marked, n, d, tables)

@@ -32,17 +32,17 @@ cast-if1 c = search needs
 returns : tie.Need-returns
 returns c = slot-over (c .before .before .before .before .before .before .before .args .n) (c .before .before .before .before .before .before .before .args .d) (c .before .before .before .before .before .before .before .args .domains .now) (c .before .before .before .before .before .before .before .args .tables .now) (c .before .before .before .before .before .before .before .args .slot .now) _ (c .before .before .before .before .before .before .before .pre .0 .fitting .sized .few) (c .before .marked-of .ensures) (c .if1 .taken)
 
-wrong-in-requires : tie.Need-wrong-in-requires
-wrong-in-requires c κs = search needs
+wrong-with-requires : tie.Need-wrong-with-requires
+wrong-with-requires c κs = search needs
 
 returns-2 : tie.Need-returns-2
-returns-2 c = slot-wrong (c .before .before .before .before .before .before .before .before .before .args .n) (c .before .before .before .before .before .before .before .before .before .args .d) (c .before .before .before .before .before .before .before .before .before .args .domains .now) (c .before .before .before .before .before .before .before .before .before .args .tables .now) (c .before .before .before .before .before .before .before .before .before .args .slot .now) (c .before .before .before .before .before .before .before .before .before .pre .0 .fitting .words) (c .before .before .before .before .before .before .before .before .before .pre .1) _ (c .before .wrong-in .ensures) (c .if2 .taken)
+returns-2 c = slot-wrong (c .before .before .before .before .before .before .before .before .before .args .n) (c .before .before .before .before .before .before .before .before .before .args .d) (c .before .before .before .before .before .before .before .before .before .args .domains .now) (c .before .before .before .before .before .before .before .before .before .args .tables .now) (c .before .before .before .before .before .before .before .before .before .args .slot .now) (c .before .before .before .before .before .before .before .before .before .pre .0 .fitting .words) (c .before .before .before .before .before .before .before .before .before .pre .1) _ (c .before .wrong-with .ensures) (c .if2 .taken)
 
 marks-obey-requires : tie.Need-marks-obey-requires
 marks-obey-requires c κs = record { sized = c .before .before .before .before .before .before .before .before .before .pre .0 .fitting .sized; words = c .before .before .before .before .before .before .before .before .before .pre .1; marks = slot-marks (c .before .before .before .before .before .before .before .before .before .args .n) (c .before .before .before .before .before .before .before .before .before .args .d) (c .before .before .before .before .before .before .before .before .before .args .domains .now) (c .before .before .before .before .before .before .before .before .before .args .tables .now) (c .before .before .before .before .before .before .before .before .before .args .slot .now) _ (c .before .before .before .before .before .before .before .before .before .pre .0 .fitting .sized .few) (c .before .before .before .marked-of .ensures) }
 
 returns-3 : tie.Need-returns-3
-returns-3 c = slot-marked (c .before .before .before .before .before .before .before .before .before .before .args .n) (c .before .before .before .before .before .before .before .before .before .before .args .d) (c .before .before .before .before .before .before .before .before .before .before .args .domains .now) (c .before .before .before .before .before .before .before .before .before .before .args .tables .now) (c .before .before .before .before .before .before .before .before .before .before .args .slot .now) (c .before .before .before .before .before .before .before .before .before .before .pre .0 .fitting .words) (c .before .before .before .before .before .before .before .before .before .before .pre .1) _ _ (c .before .before .before .before .before .before .before .before .before .before .pre .0 .passed) (c .before .before .before .before .before .before .before .before .before .before .pre .0 .fitting .sized .small) (c .before .before .wrong-in .ensures) (c .before .if2 .left) (marks-in (c .before .before .before .before .before .before .before .before .before .before .args .n) (c .before .before .before .before .before .before .before .before .before .before .args .d) (c .before .before .before .before .before .before .before .before .before .before .args .domains .now) (c .before .before .before .before .before .before .before .before .before .before .args .tables .now) (c .before .before .before .before .before .before .before .before .before .before .args .slot .now) _ (c .before .before .before .before .before .before .before .before .before .before .pre .0 .fitting .sized .few) (c .before .before .before .before .marked-of .ensures) (c .before .before .before .if1 .left)) (c .marks-obey .ensures)
+returns-3 c = slot-marked (c .before .before .before .before .before .before .before .before .before .before .args .n) (c .before .before .before .before .before .before .before .before .before .before .args .d) (c .before .before .before .before .before .before .before .before .before .before .args .domains .now) (c .before .before .before .before .before .before .before .before .before .before .args .tables .now) (c .before .before .before .before .before .before .before .before .before .before .args .slot .now) (c .before .before .before .before .before .before .before .before .before .before .pre .0 .fitting .words) (c .before .before .before .before .before .before .before .before .before .before .pre .1) _ _ (c .before .before .before .before .before .before .before .before .before .before .pre .0 .passed) (c .before .before .before .before .before .before .before .before .before .before .pre .0 .fitting .sized .small) (c .before .before .wrong-with .ensures) (c .before .if2 .left) (marks-in (c .before .before .before .before .before .before .before .before .before .before .args .n) (c .before .before .before .before .before .before .before .before .before .before .args .d) (c .before .before .before .before .before .before .before .before .before .before .args .domains .now) (c .before .before .before .before .before .before .before .before .before .before .args .tables .now) (c .before .before .before .before .before .before .before .before .before .before .args .slot .now) _ (c .before .before .before .before .before .before .before .before .before .before .pre .0 .fitting .sized .few) (c .before .before .before .before .marked-of .ensures) (c .before .before .before .if1 .left)) (c .marks-obey .ensures)
 
 pub obeys-spec : {M : Type 1} → statement M
 obeys-spec =
@@ -57,7 +57,7 @@ obeys-spec =
     shl-if1
     cast-if1
     returns
-    wrong-in-requires
+    wrong-with-requires
     returns-2
     marks-obey-requires
     returns-3)
