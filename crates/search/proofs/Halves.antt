@@ -19,7 +19,7 @@ use Rattle.splits.proofs.Masks.{common-none, not-minus, single-lt, bit-single-s
 use Rattle.splits.proofs.Tests.{every-at}
 use Rattle.search.specs.Agenda.{holding, subproblemOf, slotAt}
 use Rattle.search.specs.Work.Slots.{SlotIn}
-use Rattle.search.specs.Work.Lanes.{Half, Beyond, Below, Kept, KeptTo, keyOf, Turned, partOf, furtherAt, FurtherTo, exceeding}
+use Rattle.search.specs.Work.Lanes.{Half, Beyond, Below, Kept, KeptTo, keyOf, Sided, partOf, furtherAt, FurtherTo, exceeding}
 use Rattle.search.proofs.Joining.{bit-shr}
 use Rattle.search.proofs.Turning.{bit-low}
 
@@ -153,11 +153,11 @@ slot-lanes n k agenda lanes D high low m slot fits b kept hi lo e =
 -- ---- the piece for a variable
 
 -- A mask as it is, and all that is outside it.
-pub turned-not : (mask test : ℕ) → mask < 2 ^ 16 → test ≡ 1 → Turned mask test (65535 - mask)
-turned-not mask test h e m k = rw (eq-eqb test 1 e) (not-minus 16 m mask k h)
+pub sided-not : (mask test : ℕ) → mask < 2 ^ 16 → test ≡ 1 → Sided mask test (65535 - mask)
+sided-not mask test h e m k = rw (eq-eqb test 1 e) (not-minus 16 m mask k h)
 
-pub turned-same : (mask test : ℕ) → (test ≡ 1 → ⊥) → Turned mask test mask
-turned-same mask test e m k = rw (ne-eqb test 1 e) refl
+pub sided-same : (mask test : ℕ) → (test ≡ 1 → ⊥) → Sided mask test mask
+sided-same mask test e m k = rw (ne-eqb test 1 e) refl
 
 -- A mask of it by two tests.
 module _ (m mask at after : ℕ) where
@@ -165,7 +165,7 @@ module _ (m mask at after : ℕ) where
   unfolding partOf
   part-after e = rw (eq-eqb after 1 e) refl
 
-  pub part-other : (after ≡ 1 → ⊥) → m < 2 ^ 16 → (r : ℕ) → Turned mask at r → common m r ≡ partOf m mask at after
+  pub part-other : (after ≡ 1 → ⊥) → m < 2 ^ 16 → (r : ℕ) → Sided mask at r → common m r ≡ partOf m mask at after
   unfolding partOf
   part-other h k r t = t m k ∙ rw (ne-eqb after 1 h) refl
 

@@ -6,7 +6,7 @@ ghost use lib.ListN.{getD};
 ghost use lib.Dec.{eqb};
 ghost use Rattle.splits.specs.Masks.{bit, minus, size};
 ghost use Rattle.splits.specs.Problem.{total};
-ghost use Rattle.search.specs.Work.Lanes.{Half, Beyond, Below, LeastKey, lost, loses, cutTo, Turned, partOf, FurtherTo, exceeding};
+ghost use Rattle.search.specs.Work.Lanes.{Half, Beyond, Below, LeastKey, lost, loses, cutTo, Sided, partOf, FurtherTo, exceeding};
 
 fn least(a: u16, b: u16) -> u16
     ensures { λ r. ⌜ r ≡ min a b ⌝ }
@@ -144,9 +144,9 @@ pub(crate) fn cut(mut domains: [u16; 32], row: [u16; 32]) -> [u16; 32]
 }
 
 // A mask, or of a variable in the half of a set all that is outside it.
-fn turned(mask: u16, half: u16, i: usize) -> u16
+fn sided(mask: u16, half: u16, i: usize) -> u16
     requires { ⌜ i < 16 ⌝ }
-    ensures { λ r. ⌜ Turned mask (bit half i) r ⌝ }
+    ensures { λ r. ⌜ Sided mask (bit half i) r ⌝ }
 {
     if (half >> i) % 2 == 1 { !mask } else { mask }
 }
@@ -156,11 +156,11 @@ fn part(whole: u16, mask: u16, i: usize, at: u16, after: u16) -> u16
     requires { ⌜ i < 16 ⌝ }
     ensures { λ r. ⌜ r ≡ partOf whole mask (bit at i) (bit after i) ⌝ }
 {
-    let turned = turned(mask, at, i);
+    let sided = sided(mask, at, i);
     if (after >> i) % 2 == 1 {
         whole
     } else {
-        whole & turned
+        whole & sided
     }
 }
 

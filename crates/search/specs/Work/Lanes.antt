@@ -58,8 +58,8 @@ unfoldable pub cutTo : List ℕ → List ℕ → ℕ → List ℕ
 cutTo masks row i = changed i (λ j m. common m (getD row j 0)) masks
 
 -- What cuts as a mask does or, where a test is 1, takes away what the mask keeps.
-abbrev pub Turned : ℕ → ℕ → ℕ → Type 0
-Turned mask test r = (m : ℕ) → m < 2 ^ 16 → common m r ≡ cond (eqb test 1) (minus m mask) (common m mask)
+abbrev pub Sided : ℕ → ℕ → ℕ → Type 0
+Sided mask test r = (m : ℕ) → m < 2 ^ 16 → common m r ≡ cond (eqb test 1) (minus m mask) (common m mask)
 
 -- A mask of the piece for a variable, by whether it is that variable's and whether a later one's: cut to its own before it, the rest for it, whole after it.
 unfoldable pub partOf : ℕ → ℕ → ℕ → ℕ → ℕ

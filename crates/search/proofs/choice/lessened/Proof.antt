@@ -1,5 +1,7 @@
 -- `search::choice::lessened` meets its contract.
 -- Assumes nothing.
+use mathlib.Core.Path.{ap}
+use Rattle.splits.specs.declared.subproblem.Subproblem.{Subproblem}
 use borrow.Author.Needs.{needs}
 use Rattle.search.proofs.choice.lessened.Statement.{statement}
 use Rattle.search.proofs.choice.lessened.Tie as tie
@@ -14,7 +16,7 @@ without-requires : tie.Need-without-requires
 without-requires c κs = search needs
 
 returns : tie.Need-returns
-returns c = cc
+returns c = ap (λ (Q : Subproblem). Q .domains) (c .before .without .ensures)
 
 pub lessened-spec : {M : Type 1} → statement M
 lessened-spec = tie.close (tie.spec mul-without array-read-without without-requires returns)
