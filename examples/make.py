@@ -362,9 +362,12 @@ def main(words):
     if words in (["--help"], ["-h"]):
         print(__doc__, end="")
         return 0
-    if any(word.startswith("-") or not word.endswith(".txt") for word in words):
-        print(__doc__, end="", file=sys.stderr)
-        return 2
+    for word in words:
+        if word.startswith("-") or not word.endswith(".txt"):
+            wrong = "'%s' is no option here" if word.startswith("-") else "'%s' is no .txt file"
+            print("make.py: " + wrong % word, file=sys.stderr)
+            print("make.py: --help says what is taken", file=sys.stderr)
+            return 2
     for file in words:
         write(file[:-4] + ".search", made(file))
     if not words:

@@ -10,14 +10,20 @@
  *             path i; b beside a exactly if a beside b. All d bits set: no constraint. The places for a path with
  *             itself are never read
  *   agenda    1 to 512 slots of n + 2 words, slot 0 the bottom of the stack. A slot is a subproblem: n masks, then the
- *             set of instantiated paths as two words, high word first, bit i for path i. Unused slots hold zeros
+ *             set of instantiated paths as two words, high word first, bit i for path i. Unused slots hold zeros. 512
+ *             slots are at most 34,816 bytes: lend them unless memory is short
  *   requests  any number of them, n + 3 words each: kind, V, v, n target masks. What its kind does not read may be
- *             anything
+ *             anything. docs/RULES.md, "The five splits", has what each kind does: the pieces that it splits the top
+ *             subproblem into, of which one is the precluded piece, and what the target is for
  * A file is bytes as they are, its words high byte first: 1 to 101 blocks of 512 bytes; docs/FORMAT.md has the rest.
  *
  * What the caller owes, in every call: no pointer is NULL, not even one whose length is 0; behind each stand as many
  * bytes as its length says, or one number, aligned as its type; and no two of them, buffers or numbers, overlap.
  * Buffers may stand at any address. Lengths are in BYTES. A wrong length or wrong content is refused, never undefined.
+ * Calls may be made from several threads at once, each on memory of its own.
+ *
+ * Stack: a call keeps its words in local arrays, so it takes up to 200 KB of stack whatever n and d are (on x86-64; no
+ * proof covers it), and crashes where there is less. Call from a thread with 256 KB: ./test tries all with just that.
  *
  * A search is the agenda and three numbers: steps, checks, subproblems. Hand on all four as the last call left them. */
 #ifndef RASTWOB_H
@@ -51,8 +57,9 @@ extern "C" {
 #define RASTWOB_FILE_BYTES(n, d, subproblems) (RASTWOB_BLOCK_BYTES * RASTWOB_FILE_BLOCKS(n, d, subproblems))
 #define RASTWOB_LARGEST_FILE_BYTES ((size_t)RASTWOB_MOST_BLOCKS * RASTWOB_BLOCK_BYTES)
 
-/* The tables' word for value a of variable i beside variable j. */
+/* The tables' word for value a of variable i beside variable j; the agenda's word i of a slot, the mask of path i. */
 #define RASTWOB_TABLE_WORD(n, d, i, j, a) (((size_t)(i) * (size_t)(n) + (size_t)(j)) * (size_t)(d) + (size_t)(a))
+#define RASTWOB_SLOT_WORD(n, slot, i) ((size_t)(slot) * ((size_t)(n) + 2u) + (size_t)(i))
 
 /* Kinds of request, and what each reads. */
 #define RASTWOB_BACKTRACKING 1u     /* V and v */
@@ -64,7 +71,8 @@ extern "C" {
 /* Verdicts. */
 #define RASTWOB_NONE 0u       /* the first checks refused */
 #define RASTWOB_RUNNING 1u    /* neither solved nor unsolvable */
-#define RASTWOB_SOLVED 2u     /* the top subproblem has every path instantiated: it is the plan, and stays */
+#define RASTWOB_SOLVED 2u     /* the top subproblem, slot subproblems - 1, has every path instantiated: its n masks have
+                                 one bit each and are the plan; it stays */
 #define RASTWOB_UNSOLVABLE 3u /* the agenda is empty; of a search begun by opening, there is no plan */
 
 /* Refusals: the result of each call, 0 for none. The order in which a call looks for them stands with the call. */
@@ -83,7 +91,7 @@ extern "C" {
 #define RASTWOB_REFUSED_TARGET 10u     /* kind 5: a target is empty or not part of the top's domain, or all equal it */
 #define RASTWOB_REFUSED_STEPS 11u      /* steps already 4,294,967,295 */
 #define RASTWOB_REFUSED_ROOM 12u       /* nonempty pieces exceed free slots, the top's slot counted free; at load, more
-                                          subproblems than slots */
+                                          subproblems than slots. To go on: save, and load into more slots */
 #define RASTWOB_REFUSED_FILE_ROOM 13u  /* the file buffer is shorter than the blocks to write */
 #define RASTWOB_REFUSED_BLOCKS 14u     /* file not 1 to 101 whole blocks, or a block's check, number or count wrong */
 #define RASTWOB_REFUSED_FILE_WORDS 15u /* the file's words break a rule, or do not fill exactly that many blocks with
@@ -92,7 +100,8 @@ extern "C" {
 /* Opens a search: clears the agenda, which may hold anything before, and both counts, and places the problem in slot 0
  * with nothing instantiated; but nothing where a domain is empty.
  * Leaves: *steps and *checks 0, *subproblems 1 (0 where a domain is empty), the agenda as said.
- * Returns the refusal, looked for in the order 1 to 5. Refused: the three numbers are 0, the agenda is as it was. */
+ * Returns the refusal, looked for in the order 1 to 5. Refused: the three numbers are 0, the agenda is as it was; so
+ * over a search that you still want, hand in other numbers, as at rastwob_load. */
 uint32_t rastwob_open(uint32_t n, uint32_t d,
                       const uint8_t *domains, size_t domains_bytes,
                       const uint8_t *tables, size_t tables_bytes,
@@ -116,7 +125,8 @@ uint32_t rastwob_run(uint32_t n, uint32_t d,
 /* Runs the house chooser for up to limit steps. V is the uninstantiated path with the fewest windows, lowest number
  * among equals; v its lowest window; kind 2 if the precluded piece is empty or if kind 3 has no room, else kind 3.
  * Takes, leaves and returns as rastwob_run does, *taken being the steps taken; after 1 to 6 it meets only 11 and 12.
- * At its limit it stops with refusal 0, and the search may be gone on with. */
+ * At its limit it stops with refusal 0, and the search may be gone on with. With limit 0 it only says the verdict, as
+ * of a search just opened or loaded. */
 uint32_t rastwob_choose(uint32_t n, uint32_t d,
                         const uint8_t *domains, size_t domains_bytes,
                         const uint8_t *tables, size_t tables_bytes,
@@ -136,9 +146,16 @@ uint32_t rastwob_save(uint32_t n, uint32_t d,
                       uint8_t *file, size_t file_bytes, uint32_t *blocks);
 
 /* Loads a saved search. All file_bytes are the file. Domains and tables are lent at exactly the lengths for the file's
- * own n and d, which stand in its bytes 4 and 5, and 6 and 7, high byte first; the agenda at any number of slots.
+ * own n and d, which stand in its bytes 4 and 5, and 6 and 7, high byte first. Read them only where file_bytes is at
+ * least 8; where it is not, or they are not 1 to 32 and 1 to 16, lend any lengths: the file is then refused 14 or 15
+ * before lengths are looked at.
+ * The agenda is lent at any number of slots that takes the subproblems. With as many as before, the search goes on as
+ * if it had not been saved; with another number kind 3 may find or lack room (12) where it did not, so that steps,
+ * checks, agenda and the plan found may differ.
  * Leaves: the five numbers; domains, tables (zeros for a path with itself) and agenda (zeros in unused slots), whole.
- * Returns the refusal, looked for in the order 14, 15, 3, 12. Refused: the numbers are 0, the buffers as they were. */
+ * Returns the refusal, looked for in the order 14, 15, 3, 12. Refused: the numbers are 0, the buffers as they were. So
+ * do not let load (or open) write its numbers over those of a search that you still want: hand it others, and take
+ * them over where it returns 0. */
 uint32_t rastwob_load(const uint8_t *file, size_t file_bytes,
                       uint8_t *domains, size_t domains_bytes,
                       uint8_t *tables, size_t tables_bytes,

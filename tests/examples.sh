@@ -37,6 +37,7 @@ typedef char requests_fit[RASTWOB_REQUESTS_BYTES(4, 5) == 70 ? 1 : -1];
 typedef char words_fit[RASTWOB_FILE_WORDS(32, 16, 512) == 25385 ? 1 : -1];
 typedef char file_fits[RASTWOB_FILE_BYTES(32, 16, 512) == RASTWOB_LARGEST_FILE_BYTES ? 1 : -1];
 typedef char places_fit[RASTWOB_TABLE_WORD(4, 3, 1, 2, 1) == 19 ? 1 : -1];
+typedef char slots_fit[RASTWOB_SLOT_WORD(4, 2, 1) == 13 ? 1 : -1];
 uint32_t opens(uint8_t *bytes, uint32_t *number, uint64_t *checks);
 uint32_t opens(uint8_t *bytes, uint32_t *number, uint64_t *checks)
 {
@@ -84,6 +85,11 @@ printf 'solved\nsteps 2 checks 3\n0 0\n1 1\n' | cmp - examples/printed.expected 
 judge $? "printed.expected is the text of the rules"
 cmp examples/fallbacks.expected examples/midway.expected >"$room/log" 2>&1
 judge $? "midway.expected is fallbacks.expected: the cut changes nothing"
+for name in mine --fast; do
+    python3 -B examples/make.py $name >"$room/log" 2>&1
+    [ $? -eq 2 ] && head -n 1 "$room/log" | grep -qF -- "'$name'"
+    judge $? "make.py $name: its first line says what is wrong"
+done
 
 # ---- ./plan on them
 # Runs a command on the present standard input, and holds its status, output and messages to what is told.
@@ -134,13 +140,19 @@ ln -s ../link "$here/link"
 says "./plan from another folder, by a relative path" 0 examples/fallbacks.expected '' in_folder "$here" "$top/plan" './-mine *.search'
 says "./plan by a link to a link" 0 examples/fallbacks.expected '' in_folder "$here" ./link './-mine *.search'
 says "./plan by the PATH" 0 examples/fallbacks.expected '' in_folder "$here" env PATH="$top:$PATH" plan './-mine *.search'
+says "./plan -- FILE, a name that begins with -" 0 examples/fallbacks.expected '' in_folder "$here" "$top/plan" -- '-mine *.search'
 
 # ---- ./plan called wrongly
-says "./plan, no such file" 2 "$nothing" 'no such file: nowhere.search' ./plan nowhere.search
-says "./plan, a directory" 2 "$nothing" 'a directory, not a file: examples' ./plan examples
+says "./plan, no such file" 2 "$nothing" "no such file: 'nowhere.search'" ./plan nowhere.search
+says "./plan, an empty name" 2 "$nothing" 'the file name is empty' ./plan ''
+says "./plan, a directory" 2 "$nothing" "a directory, not a file: 'examples'" ./plan examples
+python3 -c 'import socket, sys; socket.socket(socket.AF_UNIX).bind(sys.argv[1])' "$room/socket"
+says "./plan, a socket" 2 "$nothing" "cannot read '$room/socket'" ./plan "$room/socket"
+says "./plan, a socket, by another shell" 2 "$nothing" "cannot read '$room/socket'" bash --posix plan "$room/socket"
 says "./plan, a directory as standard input" 2 "$nothing" 'standard input is a directory' ./plan <examples
 says "./plan, two arguments" 2 "$nothing" 'usage: plan FILE' ./plan examples/printed.search examples/printed.search
 says "./plan, an unknown option" 2 "$nothing" 'usage: plan FILE' ./plan --fast examples/printed.search
+says "./plan -" 2 "$nothing" 'standard input is read by plan < FILE' ./plan - <examples/printed.search
 says "./plan, no FILE and standard input closed" 2 "$nothing" 'usage: plan FILE' ./plan <&-
 terminal='import os, pty, subprocess, sys; sys.exit(subprocess.run(["./plan"], stdin=pty.openpty()[1]).returncode)'
 says "./plan, no FILE at a terminal" 2 "$nothing" 'usage: plan FILE' python3 -c "$terminal"
@@ -148,6 +160,7 @@ says "./plan, an answer that cannot be written" 2 "$nothing" 'cannot write the a
 ./plan --help >"$room/help" 2>&1 && grep -q '^usage: plan FILE' "$room/help" && grep -q '^Exit status' "$room/help"
 judge $? "./plan --help"
 says "./plan -h" 0 "$room/help" '' ./plan -h
+says "./plan --help, which cannot be written" 2 "$nothing" 'cannot write the help' sh -c './plan --help >/dev/full'
 # Root reads every file, so nobody is asked, of a copy that nobody can reach.
 install -m 755 plan "$room/plan"
 install -m 000 examples/printed.search "$room/unreadable"
@@ -155,7 +168,7 @@ chmod 755 "$room"
 drop=()
 [ "$(id -u)" -ne 0 ] || drop=(setpriv --reuid=65534 --regid=65534 --clear-groups)
 if "${drop[@]}" test -x "$room/plan" 2>/dev/null && ! "${drop[@]}" test -r "$room/unreadable"; then
-    says "./plan, a file that cannot be read" 2 "$nothing" 'cannot read ' "${drop[@]}" "$room/plan" "$room/unreadable"
+    says "./plan, a file that cannot be read" 2 "$nothing" "cannot read '$room/unreadable'" "${drop[@]}" "$room/plan" "$room/unreadable"
 else
     good "./plan on a file that cannot be read was not tried: this user reads all, and cannot become nobody"
 fi
@@ -212,6 +225,8 @@ judge $? "of two calls at once one builds and both answer"
 printf 'solved\nsolved\n' >"$room/twice"
 says "on Arm the kit's emulator runs it" 0 "$room/twice" '' in_tree MACHINE=aarch64 QEMU_STRACE=1 "$tree/plan" "$room/solved"
 says "a machine that the kit has no emulator for" 2 "$nothing" 'no emulator for this machine, riscv64' in_tree MACHINE=riscv64 "$tree/plan" "$room/solved"
+printf '#!/bin/sh\nkill -SEGV $$\n' >"$tree/target/bin/planner"
+says "a program that ends for want of stack" 2 "$nothing" 'status 139 (it needs 256 KB of stack' in_tree "$tree/plan" "$room/solved"
 
 if [ "$failed" -eq 0 ]; then good "all is as it should be"; else bad "$failed of the above"; fi
 [ "$failed" -eq 0 ]
