@@ -1,5 +1,5 @@
 // The content of a saved search: how many words it has, and the words.
-use crate::filling;
+use crate::copying;
 use crate::said;
 use search::state::State;
 ghost use mathlib.Core.Path.{_≡_};
@@ -60,7 +60,7 @@ fn put_masks(n: usize, d: usize, tables: &[u16], words: &mut [u16])
         let from = (i * n + i + 1) * d;
         let to = from + row;
         let end = at + row;
-        filling::put_words(&tables[from..to], &mut words[at..end]);
+        copying::put_words(&tables[from..to], &mut words[at..end]);
         at = end;
         i += 1;
     }
@@ -81,7 +81,7 @@ fn put_tail(
     let masks = said::triangle_words(n, d);
     let used = subproblems * (n + 2);
     put_masks(n, d, tables, &mut words[..masks]);
-    filling::put_padded(&agenda[..used], &mut words[masks..]);
+    copying::put_padded(&agenda[..used], &mut words[masks..]);
 }
 
 // The domains before them.
@@ -97,7 +97,7 @@ fn put_lists(
     requires { ⌜ (length (now domains) ≡ n) × ((n ≤ length (now words)) × Tail n d (now tables) (now agenda) subproblems (length (now words) - n)) ⌝ }
     ensures { λ r. ⌜ now (words .exit) ≡ now (domains .entry) ++ tail n d (now (tables .entry)) (now (agenda .entry)) subproblems (length (now (words .entry)) - n) ⌝ }
 {
-    filling::put_words(domains, &mut words[..n]);
+    copying::put_words(domains, &mut words[..n]);
     put_tail(n, d, tables, agenda, subproblems, &mut words[n..]);
 }
 
@@ -115,7 +115,7 @@ pub(crate) fn put(
     ensures { λ r. ⌜ now (words .exit) ≡ handed n d (now (domains .entry)) (now (tables .entry)) (now (agenda .entry)) state ++ replicate (25553 - wordsOf n d (state .subproblems)) 0 ⌝ }
 {
     let first = header(n, d, state);
-    filling::put_words(&first[..9], &mut words[..9]);
+    copying::put_words(&first[..9], &mut words[..9]);
     put_lists(
         n,
         d,

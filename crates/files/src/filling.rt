@@ -1,46 +1,13 @@
 // What load writes: the content of a file in words, the tables in full, and the lent memory.
 use crate::block;
 use crate::content;
+use crate::copying;
 use crate::said;
 ghost use mathlib.Core.Path.{_≡_};
-ghost use mathlib.Core.List.{_++_};
 ghost use Prim.Native.Nat.{_+_, _-_, _*_, _/_, _<_, _≤_};
-ghost use lib.ListN.{length, replicate};
+ghost use lib.ListN.{length};
 ghost use Rattle.files.specs.Reading.{contentFrom};
 ghost use Rattle.files.specs.Work.Said.{Numbers, columnPart, rowPart, afterPart, tablePart, partIn, slotsPart, Lent};
-
-// A copy.
-pub(crate) fn put_words(words: &[u16], out: &mut [u16])
-    requires { ⌜ length (now words) ≡ length (now out) ⌝ }
-    ensures { λ r. ⌜ now (out .exit) ≡ now (words .entry) ⌝ }
-{
-    let mut i = 0;
-    while i < words.len() {
-        out[i] = words[i];
-        i += 1;
-    }
-}
-
-// Zeros.
-fn put_zeros(words: &mut [u16])
-    ensures { λ r. ⌜ now (words .exit) ≡ replicate (length (now (words .entry))) 0 ⌝ }
-{
-    let mut i = 0;
-    while i < words.len() {
-        words[i] = 0;
-        i += 1;
-    }
-}
-
-// A copy, and zeros after it.
-pub(crate) fn put_padded(words: &[u16], out: &mut [u16])
-    requires { ⌜ length (now words) ≤ length (now out) ⌝ }
-    ensures { λ r. ⌜ now (out .exit) ≡ now (words .entry) ++ replicate (length (now (out .entry)) - length (now (words .entry))) 0 ⌝ }
-{
-    let used = words.len();
-    put_words(words, &mut out[..used]);
-    put_zeros(&mut out[used..]);
-}
 
 // The words of a block's content.
 fn put_block(block: &[u8], words: &mut [u16])
@@ -48,7 +15,7 @@ fn put_block(block: &[u8], words: &mut [u16])
     ensures { λ r. ⌜ now (words .exit) ≡ contentFrom (now (block .entry)) 0 253 ⌝ }
 {
     let all = block::words_of(block);
-    put_words(&all[2..255], words);
+    copying::put_words(&all[2..255], words);
 }
 
 // The words of the content of so many blocks.
@@ -75,19 +42,7 @@ pub(crate) fn put_content(file: &[u8], words: &mut [u16])
     let blocks = file.len() / 512;
     let used = blocks * 253;
     put_blocks(file, blocks, &mut words[..used]);
-    put_zeros(&mut words[used..]);
-}
-
-// A copy of 16 words.
-fn put_sixteen(words: &[u16], out: &mut [u16])
-    requires { ⌜ (length (now words) ≡ 16) × (length (now out) ≡ 16) ⌝ }
-    ensures { λ r. ⌜ now (out .exit) ≡ now (words .entry) ⌝ }
-{
-    let mut i = 0;
-    while i < 16 {
-        out[i] = words[i];
-        i += 1;
-    }
+    copying::put_zeros(&mut words[used..]);
 }
 
 // Rows for columns: the masks of two variables the other way round, 16 of them in loops of that many turns.
@@ -97,15 +52,15 @@ fn put_turned(rows: &[u16], columns: &mut [u16])
 {
     let mut all = [0u16; 16];
     if rows.len() == 16 {
-        put_sixteen(rows, &mut all[..16]);
+        copying::put_sixteen(rows, &mut all[..16]);
         let turned = search::matrix::turned(all);
-        put_sixteen(&turned[..16], columns);
+        copying::put_sixteen(&turned[..16], columns);
         return;
     }
-    put_padded(rows, &mut all[..16]);
+    copying::put_padded(rows, &mut all[..16]);
     let turned = search::matrix::turned(all);
     let count = columns.len();
-    put_words(&turned[..count], columns);
+    copying::put_words(&turned[..count], columns);
 }
 
 // The masks of a variable with those before it, which stand the other way round.
@@ -131,8 +86,8 @@ fn put_after(words: &[u16], n: usize, d: usize, i: usize, masks: &mut [u16])
 {
     let from = 9 + n + said::pairs_before(n, i) * d;
     let to = from + (n - (i + 1)) * d;
-    put_zeros(&mut masks[..d]);
-    put_words(&words[from..to], &mut masks[d..]);
+    copying::put_zeros(&mut masks[..d]);
+    copying::put_words(&words[from..to], &mut masks[d..]);
 }
 
 // The masks of a variable with every other.
@@ -174,9 +129,9 @@ pub(crate) fn put_search(
     ensures { λ r. ⌜ (now (domains .exit) ≡ partIn (now (words .entry)) 9 n) × ((now (tables .exit) ≡ now (all .entry)) × (now (agenda .exit) ≡ slotsPart (now (words .entry)) n d subproblems (length (now (agenda .entry))))) ⌝ }
 {
     let last = 9 + n;
-    put_words(&words[9..last], domains);
-    put_words(all, tables);
+    copying::put_words(&words[9..last], domains);
+    copying::put_words(all, tables);
     let from = content::agenda_from(n, d);
     let end = from + subproblems * (n + 2);
-    put_padded(&words[from..end], agenda);
+    copying::put_padded(&words[from..end], agenda);
 }

@@ -13,6 +13,7 @@ ghost use Rattle.files.specs.Work.Said.{Refused, Read, Ready};
 pub mod block;
 pub mod checksum;
 pub mod content;
+pub mod copying;
 pub mod filling;
 pub mod reading;
 pub mod said;

@@ -182,7 +182,7 @@ fn refusal_of_lengths(n: usize, d: usize, domains: usize, tables: usize, agenda:
     3
 }
 
-// The refusal of load past 14, the numbers of words lent as domains, tables and agenda; 0 for none.
+// The refusal of load past 14, of the numbers of words lent as domains, tables and agenda; 0 for none.
 pub(crate) fn refusal(
     file: &[u8],
     words: &[u16],

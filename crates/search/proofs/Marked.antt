@@ -2,7 +2,7 @@
 -- Assumes nothing.
 use mathlib.Core.Path.{_≡_, refl, sym, ap, _∙_}
 use mathlib.Core.Bool.{Bool, true, false, not, cond, _&&_, _||_, and-false, and-true, true≢false}
-use mathlib.Core.List.{List, _++_}
+use mathlib.Core.List.{List}
 use Prim.Native.Nat.{ℕ, zero, suc, _+_, _-_, _*_, _/_, _%_, _^_, _≤_, _<_}
 use native.Mathlib.Omega.{arith}
 use native.Mathlib.Decide.{ℕ-discrete, decLt}
@@ -14,14 +14,14 @@ use lib.Dec.{eqb, ltb}
 use lib.ListN.{length, getD, take, replicate, length-take, List·getD-append}
 use lib.Seq.{getD-take}
 use borrow.Author.Tests.{eq-eqb, ne-eqb, eqb-true, ltb-true, lt-ltb, le-ltb, not-true, not-false}
-use Rattle.splits.specs.Masks.{bit, minus, size, single, lowest}
+use Rattle.splits.specs.Masks.{bit, minus, size, lowest}
 use Rattle.splits.specs.Problem.{Problem, Table, tableOf}
 use Rattle.splits.specs.Subproblems.{domain, every}
 use Rattle.splits.specs.declared.subproblem.Subproblem.{Subproblem}
 use Rattle.splits.proofs.Masks.{bit-le, bit-above, not-minus, size-of-none, size-single, single-of, lowest-member, trailing-least}
 use Rattle.splits.proofs.Refusals.{lacks}
 use Rattle.splits.proofs.Subproblems.{shifted}
-use Rattle.splits.proofs.Tests.{and-left, and-right, every-at, every-all, every-not, same-test}
+use Rattle.splits.proofs.Tests.{and-left, and-right, every-at, every-all, same-test}
 use Rattle.search.specs.Agenda.{problemOf, holding, subproblemOf}
 use Rattle.search.specs.FirstChecks.{masksBelow, symmetric, refusalOfProblem, domainObeys, valuesAgree, obeys}
 use Rattle.search.specs.Work.FirstTests.{Next, joined, partWrong, wrongIn, pairAgrees, beforeAgrees, markObeys}

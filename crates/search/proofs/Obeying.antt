@@ -18,8 +18,7 @@ use Rattle.splits.specs.Work.Ranges.{Sized}
 use Rattle.splits.specs.declared.subproblem.Subproblem.{Subproblem}
 use Rattle.splits.proofs.Masks.{not-minus, bit-none}
 use Rattle.splits.proofs.Refusals.{lacks}
-use Rattle.splits.proofs.Tests.{every-all}
-use Rattle.search.specs.Work.FirstTests.{partObeys, pairAgrees, rowAgrees}
+use Rattle.search.specs.Work.FirstTests.{partObeys, pairAgrees}
 
 -- ---- one domain, m, beside the problem's
 
@@ -77,12 +76,6 @@ module _ (allowed : Table) (P : Subproblem) (i j : ℕ) where
   unfolding pairAgrees
   agrees-values b c r s t a v f e y k z es ea et ev h =
       simp (ne-eqb i j f, lacks (P .marked) i b e ∙ y, lacks (P .marked) j c k ∙ z) (rw (ea, es, ev, et) at h)
-
--- a variable that is not instantiated agrees with every other
-pub row-unmarked : (n : ℕ) (allowed : Table) (P : Subproblem) (i : ℕ) (b : Bool) → b ≡ eqb (bit (P .marked) i) 1 → not b ≡ true
-    → true ≡ rowAgrees n allowed P i
-unfolding rowAgrees
-row-unmarked n allowed P i b e y = sym (every-all (pairAgrees allowed P i) n (λ j h. sym (agrees-first allowed P i j b e y)))
 
 -- what is worked out on the way to a mask is small
 pub record Row (n d i j : ℕ) : Type 0 where

@@ -1,10 +1,10 @@
 -- The house chooser: which variable, value and kind it chooses, that the request is accepted, and that the chooser is a run.
 -- Assumes nothing.
-use mathlib.Core.Path.{_≡_, refl, sym, _∙_}
+use mathlib.Core.Path.{_≡_, refl, sym, ap, _∙_}
 use mathlib.Core.Logic.{_⊎_, inl, inr, ⊎-elim}
 use mathlib.Core.Bool.{Bool, true, false, cond, _&&_, _||_}
 use mathlib.Core.List.{List, _∷_, _++_}
-use Prim.Native.Nat.{ℕ, zero, suc, _+_, _≤_, _<_}
+use Prim.Native.Nat.{ℕ, zero, suc, _+_, _-_, _≤_, _<_}
 use native.Mathlib.Omega.{arith}
 use native.Mathlib.Nat.{le-refl}
 use native.Mathlib.Decide.{decLt}
@@ -39,6 +39,91 @@ picked p room zero s k = refl
 picked p room (suc m) s k =
     let r : List ℕ = chosen p room (s .stack) in
     rw (picked p room m (step p r s) (k + 1))
+
+-- ---- the chooser cut in two
+
+-- The count goes on from where it began.
+shift : (p : Problem) (room m : ℕ) (s : Search) (j : ℕ) →
+    let c : Stopped = chooseFrom p room m s 0 in chooseFrom p room m s j ≡ record { search = c .search; refusal = c .refusal; taken = j + c .taken }
+unfolding chooseFrom
+shift p room zero s j = let e : j ≡ j + 0 = omega arith in λ t. record { search = s; refusal = 0; taken = e t }
+shift p room (suc m) s j =
+    go (finished (p .n) (s .stack)) (eqb k₁ 0) (shift p room m (step p (chosen p room (s .stack)) s) (j + 1)) (shift p room m (step p (chosen p room (s .stack)) s) 1)
+  where
+    k₁ : ℕ
+    k₁ = refusalOfRequest p room (chosen p room (s .stack)) s
+
+    next : ℕ → Stopped
+    next = chooseFrom p room m (step p (chosen p room (s .stack)) s)
+
+    stays : (r : ℕ) → _≡_ {A = Stopped} (record { search = s; refusal = r; taken = j }) (record { search = s; refusal = r; taken = j + 0 })
+    stays r = let e : j ≡ j + 0 = omega arith in λ t. record { search = s; refusal = r; taken = e t }
+
+    go : (a b : Bool) → next (j + 1) ≡ record { search = next 0 .search; refusal = next 0 .refusal; taken = (j + 1) + next 0 .taken }
+        → next 1 ≡ record { search = next 0 .search; refusal = next 0 .refusal; taken = 1 + next 0 .taken } →
+        let c : Stopped = cond a (record { search = s; refusal = 0; taken = 0 }) (cond b (next 1) (record { search = s; refusal = k₁; taken = 0 })) in
+        cond a (record { search = s; refusal = 0; taken = j }) (cond b (next (j + 1)) (record { search = s; refusal = k₁; taken = j }))
+        ≡ record { search = c .search; refusal = c .refusal; taken = j + c .taken }
+    go true b e f = stays 0
+    go false true e f =
+        let sum : (j + 1) + next 0 .taken ≡ j + (1 + next 0 .taken) = omega arith in
+        e ∙ (λ t. record { search = next 0 .search; refusal = next 0 .refusal; taken = sum t }) ∙ sym (ap (λ (c : Stopped). record { search = c .search; refusal = c .refusal; taken = j + c .taken }) f)
+    go false false e f = stays k₁
+
+-- What is left of a limit, after a stop.
+abbrev onward : Problem → ℕ → ℕ → Stopped → Stopped
+onward p room limit a =
+    let b : Stopped = chooseFrom p room (limit - a .taken) (a .search) 0 in record { search = b .search; refusal = b .refusal; taken = a .taken + b .taken }
+
+module _ (p : Problem) (room k m : ℕ) (s : Search) where
+  up : suc m + k ≡ suc (m + k)
+  up = omega arith
+
+  -- A search at which the chooser stops at once stops again.
+  stopped : (r : ℕ) → ((N : ℕ) → chooseFrom p room (suc N) s 0 ≡ record { search = s; refusal = r; taken = 0 })
+      → chooseFrom p room (suc m + k) s 0 ≡ onward p room (suc m + k) (chooseFrom p room (suc m) s 0)
+  stopped r ends =
+      let rest : (suc m + k) - 0 ≡ suc (m + k) = omega arith in
+      let again : chooseFrom p room ((suc m + k) - 0) s 0 ≡ record { search = s; refusal = r; taken = 0 } = ap (λ (N : ℕ). chooseFrom p room N s 0) rest ∙ ends (m + k) in
+      ap (λ (N : ℕ). chooseFrom p room N s 0) up ∙ ends (m + k)
+      ∙ sym (ap (onward p room (suc m + k)) (ends m) ∙ ap (λ (b : Stopped). record { search = b .search; refusal = b .refusal; taken = 0 + b .taken }) again)
+
+  -- One step more before both.
+  stepped : (t : Search) → ((N : ℕ) → chooseFrom p room (suc N) s 0 ≡ chooseFrom p room N t 1)
+      → chooseFrom p room (m + k) t 0 ≡ onward p room (m + k) (chooseFrom p room m t 0)
+      → chooseFrom p room (suc m + k) s 0 ≡ onward p room (suc m + k) (chooseFrom p room (suc m) s 0)
+  stepped t goes so-far =
+      let a : Stopped = chooseFrom p room m t 0 in
+      let b : Stopped = chooseFrom p room ((m + k) - a .taken) (a .search) 0 in
+      let rest : (suc m + k) - (1 + a .taken) ≡ (m + k) - a .taken = omega arith in
+      let sum : 1 + (a .taken + b .taken) ≡ (1 + a .taken) + b .taken = omega arith in
+      let left : chooseFrom p room (suc m + k) s 0 ≡ record { search = b .search; refusal = b .refusal; taken = 1 + (a .taken + b .taken) } =
+      ap (λ (N : ℕ). chooseFrom p room N s 0) up ∙ goes (m + k) ∙ shift p room (m + k) t 1 ∙ ap (λ (c : Stopped). record { search = c .search; refusal = c .refusal; taken = 1 + c .taken }) so-far in
+      let right : onward p room (suc m + k) (chooseFrom p room (suc m) s 0) ≡ record { search = b .search; refusal = b .refusal; taken = (1 + a .taken) + b .taken } =
+      ap (onward p room (suc m + k)) (goes m ∙ shift p room m t 1)
+      ∙ ap (λ (N : ℕ). let c : Stopped = chooseFrom p room N (a .search) 0 in record { search = c .search; refusal = c .refusal; taken = (1 + a .taken) + c .taken }) rest in
+      left ∙ (λ i. record { search = b .search; refusal = b .refusal; taken = sum i }) ∙ sym right
+
+-- Up to m steps, and then up to k more.
+pub two-limits : (p : Problem) (room k m : ℕ) (s : Search) → chooseFrom p room (m + k) s 0 ≡ onward p room (m + k) (chooseFrom p room m s 0)
+unfolding chooseFrom
+two-limits p room k zero s =
+    let e : 0 + k ≡ (0 + k) - 0 = omega arith in
+    ap (λ (m : ℕ). chooseFrom p room m s 0) e ∙ shift p room ((0 + k) - 0) s 0
+two-limits p room k (suc m) s = go (finished (p .n) (s .stack)) refl (eqb k₁ 0) refl (two-limits p room k m (step p (chosen p room (s .stack)) s))
+  where
+    k₁ : ℕ
+    k₁ = refusalOfRequest p room (chosen p room (s .stack)) s
+
+    t₁ : Search
+    t₁ = step p (chosen p room (s .stack)) s
+
+    go : (a : Bool) → finished (p .n) (s .stack) ≡ a → (b : Bool) → eqb k₁ 0 ≡ b
+        → chooseFrom p room (m + k) t₁ 0 ≡ onward p room (m + k) (chooseFrom p room m t₁ 0)
+        → chooseFrom p room (suc m + k) s 0 ≡ onward p room (suc m + k) (chooseFrom p room (suc m) s 0)
+    go true e b f rest = stopped p room k m s 0 (λ N. rw e refl)
+    go false e true f rest = stepped p room k m s t₁ (λ N. rw (e, f) refl) rest
+    go false e false f rest = stopped p room k m s k₁ (λ N. rw (e, f) refl)
 
 -- ---- the variable
 

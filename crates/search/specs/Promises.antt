@@ -157,6 +157,14 @@ unfoldable pub picks : Problem → ℕ → ℕ → Search → List (List ℕ)
 picks p room zero s = []
 picks p room (suc m) s = chosen p room (s .stack) ∷ picks p room m (step p (chosen p room (s .stack)) s)
 
+-- The chooser of two limits is the chooser of the first, then of what it did not take, at every way it can stop.
+abbrev pub Choose-two : Type 0
+Choose-two =
+    (p : Problem) (room m k : ℕ) (s : Search) →
+    let a : Stopped = choose p room m s in
+    let b : Stopped = choose p room ((m + k) - a .taken) (a .search) in
+    choose p room (m + k) s ≡ record { search = b .search; refusal = b .refusal; taken = a .taken + b .taken }
+
 -- The chooser, up to a number of steps, is a run of so many picks; where it stops earlier, the rest are not taken.
 abbrev pub Picks : Type 0
 Picks = (p : Problem) (room limit : ℕ) (s : Search) → choose p room limit s ≡ run p room (picks p room limit s) s

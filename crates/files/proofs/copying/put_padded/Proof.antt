@@ -1,11 +1,11 @@
--- `filling::put_padded` meets its contract.
+-- `copying::put_padded` meets its contract.
 -- Assumes nothing.
 use borrow.Author.Needs.{needs}
 use native.Mathlib.Omega.{arith}
 use lib.ListN.{length-take}
 use Rattle.files.proofs.Filled.{padded-copy}
-use Rattle.files.proofs.filling.put_padded.Statement.{statement}
-use Rattle.files.proofs.filling.put_padded.Tie as tie
+use Rattle.files.proofs.copying.put_padded.Statement.{statement}
+use Rattle.files.proofs.copying.put_padded.Tie as tie
 
 slice-relend-prefix-put-words : tie.Need-slice-relend-prefix-put-words
 slice-relend-prefix-put-words c = search needs

@@ -1,4 +1,4 @@
--- `filling::put_zeros` meets its contract. The invariant: the words passed are zero.
+-- `copying::put_zeros` meets its contract. The invariant: the words passed are zero.
 -- Assumes nothing.
 use borrow.Author.Needs.{needs}
 use mathlib.Core.Path.{_≡_}
@@ -7,8 +7,8 @@ use native.Mathlib.Omega.{arith}
 use mathlib.Core.List.{_++_}
 use lib.ListN.{length, drop, replicate, length-set}
 use Rattle.search.proofs.Copies.{zeros-more, zeros-end}
-use Rattle.files.proofs.filling.put_zeros.Statement.{statement}
-use Rattle.files.proofs.filling.put_zeros.Tie as tie
+use Rattle.files.proofs.copying.put_zeros.Statement.{statement}
+use Rattle.files.proofs.copying.put_zeros.Tie as tie
 
 abbrev Inv-loop : tie.InvT-loop
 Inv-loop words₀ i₀ words i = (i ≤ length words₀) × ((length words ≡ length words₀) × (words ≡ replicate i 0 ++ drop i words₀))

@@ -1,11 +1,11 @@
--- `console::parts::run_part` meets its contract.
+-- `console::parts::run_many` meets its contract.
 -- Assumes nothing.
 use native.Mathlib.Omega.{arith}
 use lib.ListN.{length-take}
 use Rattle.console.proofs.Runs.{runs-list}
 use borrow.Author.Needs.{needs}
-use Rattle.console.proofs.parts.run_part.Statement.{statement}
-use Rattle.console.proofs.parts.run_part.Tie as tie
+use Rattle.console.proofs.parts.run_many.Statement.{statement}
+use Rattle.console.proofs.parts.run_many.Tie as tie
 
 slice-aggregate-words-of : tie.Need-slice-aggregate-words-of
 slice-aggregate-words-of c = search needs
@@ -28,8 +28,8 @@ same-length c = search needs
 returns : tie.Need-returns
 returns c = runs-list _ _ _ _ _ _ _ _ _ _ (c .before .before .before .before .before .before .words-of .ensures) (c .before .before .run .ensures)
 
-pub run-part-spec : {M : Type 1} → statement M
-run-part-spec =
+pub run-many-spec : {M : Type 1} → statement M
+run-many-spec =
     tie.close
     (tie.spec
     slice-aggregate-words-of

@@ -1,4 +1,4 @@
--- `filling::put_sixteen` meets its contract. The invariant: the words passed are copied.
+-- `copying::put_sixteen` meets its contract. The invariant: the words passed are copied.
 -- Assumes nothing.
 use borrow.Author.Needs.{needs}
 use mathlib.Core.Path.{_≡_, refl}
@@ -8,8 +8,8 @@ use native.Mathlib.Omega.{arith}
 use lib.ListN.{length, take, drop, length-set}
 use Rattle.search.proofs.Copies.{copy-more}
 use Rattle.files.proofs.Filled.{copy-whole}
-use Rattle.files.proofs.filling.put_sixteen.Statement.{statement}
-use Rattle.files.proofs.filling.put_sixteen.Tie as tie
+use Rattle.files.proofs.copying.put_sixteen.Statement.{statement}
+use Rattle.files.proofs.copying.put_sixteen.Tie as tie
 
 abbrev Inv-loop : tie.InvT-loop
 Inv-loop words out₀ i₀ out i = (i ≤ 16) × ((length out ≡ 16) × (out ≡ take i words ++ drop i out₀))
