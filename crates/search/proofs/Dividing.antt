@@ -71,14 +71,14 @@ module _ (n d : ℕ) (t : List ℕ) (P : Subproblem) (c : Choice) (below words :
           agenda (h .fitting .few) (rw whole room) long e same
 
       -- A slot for the second, and both placed.
-      pub halve-slot : SlotIn n (below + 1) (length agenda)
-      halve-slot =
+      pub two-slot : SlotIn n (below + 1) (length agenda)
+      two-slot =
           gather-slot n d t P r (put-reads n d t P c below words h 2 (inl refl)) before below agenda (below + 1) 1 one 2 two-named (omega arith) (omega arith) R first-piece false first-kept refl
           (h .fitting .few) (rw whole room)
 
-      pub halve-end : (after : List ℕ) → length (R .domains) ≡ 32 → after ≡ splice agenda ((below + 1) * (n + 2)) (slotWords n R) → length after ≡ length agenda
+      pub two-end : (after : List ℕ) → length (R .domains) ≡ 32 → after ≡ splice agenda ((below + 1) * (n + 2)) (slotWords n R) → length after ≡ length agenda
           → Replaced n (pieces n (tableOf n d t) P r) below before after (below + 2)
-      halve-end after l w m =
+      two-end after l w m =
           subst (λ (k : ℕ). Replaced n (pieces n (tableOf n d t) P r) below before after k) (omega arith)
           (gather-replaced n d t P r (put-reads n d t P c below words h 2 (inl refl)) before below after (below + 1 + 1) 0
           (gather-keep n d t P r (put-reads n d t P c below words h 2 (inl refl)) before below agenda (below + 1) 1 one 2 two-named (omega arith) (omega arith) R first-piece false first-kept refl

@@ -149,7 +149,7 @@ fn spread(
 }
 
 // Kind 2's pieces: V without its value in the place of the top, the precluded piece above.
-fn halve(
+fn put_two(
     top: Subproblem,
     n: usize,
     d: usize,
@@ -204,7 +204,7 @@ fn divide(
     }
     Left {
         refusal: 0,
-        subproblems: halve(top, n, d, tables, agenda, choice, below),
+        subproblems: put_two(top, n, d, tables, agenda, choice, below),
     }
 }
 

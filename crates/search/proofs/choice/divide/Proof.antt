@@ -41,14 +41,14 @@ returns c = let k = c .before .before .before .before .before .before .before .b
 returns-2 : tie.Need-returns-2
 returns-2 c = let k = c .before .before .before .before .before .before .before .pre in let count = count-three _ _ _ _ _ _ _ (k .0) (k .1) _ _ (c .before .before .before .before .lessened .ensures) (c .before .before .before .beside .ensures) in puts-none _ _ _ _ _ _ _ (k .0) (k .1) (omega (arith, count, c .before .before .exceeding .ensures)) (c .if2 .taken)
 
-halve-requires : tie.Need-halve-requires
-halve-requires c κs = let k = c .before .before .before .before .before .before .before .before .pre in (k .0, (room-two _ _ _ _ _ _ _ (k .0) (k .1) (omega arith), k .1))
+put-two-requires : tie.Need-put-two-requires
+put-two-requires c κs = let k = c .before .before .before .before .before .before .before .before .pre in (k .0, (room-two _ _ _ _ _ _ _ (k .0) (k .1) (omega arith), k .1))
 
 same-length-2 : tie.Need-same-length-2
 same-length-2 c = search needs
 
 returns-3 : tie.Need-returns-3
-returns-3 c = let k = c .before .before .before .before .before .before .before .before .before .before .before .pre in let count = count-three _ _ _ _ _ _ _ (k .0) (k .1) _ _ (c .before .before .before .before .before .before .before .before .lessened .ensures) (c .before .before .before .before .before .before .before .beside .ensures) in puts-two _ _ _ _ _ _ _ (k .0) (k .1) (omega (arith, count, c .before .before .before .before .before .before .exceeding .ensures)) (omega arith) _ _ (c .before .before .halve .ensures)
+returns-3 c = let k = c .before .before .before .before .before .before .before .before .before .before .before .pre in let count = count-three _ _ _ _ _ _ _ (k .0) (k .1) _ _ (c .before .before .before .before .before .before .before .before .lessened .ensures) (c .before .before .before .before .before .before .before .beside .ensures) in puts-two _ _ _ _ _ _ _ (k .0) (k .1) (omega (arith, count, c .before .before .before .before .before .before .exceeding .ensures)) (omega arith) _ _ (c .before .before .put-two .ensures)
 
 pub divide-spec : {M : Type 1} → statement M
 divide-spec =
@@ -65,6 +65,6 @@ divide-spec =
     same-length
     returns
     returns-2
-    halve-requires
+    put-two-requires
     same-length-2
     returns-3)
