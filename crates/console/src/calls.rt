@@ -21,14 +21,14 @@ fn open_words(n: usize, d: usize, domains: &[u8], tables: &[u8], agenda: &mut [u
     requires { ⌜ Room (now domains) (now tables) (now agenda) ⌝ }
     ensures { λ r. ⌜ OpensWords n d (now (domains .entry)) (now (tables .entry)) (now (agenda .entry)) (now (agenda .exit)) r ⌝ }
 {
-    let mut domain_words = [0u16; 32];
-    let mut table_words = [0u16; 16384];
-    let mut agenda_words = [0u16; 17408];
     let variables = domains.len() / 2;
     let masks = tables.len() / 2;
     let slots = agenda.len() / 2;
+    let mut domain_words = [0u16; 32];
     bytes::words_of(domains, &mut domain_words);
+    let mut table_words = [0u16; 16384];
     bytes::words_of(tables, &mut table_words);
+    let mut agenda_words = [0u16; 17408];
     bytes::words_of(agenda, &mut agenda_words);
     let opened = search::open(
         n,
@@ -64,14 +64,14 @@ fn run_words(
     requires { ⌜ Room (now domains) (now tables) (now agenda) × (Listed n (length (now requests)) × (state .subproblems < 4294967296)) ⌝ }
     ensures { λ r. ⌜ RunsWords n d (now (domains .entry)) (now (tables .entry)) (now (agenda .entry)) (now (agenda .exit)) (now (requests .entry)) state r × Narrow r ⌝ }
 {
-    let mut domain_words = [0u16; 32];
-    let mut table_words = [0u16; 16384];
-    let mut agenda_words = [0u16; 17408];
     let variables = domains.len() / 2;
     let masks = tables.len() / 2;
     let slots = agenda.len() / 2;
+    let mut domain_words = [0u16; 32];
     bytes::words_of(domains, &mut domain_words);
+    let mut table_words = [0u16; 16384];
     bytes::words_of(tables, &mut table_words);
+    let mut agenda_words = [0u16; 17408];
     bytes::words_of(agenda, &mut agenda_words);
     let ran = parts::run_parts(
         n,
@@ -121,14 +121,14 @@ fn choose_words(
     requires { ⌜ Room (now domains) (now tables) (now agenda) × ((state .counts .steps .0 < 4294967296) × (state .subproblems < 4294967296)) ⌝ }
     ensures { λ r. ⌜ ChoosesWords n d (now (domains .entry)) (now (tables .entry)) (now (agenda .entry)) (now (agenda .exit)) limit state r × Narrow r ⌝ }
 {
-    let mut domain_words = [0u16; 32];
-    let mut table_words = [0u16; 16384];
-    let mut agenda_words = [0u16; 17408];
     let variables = domains.len() / 2;
     let masks = tables.len() / 2;
     let slots = agenda.len() / 2;
+    let mut domain_words = [0u16; 32];
     bytes::words_of(domains, &mut domain_words);
+    let mut table_words = [0u16; 16384];
     bytes::words_of(tables, &mut table_words);
+    let mut agenda_words = [0u16; 17408];
     bytes::words_of(agenda, &mut agenda_words);
     let ran = search::choose(
         n,
@@ -175,14 +175,14 @@ fn save_words(
     requires { ⌜ Room (now domains) (now tables) (now agenda) ⌝ }
     ensures { λ r. ⌜ Saves n d (wordsOf (now (domains .entry))) (wordsOf (now (tables .entry))) (wordsOf (now (agenda .entry))) state (now (file .entry)) (now (file .exit)) r × (r .blocks < 4294967296) ⌝ }
 {
-    let mut domain_words = [0u16; 32];
-    let mut table_words = [0u16; 16384];
-    let mut agenda_words = [0u16; 17408];
     let variables = domains.len() / 2;
     let masks = tables.len() / 2;
     let slots = agenda.len() / 2;
+    let mut domain_words = [0u16; 32];
     bytes::words_of(domains, &mut domain_words);
+    let mut table_words = [0u16; 16384];
     bytes::words_of(tables, &mut table_words);
+    let mut agenda_words = [0u16; 17408];
     bytes::words_of(agenda, &mut agenda_words);
     files::save(
         n,
@@ -218,14 +218,14 @@ fn load_words(file: &[u8], domains: &mut [u8], tables: &mut [u8], agenda: &mut [
     requires { ⌜ Room (now domains) (now tables) (now agenda) ⌝ }
     ensures { λ r. ⌜ LoadsWords (now (file .entry)) (now (domains .entry)) (now (domains .exit)) (now (tables .entry)) (now (tables .exit)) (now (agenda .entry)) (now (agenda .exit)) r ⌝ }
 {
-    let mut domain_words = [0u16; 32];
-    let mut table_words = [0u16; 16384];
-    let mut agenda_words = [0u16; 17408];
     let variables = domains.len() / 2;
     let masks = tables.len() / 2;
     let slots = agenda.len() / 2;
+    let mut domain_words = [0u16; 32];
     bytes::words_of(domains, &mut domain_words);
+    let mut table_words = [0u16; 16384];
     bytes::words_of(tables, &mut table_words);
+    let mut agenda_words = [0u16; 17408];
     bytes::words_of(agenda, &mut agenda_words);
     let loaded = files::load(
         file,
