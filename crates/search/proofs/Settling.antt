@@ -7,13 +7,13 @@ use mathlib.Core.List.{List, [], _∷_}
 use Prim.Native.Nat.{ℕ, _+_, _-_, _*_, _%_, _/_, _^_, _≤_, _<_}
 use native.Mathlib.Omega.{arith}
 use native.Mathlib.Nat.{one-mul, mod-eq-of-lt}
-use lib.ListN.{length, getD, take, drop, replicate, length-take, length-replicate}
+use lib.ListN.{length, getD, replicate, length-replicate}
 use lib.Bits.{bitOr}
 use lib.Dec.{eqb, ltb}
-use borrow.Author.Tests.{eq-eqb, ne-eqb, le-ltb, eqb-true, eqb-false, ltb-false, not-true, not-false}
+use borrow.Author.Tests.{eq-eqb, ne-eqb, eqb-true, eqb-false, not-true, not-false}
 use Rattle.splits.specs.Masks.{_∈_, single, size, lowest}
 use Rattle.splits.specs.Problem.{tableOf, total}
-use Rattle.splits.specs.Subproblems.{domain, empty, Instantiated, instantiated}
+use Rattle.splits.specs.Subproblems.{domain, empty, instantiated}
 use Rattle.splits.specs.Splits.{pieces, precluded, without}
 use Rattle.splits.specs.Checks.{checks, valuesIn, others}
 use Rattle.splits.specs.Refusals.{refusalOf}
@@ -35,7 +35,7 @@ use Rattle.search.specs.Work.Found.{Found, AtTop, Puts, requestBy, precl
 use Rattle.search.specs.declared.state.State.{State}
 use Rattle.search.specs.declared.choice.Choice.{Choice}
 use Rattle.search.specs.declared.choice.Left.{Left}
-use Rattle.search.proofs.Copies.{splice-between, slot-below}
+use Rattle.search.proofs.Copies.{splice-cover, slot-below}
 use Rattle.search.proofs.Encoding.{length-slot, length-stackOf}
 use Rattle.search.proofs.Accepting.{refused-at-11}
 use Rattle.search.proofs.Stepping.{take-refused, take-steps, take-taken}
@@ -71,13 +71,6 @@ precluded-made P c D h e =
     let bit : 1 * 2 ^ c .variable % 2 ^ 32 ≡ single (c .variable) = simp one-mul (mod-eq-of-lt (single-lt 32 (c .variable) h)) in
     λ t. record { domains = e t; marked = bitOr (P .marked) (bit t) }
 
--- A part written over another of its length.
-splice-over : (l z ws : List ℕ) (a : ℕ) → length z ≡ length ws → a ≤ length l → splice (splice l a z) a ws ≡ splice l a ws
-unfolding splice
-splice-over l z ws a e h =
-    let front : length (take a l) ≡ a = rw length-take (omega arith) in
-    splice-between (take a l) z (drop (a + length z) l) ws a front (sym e) ∙ rw e refl
-
 module _ (n : ℕ) (P : Subproblem) (c : Choice) (before after : List ℕ) (below : ℕ) (slot : SlotIn n below (length before)) where
   -- One piece in the place of the top.
   replaced-one : (Q : Subproblem) → length (Q .domains) ≡ 32 → after ≡ splice before (below * (n + 2)) (slotWords n Q)
@@ -85,8 +78,10 @@ module _ (n : ℕ) (P : Subproblem) (c : Choice) (before after : List ℕ) (belo
   unfolding stackWords
   replaced-one Q long e = record {
     count = refl;
-    words = e ∙ sym (splice-over before (replicate (n + 2) 0) (slotWords n Q) (below * (n + 2))
-        (length-replicate (n + 2) 0 ∙ sym (length-slot n Q (omega (arith, slot .few)))) (omega (arith, slot .within)));
+    words =
+        let zeros : length {A = ℕ} (replicate (n + 2) 0) ≡ n + 2 = length-replicate (n + 2) 0 in
+        let its : length (slotWords n Q) ≡ n + 2 = length-slot n Q (omega (arith, slot .few)) in
+        e ∙ sym (splice-cover before (replicate (n + 2) 0) (slotWords n Q) (below * (n + 2)) (omega arith) (omega (arith, slot .within)));
   }
 
   -- None.
