@@ -17,7 +17,7 @@ use Rattle.splits.specs.Subproblems.{every}
 use Rattle.splits.specs.declared.subproblem.Subproblem.{Subproblem}
 use Rattle.splits.proofs.Tests.{and-left, and-right, or-left, or-right, or-cases, every-at, every-all, same-test}
 use Rattle.search.specs.Agenda.{problemOf, stackOf, slotsIn, slotAt, subproblemOf}
-use Rattle.search.specs.FirstChecks.{refusalOfNumbers, wholeSlots, refusalOfLengths, masksBelow, symmetric, refusalOfProblem, domainObeys, valuesAgree, obeys, allObey, zerosFrom, refusalOfSearch, orElse, openRefusal}
+use Rattle.search.specs.FirstChecks.{refusalOfNumbers, wholeSlots, refusalOfLengths, masksBelow, symmetric, refusalOfProblem, domainObeys, valuesAgree, obeys, allObey, zerosFrom, refusalOfSearch, orElse, sizesRefusal, openRefusal}
 use Rattle.search.specs.Work.FirstTests.{Fitting, domainBelow, maskBelow, pairBelow, rowBelow, bothWays, valueBothWays, pairBothWays, rowBothWays, slotObeys}
 
 -- ---- symmetry
@@ -213,6 +213,23 @@ else-pass a b e = elim (ℕ-discrete a 0) [
   | yes z ↦ (z, rw z at e)
   | no f ↦ absurd (f (rw (ne-eqb a 0 f) at e))
 ]
+
+-- a refusal of the sizes is one whatever comes after them
+pub sizes-first : (r n d domains tables agenda b : ℕ) → r ≡ sizesRefusal n d domains tables agenda → (r ≡ 0 → ⊥)
+    → r ≡ orElse (refusalOfNumbers n d) (orElse (refusalOfLengths n d domains tables agenda) b)
+unfolding sizesRefusal
+sizes-first r n d domains tables agenda b e f =
+    let lengths : ℕ = refusalOfLengths n d domains tables agenda in
+    elim (ℕ-discrete (refusalOfNumbers n d) 0) [
+      | yes z ↦ else-rest r (refusalOfNumbers n d) (orElse lengths b) z (else-first r lengths b (rw z at e) f)
+      | no g ↦ else-first r (refusalOfNumbers n d) (orElse lengths b) (rw (ne-eqb (refusalOfNumbers n d) 0 g) at e) f
+    ]
+
+-- the sizes pass
+pub sizes-pass : (n d domains tables agenda : ℕ) → sizesRefusal n d domains tables agenda ≡ 0
+    → (refusalOfNumbers n d ≡ 0) × (refusalOfLengths n d domains tables agenda ≡ 0)
+unfolding sizesRefusal
+sizes-pass n d domains tables agenda e = else-pass (refusalOfNumbers n d) (refusalOfLengths n d domains tables agenda) e
 
 -- what is found of a subproblem read before is found of the slot's
 pub slot-obeys : (p : Problem) (n : ℕ) (agenda : List ℕ) (k : ℕ) (P : Subproblem) (b : Bool) → P ≡ subproblemOf n (slotAt n agenda k)

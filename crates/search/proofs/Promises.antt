@@ -13,7 +13,7 @@ use Rattle.search.specs.Calls.{Ends}
 use Rattle.search.specs.declared.state.State.{State}
 use Rattle.search.specs.declared.state.Ran.{Ran}
 use Rattle.search.specs.Cases.{cases}
-use Rattle.search.specs.Promises.{Open-one, Run-one, Choose-one, Unsolvable-if, Solved-if, Running-if, Solved-shows, Refusal-11, Refusal-7, Refusal-8, Refusal-9, Refusal-10, Refusal-12, Refusal-none, Stops, Taken, Takes-none, Two-lists, Choose-two, Picks, Chosen-so, Chosen-accepted, Chooser-refusals, Step-passes, Run-passes, Chooser-passes, Reached-passes, Reached-checks, Reached-solvable, Reached-unsolvable, Reached-steps, Open-leaves, Run-leaves, Chooser-leaves, Handed-passes, Run-says, Chooser-says, Called-reached, Ends-so, Marked-cases, None-if-run, None-if-choose, Run-exact, Choose-exact, Right-only, Not-only-refuses, Not-always-unsolvable, Not-idle, Not-solved-at-once, Not-invented, Open-refusal-1, Open-refusal-2, Open-refusal-3, Open-refusal-4, Open-refusal-5, Open-refusal-none, Search-refusal-1, Search-refusal-2, Search-refusal-3, Search-refusal-4, Search-refusal-5, Search-refusal-6, Search-refusal-none, Run-refusal-1, Run-refusal-2, Run-refusal-3, Run-refusal-4, Run-refusal-5, Run-refusal-6, Run-refusal-none, Numbers-pass, Lengths-pass, Requests-pass, Problem-pass, Search-pass, Proper-passed, Open-passed, Search-passed, Run-passed, Open-apart, Search-apart, Run-apart, Open-refusal-one, Search-refusal-one, Run-refusal-one, Turned-one}
+use Rattle.search.specs.Promises.{Open-one, Run-one, Choose-one, Unsolvable-if, Solved-if, Running-if, Solved-shows, Refusal-11, Refusal-7, Refusal-8, Refusal-9, Refusal-10, Refusal-12, Refusal-none, Stops, Taken, Takes-none, Two-lists, Choose-two, Picks, Chosen-so, Chosen-accepted, Chooser-refusals, Step-passes, Run-passes, Chooser-passes, Reached-passes, Reached-checks, Reached-solvable, Reached-unsolvable, Reached-steps, Open-leaves, Run-leaves, Chooser-leaves, Handed-passes, Run-says, Chooser-says, Called-reached, Ends-so, Marked-cases, None-if-run, None-if-choose, Run-exact, Choose-exact, Right-only, Not-only-refuses, Not-always-unsolvable, Not-idle, Not-solved-at-once, Not-invented, Open-refusal-1, Open-refusal-2, Open-refusal-3, Open-refusal-4, Open-refusal-5, Open-refusal-none, Search-refusal-1, Search-refusal-2, Search-refusal-3, Search-refusal-4, Search-refusal-5, Search-refusal-6, Search-refusal-none, Run-refusal-1, Run-refusal-2, Run-refusal-3, Run-refusal-4, Run-refusal-5, Run-refusal-6, Run-refusal-none, Numbers-pass, Lengths-pass, Requests-pass, Problem-pass, Search-pass, Proper-passed, Open-passed, Search-passed, Run-passed, Open-apart, Search-apart, Run-apart, Sizes-refusal-one, Open-refusal-one, Search-refusal-one, Run-refusal-one, Turned-one}
 use Rattle.splits.proofs.Refusals.{one}
 use Rattle.search.proofs.Verdicts
 use Rattle.search.proofs.Refusals
@@ -334,6 +334,9 @@ pub run-apart : Run-apart
 run-apart = apart-run
 
 -- ---- one answer
+
+pub sizes-refusal-one : Sizes-refusal-one
+sizes-refusal-one n d domains tables agenda = one _
 
 pub open-refusal-one : Open-refusal-one
 open-refusal-one n d domains tables agenda = one _

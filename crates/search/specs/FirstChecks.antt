@@ -121,6 +121,10 @@ refusalOfSearch p agenda steps checks subproblems =
     cond (leb subproblems (slotsIn (p .n) (length agenda)) && allObey p (stackOf (p .n) agenda subproblems)
     && zerosFrom (subproblems * (p .n + 2)) agenda && leb checks (496 * steps)) 0 6
 
+-- 1 to 3, of the numbers and of how many words are lent.
+unfoldable pub sizesRefusal : ℕ → ℕ → ℕ → ℕ → ℕ → ℕ
+sizesRefusal n d domains tables agenda = orElse (refusalOfNumbers n d) (refusalOfLengths n d domains tables agenda)
+
 -- The first checks of opening (1 to 5), of the chooser and of save (1 to 6), and of a run, whose requests are part of 3.
 unfoldable pub openRefusal : ℕ → ℕ → List ℕ → List ℕ → List ℕ → ℕ
 openRefusal n d domains tables agenda =

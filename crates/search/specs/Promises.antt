@@ -19,7 +19,7 @@ use Rattle.search.specs.Verdicts.{numberOf, verdictOf}
 use Rattle.search.specs.Runs.{Search, Stopped, step, refusalOfRequest, run, requestsIn}
 use Rattle.search.specs.Chooser.{request, chosen, choose}
 use Rattle.search.specs.Matrix.{Turned}
-use Rattle.search.specs.FirstChecks.{WholeRequests, searchRefusal, Deserves-1, Deserves-2, WholeSlots, Deserves-3, Deserves-3-run, Deserves-4, Deserves-5, Deserves-6, refusalOfNumbers, refusalOfLengths, refusalOfRequests, refusalOfProblem, refusalOfSearch, openRefusal, runRefusal}
+use Rattle.search.specs.FirstChecks.{WholeRequests, searchRefusal, Deserves-1, Deserves-2, WholeSlots, Deserves-3, Deserves-3-run, Deserves-4, Deserves-5, Deserves-6, refusalOfNumbers, refusalOfLengths, refusalOfRequests, refusalOfProblem, refusalOfSearch, sizesRefusal, openRefusal, runRefusal}
 use Rattle.search.specs.Calls.{opening, searchOf, Opens, Runs, Chooses}
 use Rattle.search.specs.declared.state.State.{State}
 use Rattle.search.specs.declared.state.Opened.{Opened}
@@ -692,6 +692,10 @@ Run-apart =
     → runRefusal n d domains tables agenda requests steps checks subproblems ≡ runRefusal n d domains others agenda requests steps checks subproblems
 
 -- ---- one answer
+
+-- The numbers and how many words are lent.
+abbrev pub Sizes-refusal-one : Type 0
+Sizes-refusal-one = (n d domains tables agenda : ℕ) → One (λ r. r ≡ sizesRefusal n d domains tables agenda)
 
 -- The first checks of opening.
 abbrev pub Open-refusal-one : Type 0

@@ -13,7 +13,7 @@ ghost use Rattle.splits.specs.Problem.{tableOf};
 ghost use Rattle.splits.specs.Subproblems.{every};
 ghost use Rattle.splits.specs.Work.Ranges.{Sized, Place};
 ghost use Rattle.search.specs.Agenda.{problemOf, subproblemOf, stackOf};
-ghost use Rattle.search.specs.FirstChecks.{refusalOfNumbers, wholeSlots, refusalOfLengths, refusalOfRequests, refusalOfProblem, obeys, allObey, zerosFrom, refusalOfSearch, openRefusal, searchRefusal, runRefusal};
+ghost use Rattle.search.specs.FirstChecks.{refusalOfNumbers, wholeSlots, refusalOfLengths, refusalOfRequests, refusalOfProblem, obeys, allObey, zerosFrom, refusalOfSearch, sizesRefusal, openRefusal, searchRefusal, runRefusal};
 ghost use Rattle.search.specs.Work.Matrices.{rowIn, matrixOf};
 ghost use Rattle.search.specs.Work.FirstTests.{Fitting, Mirrored, Narrow, SlotFits, Next, joined, domainBelow, spanBelow, rowBelow, rowBothWays, padded, oneWay, partWrong, wrongIn, pairAgrees, beforeAgrees, markObeys};
 
@@ -523,17 +523,24 @@ pub(crate) fn refusal_of_search(
     6
 }
 
-// The first checks of opening: 1 to 5, 0 for none.
-pub fn open_refusal(n: usize, d: usize, domains: &[u16], tables: &[u16], agenda: &[u16]) -> u32
-    ensures { λ r. ⌜ r ≡ openRefusal n d (now (domains .entry)) (now (tables .entry)) (now (agenda .entry)) ⌝ }
+// 1 to 3 of the numbers and of how many words are lent as domains, tables and agenda, 0 for none.
+pub fn sizes_refusal(n: usize, d: usize, domains: usize, tables: usize, agenda: usize) -> u32
+    ensures { λ r. ⌜ r ≡ sizesRefusal n d domains tables agenda ⌝ }
 {
     let numbers = refusal_of_numbers(n, d);
     if numbers != 0 {
         return numbers;
     }
-    let lengths = refusal_of_lengths(n, d, domains.len(), tables.len(), agenda.len());
-    if lengths != 0 {
-        return lengths;
+    refusal_of_lengths(n, d, domains, tables, agenda)
+}
+
+// The first checks of opening: 1 to 5, 0 for none.
+pub fn open_refusal(n: usize, d: usize, domains: &[u16], tables: &[u16], agenda: &[u16]) -> u32
+    ensures { λ r. ⌜ r ≡ openRefusal n d (now (domains .entry)) (now (tables .entry)) (now (agenda .entry)) ⌝ }
+{
+    let sizes = sizes_refusal(n, d, domains.len(), tables.len(), agenda.len());
+    if sizes != 0 {
+        return sizes;
     }
     refusal_of_problem(n, d, domains, tables)
 }
@@ -568,21 +575,13 @@ pub fn run_refusal(
 ) -> u32
     ensures { λ r. ⌜ r ≡ runRefusal n d (now (domains .entry)) (now (tables .entry)) (now (agenda .entry)) (now (requests .entry)) (state .counts .steps .0) (state .counts .checks .0) (state .subproblems) ⌝ }
 {
-    let numbers = refusal_of_numbers(n, d);
-    if numbers != 0 {
-        return numbers;
-    }
-    let lengths = refusal_of_lengths(n, d, domains.len(), tables.len(), agenda.len());
-    if lengths != 0 {
-        return lengths;
+    let sizes = sizes_refusal(n, d, domains.len(), tables.len(), agenda.len());
+    if sizes != 0 {
+        return sizes;
     }
     let list = refusal_of_requests(n, requests.len());
     if list != 0 {
         return list;
     }
-    let problem = refusal_of_problem(n, d, domains, tables);
-    if problem != 0 {
-        return problem;
-    }
-    refusal_of_search(n, d, domains, tables, agenda, state)
+    search_refusal(n, d, domains, tables, agenda, state)
 }
