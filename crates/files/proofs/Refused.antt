@@ -10,7 +10,7 @@ use borrow.Author.Tests.{lt-ltb, le-ltb, leb-true, not-true, not-false}
 use Rattle.splits.specs.Subproblems.{every}
 use Rattle.splits.proofs.Tests.{and-left, and-right}
 use Rattle.search.specs.Agenda.{slotsIn}
-use Rattle.search.specs.FirstChecks.{allObey, refusalOfLengths}
+use Rattle.search.specs.FirstChecks.{allObey, refusalOfNumbers, refusalOfLengths, sizesRefusal}
 use Rattle.search.proofs.FirstParts.{else-first, else-rest}
 use Rattle.files.specs.Blocks.{blocksFor}
 use Rattle.files.specs.Reading.{
@@ -128,6 +128,13 @@ module _ (file : List ℕ) where
 
 -- ---- the refusal of load
 
+-- Where the numbers pass, what is refused of the sizes is refused of the lengths.
+lengths-of : (n d domains tables agenda r : ℕ) → Numbers n d → r ≡ sizesRefusal n d domains tables agenda
+    → r ≡ refusalOfLengths n d domains tables agenda
+unfolding sizesRefusal refusalOfNumbers
+lengths-of n d domains tables agenda r h e =
+    rw (le-ltb n 1 (h .some-variable), le-ltb 32 n (h .variables), le-ltb d 1 (h .some-value), le-ltb 16 d (h .values)) at e
+
 module _ (file : List ℕ) (domains tables agenda : ℕ) where
   pub refused-14 : (r : ℕ) → r ≡ refusalOfFile file → (r ≡ 0 → ⊥) → r ≡ loadRefusal file domains tables agenda
   unfolding loadRefusal
@@ -139,19 +146,21 @@ module _ (file : List ℕ) (domains tables agenda : ℕ) where
   refused-15 r a e f = else-rest r (refusalOfFile file) _ a (else-first r (refusalOfWords file) _ e f)
 
   module _ (n d m : ℕ) (is-n : n ≡ saidN file) (is-d : d ≡ saidD file) (is-m : m ≡ saidSubproblems file) where
-    pub refused-3 : (r : ℕ) → refusalOfFile file ≡ 0 → refusalOfWords file ≡ 0 → r ≡ refusalOfLengths n d domains tables agenda → (r ≡ 0 → ⊥)
+    pub refused-3 : (r : ℕ) → refusalOfFile file ≡ 0 → refusalOfWords file ≡ 0 → r ≡ sizesRefusal n d domains tables agenda → (r ≡ 0 → ⊥)
         → r ≡ loadRefusal file domains tables agenda
     unfolding loadRefusal
     refused-3 r a b e f =
-        let same : r ≡ refusalOfLengths (saidN file) (saidD file) domains tables agenda = e ∙ rw (is-n, is-d) refl in
+        let same : r ≡ refusalOfLengths (saidN file) (saidD file) domains tables agenda =
+        lengths-of n d domains tables agenda r (numbers-passed file n d m is-n is-d is-m b .0) e ∙ rw (is-n, is-d) refl in
         else-rest r (refusalOfFile file) _ a (else-rest r (refusalOfWords file) _ b (else-first r (refusalOfLengths (saidN file) (saidD file) domains tables agenda) _ same f))
 
     -- Past 3 the slots decide.
-    pub slots-last : (r s : ℕ) → refusalOfFile file ≡ 0 → refusalOfWords file ≡ 0 → s ≡ refusalOfLengths n d domains tables agenda → s ≡ 0
+    pub slots-last : (r s : ℕ) → refusalOfFile file ≡ 0 → refusalOfWords file ≡ 0 → s ≡ sizesRefusal n d domains tables agenda → s ≡ 0
         → r ≡ cond (ltb (slotsIn n agenda) m) 12 0 → r ≡ loadRefusal file domains tables agenda
     unfolding loadRefusal
     slots-last r s a b e z h =
-        let none : refusalOfLengths (saidN file) (saidD file) domains tables agenda ≡ 0 = sym (e ∙ rw (is-n, is-d) refl) ∙ z in
+        let none : refusalOfLengths (saidN file) (saidD file) domains tables agenda ≡ 0 =
+        sym (lengths-of n d domains tables agenda s (numbers-passed file n d m is-n is-d is-m b .0) e ∙ rw (is-n, is-d) refl) ∙ z in
         let last : r ≡ cond (ltb (slotsIn (saidN file) agenda) (saidSubproblems file)) 12 0 = h ∙ rw (is-n, is-m) refl in
         else-rest r (refusalOfFile file) _ a (else-rest r (refusalOfWords file) _ b (else-rest r (refusalOfLengths (saidN file) (saidD file) domains tables agenda) _ none last))
 

@@ -8,7 +8,6 @@ ghost use mathlib.Core.Bool.{cond};
 ghost use Prim.Native.Nat.{_+_, _-_, _*_, _/_, _<_, _≤_};
 ghost use lib.ListN.{length};
 ghost use Rattle.splits.specs.Subproblems.{every};
-ghost use Rattle.search.specs.FirstChecks.{refusalOfLengths, wholeSlots};
 ghost use Rattle.files.specs.Reading.{goodBlock, refusalOfFile, refusalOfWords};
 ghost use Rattle.files.specs.Calls.{loadRefusal};
 ghost use Rattle.files.specs.Work.Said.{goodIn, numbersSaid, zeroIn, filled, sizedIn, Ready};
@@ -150,38 +149,6 @@ fn refusal_of_rules(file: &[u8], words: &[u16], tables: &[u16]) -> u32
     15
 }
 
-// Whether so many words are 1 to 512 whole slots.
-fn whole_slots(n: usize, words: usize) -> bool
-    requires { ⌜ n ≤ 32 ⌝ }
-    ensures { λ r. ⌜ r ≡ wholeSlots n words ⌝ }
-{
-    if words % (n + 2) != 0 {
-        return false;
-    }
-    let slots = words / (n + 2);
-    if slots < 1 {
-        return false;
-    }
-    slots <= 512
-}
-
-// 3, or none, of the numbers of words lent as domains, tables and agenda.
-fn refusal_of_lengths(n: usize, d: usize, domains: usize, tables: usize, agenda: usize) -> u32
-    requires { ⌜ (n ≤ 32) × (d ≤ 16) ⌝ }
-    ensures { λ r. ⌜ r ≡ refusalOfLengths n d domains tables agenda ⌝ }
-{
-    if domains != n {
-        return 3;
-    }
-    if tables != n * n * d {
-        return 3;
-    }
-    if whole_slots(n, agenda) {
-        return 0;
-    }
-    3
-}
-
 // The refusal of load past 14, of the numbers of words lent as domains, tables and agenda; 0 for none.
 pub(crate) fn refusal(
     file: &[u8],
@@ -199,7 +166,7 @@ pub(crate) fn refusal(
         return rules;
     }
     let n = said::n(file);
-    let lengths = refusal_of_lengths(n, said::d(file), domains, tables, agenda);
+    let lengths = search::first::sizes_refusal(n, said::d(file), domains, tables, agenda);
     if lengths != 0 {
         return lengths;
     }

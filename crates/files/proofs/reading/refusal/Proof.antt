@@ -19,11 +19,11 @@ n-requires c κs = search needs
 d-requires : tie.Need-d-requires
 d-requires c κs = search needs
 
-refusal-of-lengths-requires : tie.Need-refusal-of-lengths-requires
-refusal-of-lengths-requires c κs = let s = sized-numbers (c .before .before .before .before .before .before .before .args .file .now) _ _ _ (c .before .n .ensures) (c .d .ensures) refl (c .before .before .before .before .before .before .before .pre .sized) in (s .0 .variables, s .0 .values)
+sizes-refusal-requires : tie.Need-sizes-refusal-requires
+sizes-refusal-requires c κs = tt
 
 returns-2 : tie.Need-returns-2
-returns-2 c = refused-3 _ _ _ _ _ _ _ (c .before .before .before .n .ensures) (c .before .before .d .ensures) refl _ (c .before .before .before .before .before .before .before .before .before .pre .read .whole) (sym (c .before .before .before .before .before .refusal-of-rules .ensures) ∙ c .before .before .before .before .if1 .left) (c .before .refusal-of-lengths .ensures) (c .if2 .taken)
+returns-2 c = refused-3 _ _ _ _ _ _ _ (c .before .before .before .n .ensures) (c .before .before .d .ensures) refl _ (c .before .before .before .before .before .before .before .before .before .pre .read .whole) (sym (c .before .before .before .before .before .refusal-of-rules .ensures) ∙ c .before .before .before .before .if1 .left) (c .before .sizes-refusal .ensures) (c .if2 .taken)
 
 add-if3 : tie.Need-add-if3
 add-if3 c = let s = sized-numbers (c .before .before .before .before .before .before .before .before .before .args .file .now) _ _ _ (c .before .before .before .n .ensures) (c .before .before .d .ensures) refl (c .before .before .before .before .before .before .before .before .before .pre .sized) in omega (arith, s .0 .variables)
@@ -35,10 +35,10 @@ subproblems-requires : tie.Need-subproblems-requires
 subproblems-requires c κs = search needs
 
 returns-3 : tie.Need-returns-3
-returns-3 c = slots-last _ _ _ _ _ _ _ (c .before .before .before .before .before .n .ensures) (c .before .before .before .before .d .ensures) (c .before .subproblems .ensures) _ _ (c .before .before .before .before .before .before .before .before .before .before .before .pre .read .whole) (sym (c .before .before .before .before .before .before .before .refusal-of-rules .ensures) ∙ c .before .before .before .before .before .before .if1 .left) (c .before .before .before .refusal-of-lengths .ensures) (c .before .before .if2 .left) (twelve _ _ _ (c .if3 .taken))
+returns-3 c = slots-last _ _ _ _ _ _ _ (c .before .before .before .before .before .n .ensures) (c .before .before .before .before .d .ensures) (c .before .subproblems .ensures) _ _ (c .before .before .before .before .before .before .before .before .before .before .before .pre .read .whole) (sym (c .before .before .before .before .before .before .before .refusal-of-rules .ensures) ∙ c .before .before .before .before .before .before .if1 .left) (c .before .before .before .sizes-refusal .ensures) (c .before .before .if2 .left) (twelve _ _ _ (c .if3 .taken))
 
 returns-4 : tie.Need-returns-4
-returns-4 c = slots-last _ _ _ _ _ _ _ (c .before .before .before .before .before .n .ensures) (c .before .before .before .before .d .ensures) (c .before .subproblems .ensures) _ _ (c .before .before .before .before .before .before .before .before .before .before .before .pre .read .whole) (sym (c .before .before .before .before .before .before .before .refusal-of-rules .ensures) ∙ c .before .before .before .before .before .before .if1 .left) (c .before .before .before .refusal-of-lengths .ensures) (c .before .before .if2 .left) (none-left _ _ _ (c .if3 .left))
+returns-4 c = slots-last _ _ _ _ _ _ _ (c .before .before .before .before .before .n .ensures) (c .before .before .before .before .d .ensures) (c .before .subproblems .ensures) _ _ (c .before .before .before .before .before .before .before .before .before .before .before .pre .read .whole) (sym (c .before .before .before .before .before .before .before .refusal-of-rules .ensures) ∙ c .before .before .before .before .before .before .if1 .left) (c .before .before .before .sizes-refusal .ensures) (c .before .before .if2 .left) (none-left _ _ _ (c .if3 .left))
 
 pub refusal-spec : {M : Type 1} → statement M
 refusal-spec =
@@ -48,7 +48,7 @@ refusal-spec =
     returns
     n-requires
     d-requires
-    refusal-of-lengths-requires
+    sizes-refusal-requires
     returns-2
     add-if3
     div-if3
