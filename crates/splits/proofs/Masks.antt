@@ -10,7 +10,7 @@ use native.Mathlib.Decide.{ℕ-discrete}
 use lib.Arith.{lt-one, bin-ind}
 use lib.Bits.{bitAnd, bitOr, and-step, or-step, and-le-l, and-self, and-zero-l, and-zero-r, or-disjoint}
 use lib.Count.{ones, ones-step, trailingZeros, under}
-use lib.Pow.{pow-mono, pow-lt, shr-shr}
+use lib.Pow.{pow-mono, pow-lt, pow-pos, shr-shr}
 use Rattle.splits.specs.Masks.{bit, _∈_, Part, single, common, minus, size, lowest, smallest, smallerHalf}
 
 -- ---- a mask by its digits
@@ -122,6 +122,14 @@ flip-half w b h = omega arith
 
 flip-odd : (w b : ℕ) → b < 2 ^ suc w → (2 ^ suc w - 1 - b) % 2 ≡ 1 - b % 2
 flip-odd w b h = omega arith
+
+-- All of d digits set: every value below d is a member.
+pub all-set : (d v : ℕ) → v < d → v ∈ (2 ^ d - 1)
+all-set zero v l = omega arith
+all-set (suc d) zero l = bit-zero _ ∙ omega (arith, pow-pos d)
+all-set (suc d) (suc v) l =
+    let half : (2 ^ suc d - 1) / 2 ≡ 2 ^ d - 1 = omega (arith, pow-pos d) in
+    bit-suc _ v ∙ ap (λ (m : ℕ). bit m v) half ∙ all-set d v (omega arith)
 
 -- `a & !b`, in a word of w digits
 pub not-minus : (w a b : ℕ) → a < 2 ^ w → b < 2 ^ w → bitAnd a ((2 ^ w - 1) - b) ≡ minus a b

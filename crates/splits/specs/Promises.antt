@@ -2,7 +2,7 @@
 use mathlib.Core.Path.{_≡_}
 use mathlib.Core.Logic.{_⊎_, _↔_}
 use mathlib.Core.List.{List, [], _∷_, map, List·Memᴰ}
-use Prim.Native.Nat.{ℕ, _+_, _/_, _^_, _≤_, _<_}
+use Prim.Native.Nat.{ℕ, _+_, _-_, _/_, _^_, _≤_, _<_}
 use lib.ListN.{length, getD}
 use Rattle.splits.specs.Masks.{_∈_, Part, single, size, lowest, smallerHalf}
 use Rattle.splits.specs.Problem.{Table, Problem, Proper, Possibility}
@@ -100,6 +100,12 @@ Peel =
 -- A subproblem on the agenda with every variable instantiated has a solution.
 abbrev pub Solved : Type 0
 Solved = (p : Problem) (P : Subproblem) → Proper p → Rules p P → ((i : ℕ) → i < p .n → Instantiated P i) → Solvable p P
+
+-- Where every mask has all d bits set, all values are allowed.
+abbrev pub No-constraint : Type 0
+No-constraint =
+    (p : Problem) (i j : ℕ) → ((a : ℕ) → a < p .d → p .allowed i j a ≡ 2 ^ p .d - 1)
+    → (a b : ℕ) → a < p .d → b < p .d → b ∈ p .allowed i j a
 
 -- The lowest value of a mask that is not empty is a member, and no member is below it.
 abbrev pub Lowest : Type 0
