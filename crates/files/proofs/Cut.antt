@@ -328,20 +328,6 @@ module _ (n d : ℕ) (domains tables agenda : List ℕ) (s : State) (requests mo
 
 -- ---- reached searches
 
-reached-cast : (n n′ d d′ : ℕ) (domains domains′ : List ℕ) (f : Table) (slots : ℕ) (s s′ : Search) → n′ ≡ n → d′ ≡ d → domains′ ≡ domains → s′ ≡ s
-    → Reached n d domains (tableWords n d f) slots s → Reached n′ d′ domains′ (tableWords n′ d′ f) slots s′
-reached-cast n n′ d d′ domains domains′ f slots s s′ a b c e h = rw (a, b, c, e) h
-
--- A file that says a reached search says a reached one.
-pub reached-again : (n d : ℕ) (domains tables : List ℕ) (room slots : ℕ) (s : Search) (file : List ℕ) → Proper (problemOf n d domains tables) → length domains ≡ n
-    → Reached n d domains tables room s → Says file n d domains (tableOf n d tables) s → length (s .stack) ≤ slots
-    → Reached (saidN file) (saidD file) (saidDomains file) (tableWords (saidN file) (saidD file) (saidAllowed file)) slots (saidSearch file)
-reached-again n d domains tables room slots s file proper words h says fits =
-    let agree : Agree n d (tableOf n d tables) (tableOf n d (tableWords n d (saidAllowed file))) =
-    λ i j a l k f m. sym (table-other n d (saidAllowed file) i j a l k f m ∙ says .its-allowed i j a l k f m) in
-    reached-cast n (saidN file) d (saidD file) domains (saidDomains file) (saidAllowed file) slots s (saidSearch file) (says .its-n) (says .its-d) (says .its-domains) (says .its-search)
-    (moved (reached-agree n d domains tables proper words (tableWords n d (saidAllowed file)) agree h) fits)
-
 -- The cut of a reached search.
 pub reached-cut : (n d : ℕ) (domains tables : List ℕ) (slots : ℕ) (begun : Search) (agenda : List ℕ) (s : State) (requests more : List ℕ)
     → Proper (problemOf n d domains tables) → length domains ≡ n → length tables ≡ n * n * d → 1 ≤ slots → slots ≤ 512

@@ -70,11 +70,7 @@ pub twice-is : (ws : List ℕ) (t y z : ℕ) → ((k : ℕ) → getD ws k 0 < 65
 twice-is ws t y z h l e f g =
     folds-one t z (onesSum ws) (twice-folds t y z (omega (arith, plain-le ws h)) f g) (rw e (ones-folds ws h))
 
--- The check is a word, and so is the sum.
-pub ones-word : (ws : List ℕ) → ((k : ℕ) → getD ws k 0 < 65536) → onesSum ws < 65536
-ones-word ws h = ones-folds ws h .word
-
--- The check.
+-- The check is a word.
 pub check-word : (ws : List ℕ) → checkOf ws < 65536
 unfolding checkOf
 check-word ws = omega arith

@@ -183,7 +183,3 @@ module _ (n d : ℕ) (allowed : Table) where
   -- That of two different variables is what is allowed.
   pub table-other : (i j a : ℕ) → i < n → j < n → (i ≡ j → ⊥) → a < d → tableOf n d (tableWords n d allowed) i j a ≡ allowed i j a
   table-other i j a h l f m = table-at i j a h l m ∙ rw (ne-eqb i j f) refl
-
-  -- That of a variable with itself is 0.
-  pub table-self : (i a : ℕ) → i < n → a < d → tableOf n d (tableWords n d allowed) i i a ≡ 0
-  table-self i a h m = table-at i i a h h m ∙ rw (eq-eqb i i refl) refl

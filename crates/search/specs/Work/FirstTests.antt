@@ -89,9 +89,6 @@ pairAgrees allowed P i j =
     eqb i j || eqb (bit (P .marked) i) 0 || eqb (bit (P .marked) j) 0
     || eqb (bit (allowed i j (lowest (domain P i))) (lowest (domain P j))) 1
 
-unfoldable pub rowAgrees : ℕ → Table → Subproblem → ℕ → Bool
-rowAgrees n allowed P i = every n (pairAgrees allowed P i)
-
 unfoldable pub beforeAgrees : Table → Subproblem → ℕ → Bool
 beforeAgrees allowed P i = every i (pairAgrees allowed P i)
 
