@@ -30,14 +30,14 @@ use Rattle.files.specs.declared.saved.Loaded.{Loaded}
 use Rattle.files.proofs.Accepted.{words-accept}
 use Rattle.files.proofs.Promises.{load-leaves}
 use Rattle.answer.specs.Text.{verdictLine, countsLine, planLines, refusedLine, textOf}
-use Rattle.answer.specs.Calls.{refusalOf, loadedProblem, ranOf, answer, Answers}
+use Rattle.answer.specs.Calls.{refusalOfLoad, loadedProblem, ranOf, answer, Answers}
 use Rattle.answer.specs.Work.Writing.{Holds, Shows, textFrom}
 use Rattle.answer.specs.Work.Lending.{Lends}
 use Rattle.answer.specs.declared.text.Text.{Text}
 
 -- What load refuses is the same for the lengths that are lent and those that the file asks for.
-pub same-refusal : (file : List ℕ) (domains tables agenda : ℕ) → Lends file domains tables agenda → loadRefusal file domains tables agenda ≡ refusalOf file
-unfolding loadRefusal refusalOf
+pub same-refusal : (file : List ℕ) (domains tables agenda : ℕ) → Lends file domains tables agenda → loadRefusal file domains tables agenda ≡ refusalOfLoad file
+unfolding loadRefusal refusalOfLoad
 same-refusal file domains tables agenda lends = elim (ℕ-discrete (refusalOfFile file) 0) [
   | no h ↦ rw (ne-eqb (refusalOfFile file) 0 h) refl
   | yes h ↦ elim (ℕ-discrete (refusalOfWords file) 0) [
@@ -57,7 +57,7 @@ held-answers file r text e holds =
     }
 
 -- A refused load.
-pub answer-refused : (file : List ℕ) (k : ℕ) → k ≡ refusalOf file → (k ≡ 0 → ⊥) → refusedLine k ≡ answer file
+pub answer-refused : (file : List ℕ) (k : ℕ) → k ≡ refusalOfLoad file → (k ≡ 0 → ⊥) → refusedLine k ≡ answer file
 unfolding answer
 answer-refused file k e h = rw (← e) (rw (ne-eqb k 0 h) refl)
 
@@ -85,7 +85,7 @@ chooser-solved p room limit s e =
 module _ (file domains domains′ tables tables′ agenda agenda′ : List ℕ) (l : Loaded) (after : List ℕ) (ran : Ran) (bytes : Bytes file)
     (lends : Lends file (length domains) (length tables) (length agenda)) (loads : Loads file domains domains′ tables tables′ agenda agenda′ l)
     (accepted : l .refusal ≡ 0) (chooses : Chooses (l .n) (l .d) domains′ tables′ agenda′ after 1000000 (l .state) ran) where
-  none : refusalOf file ≡ 0
+  none : refusalOfLoad file ≡ 0
   none = sym (same-refusal file (length domains) (length tables) (length agenda) lends) ∙ sym (loads .refusal) ∙ accepted
 
   left : Left-by-load file agenda domains′ tables′ agenda′ l
@@ -150,7 +150,7 @@ module _ (file domains domains′ tables tables′ agenda agenda′ : List ℕ) 
   unfolding answer
   chosen-text =
       from-stopped (l .n) after ran stopped verdict stack steps checks refusal ∙ ap (λ n. textOf n stopped) (left .its-n)
-      ∙ ap (textOf (saidN file)) same ∙ rw (eq-eqb (refusalOf file) 0 none) refl
+      ∙ ap (textOf (saidN file)) same ∙ rw (eq-eqb (refusalOfLoad file) 0 none) refl
 
   -- What it returns, of where the run of the file stops.
   pub chosen-steps : ran .state .counts .steps .0 ≡ ranOf file .search .steps

@@ -13,7 +13,7 @@ use Rattle.splits.specs.Problem.{tableOf, total}
 use Rattle.splits.specs.Subproblems.{empty, instantiated, some, every}
 use Rattle.splits.specs.Splits.{below, keep, changed, instantiate, without, cutBeside, forbids, instantiatedOther, forbidden, precluded, disjunct, forwardChecking, idc, named, pieces, filled}
 use Rattle.splits.specs.Checks.{lookedAt, others, tried, valuesIn, checks}
-use Rattle.splits.specs.Refusals.{refused-7, refused-8, refused-9, bad, someBad, allSame, refused-10, refusalOf as refusalOfSplit}
+use Rattle.splits.specs.Refusals.{refused-7, refused-8, refused-9, bad, someBad, allSame, refused-10, refusalOf}
 use Rattle.search.specs.Agenda.{problemOf, holding, stackOf}
 use Rattle.search.specs.FirstChecks.{wholeSlots, refusalOfLengths}
 use Rattle.search.specs.Verdicts.{ascii, wordOf, verdictOf, finished}
@@ -28,7 +28,7 @@ use Rattle.files.specs.Promises.{Says}
 use Rattle.files.proofs.Back.{written-blocks}
 use Rattle.files.proofs.Promises.{load-after-save}
 use Rattle.answer.specs.Text.{decimalOf, decimal, verdictLine, countsLine, planLine, planLines, textOf}
-use Rattle.answer.specs.Calls.{refusalOf, loadedProblem, ranOf, answer}
+use Rattle.answer.specs.Calls.{refusalOfLoad, loadedProblem, ranOf, answer}
 use Rattle.answer.specs.Promises.{printed-domains, printed-tables, Printed}
 
 -- The search that opening begins.
@@ -38,7 +38,7 @@ fresh = record { stack = opening 2 printed-domains; steps = 0; checks = 0 }
 -- What the chooser makes of it, of any limit that is enough, and its text.
 run-text : (more : ℕ) → textOf 2 (choose (problemOf 2 2 printed-domains printed-tables) 512 (suc (suc (suc more))) fresh) ≡ ascii "solved\nsteps 2 checks 3\n0 0\n1 1\n"
 unfolding textOf verdictLine countsLine planLines planLine decimal decimalOf ascii wordOf verdictOf finished chooseFrom chosen fewestOf opening holding
-    refusalOfRequest refusalOfTop refusalOfSplit refused-7 refused-8 refused-9 refused-10 bad someBad allSame step splitTop pieces filled named keep below
+    refusalOfRequest refusalOfTop refusalOf refused-7 refused-8 refused-9 refused-10 bad someBad allSame step splitTop pieces filled named keep below
     forwardChecking idc instantiate without cutBeside forbids instantiatedOther forbidden precluded disjunct changed empty some every instantiated
     smallest smallerHalf minus bit ones onesIn trailingZeros checks lookedAt others tried valuesIn total tableOf each
 run-text more = refl
@@ -59,8 +59,8 @@ module _ (file : List ℕ) (x : Search) (says : Says file 2 2 printed-domains (t
         said 1 0 1 (omega arith) (omega arith) (λ e. omega (arith, e)) (omega arith),
       ) refl
 
-  none : refusalOf file ≡ 0
-  unfolding refusalOf loadRefusal refusalOfLengths wholeSlots opening holding some
+  none : refusalOfLoad file ≡ 0
+  unfolding refusalOfLoad loadRefusal refusalOfLengths wholeSlots opening holding some
   none = rw (says .whole, says .accepted, says .its-n, says .its-d, says .its-subproblems, is-fresh) refl
 
   runs : ranOf file ≡ choose (problemOf 2 2 printed-domains printed-tables) 512 1000000 fresh
@@ -75,7 +75,7 @@ module _ (file : List ℕ) (x : Search) (says : Says file 2 2 printed-domains (t
   pub printed-text : answer file ≡ ascii "solved\nsteps 2 checks 3\n0 0\n1 1\n"
   unfolding answer
   printed-text =
-      rw (eq-eqb (refusalOf file) 0 none) (ap (λ n. textOf n (ranOf file)) (says .its-n) ∙ ap (textOf 2) runs ∙ run-text 999997)
+      rw (eq-eqb (refusalOfLoad file) 0 none) (ap (λ n. textOf n (ranOf file)) (says .its-n) ∙ ap (textOf 2) runs ∙ run-text 999997)
 
 pub printed : Printed
 printed before after buffer file r saved opens accepted saves none =

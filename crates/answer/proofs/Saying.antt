@@ -40,7 +40,7 @@ use Rattle.files.proofs.Back.{written-blocks}
 use Rattle.files.proofs.Loading.{load-taken, said-agree}
 use Rattle.files.proofs.Promises.{load-14, load-15, load-none, load-leaves, load-after-save, lived-reached, unsolvable-choose}
 use Rattle.answer.specs.Text.{decimal, decimalOf, verdictLine, countsLine, planLine, planLines, refusedLine, textOf}
-use Rattle.answer.specs.Calls.{refusalOf, ranOf, answer}
+use Rattle.answer.specs.Calls.{refusalOfLoad, ranOf, answer}
 use Rattle.answer.specs.Promises.{Calls, Of-the-calls, Says-no-plan}
 use Rattle.answer.specs.Work.Writing.{textFrom}
 use Rattle.answer.specs.Work.Lending.{Lends}
@@ -49,14 +49,14 @@ use Rattle.answer.proofs.Answering.{same-refusal, chosen-text, chosen-s
 -- ---- load's refusals
 
 -- The refusal, of buffers of the lengths asked for.
-as-lent : (file : List ℕ) → refusalOf file
+as-lent : (file : List ℕ) → refusalOfLoad file
     ≡ loadRefusal file (length (replicate {A = ℕ} (saidN file) 0)) (length (replicate {A = ℕ} (saidN file * saidN file * saidD file) 0))
     (length (replicate {A = ℕ} (512 * (saidN file + 2)) 0))
-unfolding refusalOf
+unfolding refusalOfLoad
 as-lent file = rw (length-replicate {A = ℕ} (saidN file) 0, length-replicate {A = ℕ} (saidN file * saidN file * saidD file) 0, length-replicate {A = ℕ} (512 * (saidN file + 2)) 0) refl
 
 -- The text of a refusal is its line.
-refused-text : (file : List ℕ) (k : ℕ) → refusalOf file ≡ k → (k ≡ 0 → ⊥) → answer file ≡ refusedLine k
+refused-text : (file : List ℕ) (k : ℕ) → refusalOfLoad file ≡ k → (k ≡ 0 → ⊥) → answer file ≡ refusedLine k
 unfolding answer
 refused-text file k e h = rw e (rw (ne-eqb k 0 h) refl)
 
@@ -78,7 +78,7 @@ says-15 file g h =
     refused-text file 15 (as-lent file ∙ load-15 file (replicate (saidN file) 0) (replicate (saidN file * saidN file * saidD file) 0) (replicate (512 * (saidN file + 2)) 0) .1 (g, h))
     (λ e. omega (arith, e)) ∙ line-15
 
-pub not-refused : (file : List ℕ) → (Deserves-14 file → ⊥) → (Deserves-15 file → ⊥) → refusalOf file ≡ 0
+pub not-refused : (file : List ℕ) → (Deserves-14 file → ⊥) → (Deserves-15 file → ⊥) → refusalOfLoad file ≡ 0
 not-refused file g h =
     let n : ℕ = saidN file in
     let slots : slotsIn n (512 * (n + 2)) ≡ 512 = mul-div-cancel 512 (omega arith) in
@@ -101,7 +101,7 @@ not-refused file g h =
 
 pub says-else : (file : List ℕ) → (Deserves-14 file → ⊥) → (Deserves-15 file → ⊥) → answer file ≡ textOf (saidN file) (ranOf file)
 unfolding answer
-says-else file g h = rw (eq-eqb (refusalOf file) 0 (not-refused file g h)) refl
+says-else file g h = rw (eq-eqb (refusalOfLoad file) 0 (not-refused file g h)) refl
 
 -- ---- of the calls
 

@@ -15,8 +15,8 @@ use Rattle.answer.specs.Text.{textOf, refusedLine}
 use Rattle.answer.specs.declared.text.Text.{Text}
 
 -- Load's refusal, into domains and tables of the lengths that the file asks for and 512 slots.
-unfoldable pub refusalOf : List ℕ → ℕ
-refusalOf file = loadRefusal file (saidN file) (saidN file * saidN file * saidD file) (512 * (saidN file + 2))
+unfoldable pub refusalOfLoad : List ℕ → ℕ
+refusalOfLoad file = loadRefusal file (saidN file) (saidN file * saidN file * saidD file) (512 * (saidN file + 2))
 
 -- The problem that load leaves in memory.
 abbrev pub loadedProblem : List ℕ → Problem
@@ -28,7 +28,7 @@ ranOf file = choose (loadedProblem file) 512 1000000 (saidSearch file)
 
 -- The text for a file: a refused load gives the one line of the refusal.
 unfoldable pub answer : List ℕ → List ℕ
-answer file = cond (eqb (refusalOf file) 0) (textOf (saidN file) (ranOf file)) (refusedLine (refusalOf file))
+answer file = cond (eqb (refusalOfLoad file) 0) (textOf (saidN file) (ranOf file)) (refusedLine (refusalOfLoad file))
 
 -- The text, and zeros after it.
 pub record Answers (file : List ℕ) (r : Text) : Type 0 where

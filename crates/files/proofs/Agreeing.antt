@@ -24,7 +24,7 @@ use Rattle.splits.proofs.Lists.{each-of}
 use Rattle.splits.proofs.ByKind.{kinds, no-kind}
 use Rattle.splits.proofs.Pieces.{Held}
 use Rattle.splits.proofs.Splitting.{lowest-in}
-use Rattle.files.specs.Promises.{Agree}
+use Rattle.files.specs.Promises.{Allow-same}
 
 -- ---- lists
 
@@ -50,7 +50,7 @@ looked-member f g (x ∷ l) h = rw (h x (List·Memᴰ·head refl), looked-member
 
 -- ---- the parts of a split
 
-module _ (n d : ℕ) (f g : Table) (agree : Agree n d f g) where
+module _ (n d : ℕ) (f g : Table) (agree : Allow-same n d f g) where
   beside-same : (P : Subproblem) (V′ v j : ℕ) → V′ < n → v < d → j ≤ n → cutBeside f P V′ v j ≡ cutBeside g P V′ v j
   unfolding cutBeside
   beside-same P V′ v j l m k =
@@ -87,7 +87,7 @@ module _ (n d : ℕ) (f g : Table) (agree : Agree n d f g) where
 
 -- ---- the pieces and checks of an accepted request
 
-module _ {p : Problem} {P : Subproblem} {r : List ℕ} (s : Splits p P r) (g : Table) (agree : Agree (p .n) (p .d) (p .allowed) g) where
+module _ {p : Problem} {P : Subproblem} {r : List ℕ} (s : Splits p P r) (g : Table) (agree : Allow-same (p .n) (p .d) (p .allowed) g) where
   held : Held p P
   held = record { proper = s .proper; rules = s .rules }
 

@@ -27,7 +27,7 @@ use Rattle.search.specs.Chooser.{fewestOf, fewest, request, chosen, chooseFrom,
 use Rattle.search.specs.Promises.{Passes}
 use Rattle.search.proofs.Verdicts.{running-top, instantiated-all}
 use Rattle.search.proofs.Runs.{stop, after, run-finished, run-taken, run-refused, run-ind}
-use Rattle.files.specs.Promises.{Agree}
+use Rattle.files.specs.Promises.{Allow-same}
 use Rattle.splits.proofs.Promises.{refusal-none}
 use Rattle.search.proofs.Passing.{step-is, splits, step-passes}
 use Rattle.files.proofs.Agreeing.{precluded-same, pieces-same, checks-same}
@@ -63,7 +63,7 @@ fewest-so-far n P (suc i) h =
 fewest-free : (n : ℕ) (P : Subproblem) → instantiated n P ≡ false → (fewest n P < n) × (bit (P .marked) (fewest n P) ≡ 0)
 fewest-free n P e = ⊎-elim (λ w. w) (λ w. absurd (true-false (sym (instantiated-all n P (w .1)) ∙ e))) (fewest-so-far n P n (le-refl n))
 
-module _ (p : Problem) (g : Table) (agree : Agree (p .n) (p .d) (p .allowed) g) (room : ℕ) where
+module _ (p : Problem) (g : Table) (agree : Allow-same (p .n) (p .d) (p .allowed) g) (room : ℕ) where
   -- The problem with the other table.
   abbrev other : Problem
   other = record { n = p .n; d = p .d; domain = p .domain; allowed = g }

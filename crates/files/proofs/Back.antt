@@ -18,7 +18,7 @@ use Rattle.files.specs.Blocks.{blocksFor, fileOf}
 use Rattle.files.specs.Content.{contentOf}
 use Rattle.files.specs.Reading.{saidN, saidD, saidSteps, saidChecks, saidSubproblems, saidDomains, saidAllowed, saidSearch, tableWords}
 use Rattle.files.specs.Calls.{handedContent, saveRefusal, Saves, loadRefusal, Loads}
-use Rattle.files.specs.Promises.{Words, Bytes, Canonical, Agree, Says, Given-back}
+use Rattle.files.specs.Promises.{Words, Bytes, Canonical, Allow-same, Says, Given-back}
 use Rattle.files.specs.declared.saved.Saved.{Saved}
 use Rattle.files.specs.declared.saved.Loaded.{Loaded}
 use Rattle.files.proofs.Triangle.{table-other, triangle-same}
@@ -78,7 +78,7 @@ module _ (file : List ℕ) (n d : ℕ) (domains : List ℕ) (allowed : Table) (x
       }
 
   -- The tables that it writes allow what was saved, at two different variables.
-  pub lent-agree : Agree n d (tableOf n d (tableWords n d (saidAllowed file))) allowed
+  pub lent-agree : Allow-same n d (tableOf n d (tableWords n d (saidAllowed file))) allowed
   lent-agree i j a l k f m = table-other n d (saidAllowed file) i j a l k f m ∙ says .its-allowed i j a l k f m
 
 -- ---- load after save

@@ -14,7 +14,7 @@ use Rattle.splits.specs.Problem.{total}
 use Rattle.splits.specs.Subproblems.{every}
 use Rattle.splits.specs.Splits.{below}
 use Rattle.splits.proofs.Tests.{every-all}
-use Rattle.files.specs.Blocks.{bytesOf, wordAt, checkOf, blocksFor, contentOfBlock, headedBlock, blockWords, firstBlocks, fileOf}
+use Rattle.files.specs.Blocks.{fileBytes, wordAt, checkOf, blocksFor, contentOfBlock, headedBlock, blockWords, firstBlocks, fileOf}
 use Rattle.files.specs.Content.{each}
 use Rattle.files.specs.Reading.{blocksIn, blockWord, headOf, contentWord, goodBlock, refusalOfFile}
 use Rattle.files.proofs.Lists.{total-const, each-more, each-none, each-length, each-at, map-is, padded-at}
@@ -70,12 +70,12 @@ block-check blocks c k = getD-at (headedBlock blocks c k) (checkOf (headedBlock 
 -- ---- blocks one after the other
 
 -- The blocks are the bytes of their words.
-pub blocks-words : (m blocks : ℕ) (c : List ℕ) → firstBlocks m blocks c ≡ bytesOf (each (blockWords blocks c) (below m))
-unfolding firstBlocks bytesOf
-blocks-words zero blocks c = sym (ap bytesOf (each-none (blockWords blocks c)))
+pub blocks-words : (m blocks : ℕ) (c : List ℕ) → firstBlocks m blocks c ≡ fileBytes (each (blockWords blocks c) (below m))
+unfolding firstBlocks fileBytes
+blocks-words zero blocks c = sym (ap fileBytes (each-none (blockWords blocks c)))
 blocks-words (suc m) blocks c =
-    ap (λ (l : List ℕ). l ++ bytesOf (blockWords blocks c m)) (blocks-words m blocks c)
-    ∙ sym (ap bytesOf (each-more (blockWords blocks c) m) ∙ bytes-append (each (blockWords blocks c) (below m)) (blockWords blocks c m))
+    ap (λ (l : List ℕ). l ++ fileBytes (blockWords blocks c m)) (blocks-words m blocks c)
+    ∙ sym (ap fileBytes (each-more (blockWords blocks c) m) ∙ bytes-append (each (blockWords blocks c) (below m)) (blockWords blocks c m))
 
 -- A block is 512 bytes.
 pub blocks-length : (m blocks : ℕ) (c : List ℕ) → length (firstBlocks m blocks c) ≡ 512 * m
@@ -181,7 +181,7 @@ pub blocks-small : (m blocks : ℕ) (c : List ℕ) → m ≤ 101 → blocks ≤ 
 unfolding firstBlocks blockWords
 blocks-small zero blocks c l few h i = omega arith
 blocks-small (suc m) blocks c l few h i =
-    small-append 256 (firstBlocks m blocks c) (bytesOf (blockWords blocks c m)) (blocks-small m blocks c (omega arith) few h)
+    small-append 256 (firstBlocks m blocks c) (fileBytes (blockWords blocks c m)) (blocks-small m blocks c (omega arith) few h)
     (bytes-small (blockWords blocks c m)
     (small-append 65536 (headedBlock blocks c m) (checkOf (headedBlock blocks c m) ∷ []) (headed-small blocks c m (omega arith) few h)
     (small-one (checkOf (headedBlock blocks c m)) (check-word (headedBlock blocks c m))))) i

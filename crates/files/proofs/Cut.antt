@@ -22,7 +22,7 @@ use Rattle.files.specs.Blocks.{blocksFor, fileOf}
 use Rattle.files.specs.Content.{contentOf}
 use Rattle.files.specs.Reading.{saidN, saidD, saidDomains, saidAllowed, saidSearch, tableWords}
 use Rattle.files.specs.Calls.{handedContent, saveRefusal}
-use Rattle.files.specs.Promises.{Canonical, Agree, Says, Held-in, Trip, Same-end}
+use Rattle.files.specs.Promises.{Canonical, Allow-same, Says, Held-in, Trip, Same-end}
 use Rattle.files.proofs.Triangle.{table-length, table-other}
 use Rattle.files.proofs.Blocks.{file-length}
 use Rattle.files.proofs.Stacks.{agenda-length, agenda-read, agenda-zero}
@@ -227,7 +227,7 @@ module _ (n d : ℕ) (domains tables agenda : List ℕ) (s : State) (requests mo
       (rw (t .agenda-words) (passes1 .fits)))
 
   -- The tables agree with those that were saved.
-  agree : Agree n d (tableOf n d tables) (tableOf n d again)
+  agree : Allow-same n d (tableOf n d tables) (tableOf n d again)
   unfolding again
   agree = agree-back (tableOf n d (tableWords n d (saidAllowed file))) (tableOf n d tables) (lent-agree file n d domains (tableOf n d tables) (x1 .search) says)
 

@@ -25,7 +25,7 @@ use Rattle.search.proofs.Promises.{open-leaves, run-leaves, chooser-leaves, run
 use Rattle.files.specs.Blocks.{fileOf}
 use Rattle.files.specs.Reading.{saidAllowed, tableWords}
 use Rattle.files.specs.Calls.{handedContent, saveRefusal, Saves, Loads}
-use Rattle.files.specs.Promises.{Agree, Says, Shown, Lived, opened, ran, chose, loaded}
+use Rattle.files.specs.Promises.{Allow-same, Says, Shown, Lived, opened, ran, chose, loaded}
 use Rattle.files.specs.declared.saved.Saved.{Saved}
 use Rattle.files.specs.declared.saved.Loaded.{Loaded}
 use Rattle.files.proofs.Triangle.{table-length}
@@ -74,7 +74,7 @@ module _ (n d : ℕ) (domains tables₀ tables agenda : List ℕ) (s : State) (l
       let fits : Fits n d (length domains₁) (length tables₁) (length agenda₁) = rw (says .its-n, says .its-d) at (t .lengths) in
       let room : length (x .stack) ≤ slotsIn n (length agenda₁) = rw (says .its-subproblems, says .its-n) at (t .room) in
       let back = lent file n d domains (tableOf n d tables) x says domains₁ domains′ tables₁ tables′ agenda₁ agenda′ r given fits room in
-      let agree : Agree n d (tableOf n d tables) (tableOf n d tables′) =
+      let agree : Allow-same n d (tableOf n d tables) (tableOf n d tables′) =
       rw (back .its-tables) (agree-back (tableOf n d (tableWords n d (saidAllowed file))) (tableOf n d tables) (lent-agree file n d domains (tableOf n d tables) x says)) in
       let proper : Proper (problemOf n d domains tables′) = proper-agree n d (λ i. getD domains i 0) (tableOf n d tables) (tableOf n d tables′) agree (life .proper) in
       let reached : Reached n d domains tables′ (slotsIn n (length agenda₁)) x =
@@ -124,7 +124,7 @@ lived {n} {d} {domains} {tables₀} (loaded {tables} {agenda} {before} {after} {
 
 -- Of the problem that was opened.
 module _ {n d : ℕ} {domains tables₀ tables agenda : List ℕ} {s : State} (life : Life n d domains tables₀ tables agenda s) where
-  back : Agree n d (tableOf n d tables) (tableOf n d tables₀)
+  back : Allow-same n d (tableOf n d tables) (tableOf n d tables₀)
   back = agree-back (tableOf n d tables₀) (tableOf n d tables) (life .same .masks)
 
   pub proper₀ : Proper (problemOf n d domains tables₀)

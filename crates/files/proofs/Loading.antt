@@ -19,7 +19,7 @@ use Rattle.search.specs.Agenda.{stackOf, stackWords, slotsIn, agendaOf}
 use Rattle.search.specs.FirstChecks.{WholeSlots, orElse, wholeSlots, refusalOfLengths}
 use Rattle.files.specs.Reading.{contentWord, contentFrom, saidN, saidD, saidSteps, saidChecks, saidSubproblems, saidDomains, saidAllowed, saidSearch, saidProblem, gathered, tableWords, refusalOfFile, refusalOfWords}
 use Rattle.files.specs.Calls.{loadRefusal}
-use Rattle.files.specs.Promises.{Bytes, Agree}
+use Rattle.files.specs.Promises.{Bytes, Allow-same}
 use Rattle.files.proofs.Tests.{passed, else-pass}
 use Rattle.files.proofs.Lists.{map-length, padded-at}
 use Rattle.files.proofs.Gathered.{gathered-lt, gathered-bit}
@@ -93,7 +93,7 @@ module _ (file : List ℕ) where
     }
 
     -- So is the one whose tables have zeros for a variable with itself.
-    pub said-agree : Agree (saidN file) (saidD file) (saidAllowed file) (tableOf (saidN file) (saidD file) (tableWords (saidN file) (saidD file) (saidAllowed file)))
+    pub said-agree : Allow-same (saidN file) (saidD file) (saidAllowed file) (tableOf (saidN file) (saidD file) (tableWords (saidN file) (saidD file) (saidAllowed file)))
     said-agree i j v l k f m = sym (table-other (saidN file) (saidD file) (saidAllowed file) i j v l k f m)
 
     -- It says n domains.

@@ -19,7 +19,7 @@ use Rattle.splits.specs.declared.subproblem.Subproblem.{Subproblem}
 use Rattle.splits.proofs.Tests.{and-left, and-right, or-left, or-right, or-cases, every-at, every-all, same-test}
 use Rattle.search.specs.Agenda.{problemOf, stackOf, slotsIn}
 use Rattle.search.specs.FirstChecks.{WholeSlots, WholeRequests, orElse, refusalOfNumbers, wholeSlots, refusalOfLengths, refusalOfRequests, masksBelow, symmetric, refusalOfProblem, allObey, zerosFrom, refusalOfSearch, openRefusal, searchRefusal, runRefusal}
-use Rattle.files.specs.Promises.{Agree}
+use Rattle.files.specs.Promises.{Allow-same}
 use Rattle.files.proofs.Tests.{passed, else-pass}
 use Rattle.files.proofs.Rules.{all-rules, rules-all}
 
@@ -149,7 +149,7 @@ module _ (p : Problem) where
       ) refl
 
   -- Another table that agrees at every two different variables is refused alike.
-  pub problem-agree : (g : Table) → Agree (p .n) (p .d) (p .allowed) g
+  pub problem-agree : (g : Table) → Allow-same (p .n) (p .d) (p .allowed) g
       → refusalOfProblem p ≡ refusalOfProblem (record { n = p .n; d = p .d; domain = p .domain; allowed = g })
   unfolding refusalOfProblem masksBelow symmetric pairs
   problem-agree g a =

@@ -18,7 +18,7 @@ use Rattle.search.specs.Agenda.{problemOf, holding}
 use Rattle.search.specs.Runs.{Search}
 use Rattle.search.specs.Calls.{opening}
 use Rattle.search.specs.Promises.{Passes, Reached, opened, ran, chose, moved}
-use Rattle.files.specs.Promises.{Canonical, Agree}
+use Rattle.files.specs.Promises.{Canonical, Allow-same}
 use Rattle.files.proofs.Lists.{padded-at}
 use Rattle.search.proofs.Promises.{run-passes, chooser-passes}
 use Rattle.files.proofs.Steps.{Tidy, All-tidy, tidy-canonical, run-tidy, chooser-tidy}
@@ -117,7 +117,7 @@ module _ (n d : ℕ) (domains tables : List ℕ) (proper : Proper (problemOf n d
       tidy-canonical (problemOf n d domains tables) P proper (g .passes .rules P m) (g .tidy P m)
 
   -- It is reached with every table that agrees.
-  pub reached-agree : (tables′ : List ℕ) → Agree n d (tableOf n d tables) (tableOf n d tables′) → {room : ℕ} {s : Search}
+  pub reached-agree : (tables′ : List ℕ) → Allow-same n d (tableOf n d tables) (tableOf n d tables′) → {room : ℕ} {s : Search}
       → Reached n d domains tables room s → Reached n d domains tables′ room s
   reached-agree tables′ a (opened l) = opened l
   reached-agree tables′ a (ran {room} {s} h rs) =

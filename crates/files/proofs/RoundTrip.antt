@@ -19,7 +19,7 @@ use Rattle.search.specs.Runs.{Search}
 use Rattle.files.specs.Blocks.{blocksFor, fileOf}
 use Rattle.files.specs.Content.{contentOf, triangle}
 use Rattle.files.specs.Reading.{blocksIn, blockWord, contentWord, contentFrom, saidN, saidD, saidSteps, saidChecks, saidSubproblems, saidDomains, saidAllowed, saidAgenda, saidSearch, saidWords, agendaFrom, triangleWords}
-use Rattle.files.specs.Promises.{Bytes, Canonical, Agree, Says}
+use Rattle.files.specs.Promises.{Bytes, Canonical, Allow-same, Says}
 use Rattle.files.proofs.Whole.{Whole, rebuilt}
 use Rattle.files.proofs.Triangle.{triangle-from}
 use Rattle.files.proofs.Blocks.{file-blocks, file-content, file-passes}
@@ -95,7 +95,7 @@ module _ (n d : ℕ) (domains : List ℕ) (allowed : Table) (s : Search) (few : 
         the-domains : saidDomains file ≡ domains
         the-domains = says-domains n d domains allowed s few words canonical file blocks-hold
 
-        the-allowed : Agree n d (saidAllowed file) allowed
+        the-allowed : Allow-same n d (saidAllowed file) allowed
         the-allowed i j a l k q m = elim (decLt i j) [
           | yes h ↦ says-below n d domains allowed s few words canonical file blocks-hold i j a h k m
           | no h ↦

@@ -10,12 +10,12 @@ use Rattle.splits.proofs.Masks.{member-lt}
 use Rattle.search.specs.Agenda.{problemOf}
 use Rattle.search.specs.Runs.{Search}
 use Rattle.files.specs.Reading.{saidN, saidD, saidDomains, saidAllowed, tableWords}
-use Rattle.files.specs.Promises.{Agree, Says}
+use Rattle.files.specs.Promises.{Allow-same, Says}
 use Rattle.files.proofs.Triangle.{table-other}
 use Rattle.files.proofs.Tables.{agree-back}
 
 -- Tables that agree have the same solutions.
-pub solution-agree : (n d : ℕ) (whole : ℕ → ℕ) (f g : Table) (q : ℕ → ℕ) → Agree n d f g → ((i : ℕ) → i < n → whole i < 2 ^ d) → Solution n f whole q → Solution n g whole q
+pub solution-agree : (n d : ℕ) (whole : ℕ → ℕ) (f g : Table) (q : ℕ → ℕ) → Allow-same n d f g → ((i : ℕ) → i < n → whole i < 2 ^ d) → Solution n f whole q → Solution n g whole q
 solution-agree n d whole f g q agree small h = record {
   possible = h .possible;
   consistent = λ i j l k e. rw (← agree i j (q i) l k e (member-lt d (whole i) (q i) (small i l) (h .possible i l))) (h .consistent i j l k e);
@@ -32,7 +32,7 @@ pub same-solutions : (n d : ℕ) (domains tables : List ℕ) (s : Search) (file 
     → Solution n (tableOf n d tables) (λ i. getD domains i 0) f
     ↔ Solution (saidN file) (tableOf (saidN file) (saidD file) (tableWords (saidN file) (saidD file) (saidAllowed file))) (λ i. getD (saidDomains file) i 0) f
 same-solutions n d domains tables s file f proper says =
-    let there : Agree n d (tableOf n d tables) (tableOf n d (tableWords n d (saidAllowed file))) =
+    let there : Allow-same n d (tableOf n d tables) (tableOf n d (tableWords n d (saidAllowed file))) =
     λ i j a l k e m. sym (table-other n d (saidAllowed file) i j a l k e m ∙ says .its-allowed i j a l k e m) in
     solutions-cast n (saidN file) d (saidD file) domains (saidDomains file) (tableOf n d tables) (saidAllowed file) f (says .its-n) (says .its-d) (says .its-domains) (
       solution-agree n d (λ i. getD domains i 0) (tableOf n d tables) (tableOf n d (tableWords n d (saidAllowed file))) f there (proper .domains),

@@ -6,13 +6,13 @@ use Rattle.splits.specs.Problem.{Problem, Proper, Table}
 use Rattle.splits.specs.Subproblems.{domain, Rules}
 use Rattle.splits.specs.declared.subproblem.Subproblem.{Subproblem}
 use Rattle.splits.proofs.Masks.{member-lt}
-use Rattle.files.specs.Promises.{Agree}
+use Rattle.files.specs.Promises.{Allow-same}
 
 -- The problem with another table.
 abbrev pub with-table : ℕ → ℕ → (ℕ → ℕ) → Table → Problem
 with-table n d whole f = record { n = n; d = d; domain = whole; allowed = f }
 
-module _ (n d : ℕ) (whole : ℕ → ℕ) (f g : Table) (agree : Agree n d f g) where
+module _ (n d : ℕ) (whole : ℕ → ℕ) (f g : Table) (agree : Allow-same n d f g) where
   -- A subproblem obeys the same rules.
   pub rules-agree : ((i : ℕ) → i < n → whole i < 2 ^ d) → (P : Subproblem) → Rules (with-table n d whole f) P → Rules (with-table n d whole g) P
   rules-agree small P r = record {
@@ -39,5 +39,5 @@ module _ (n d : ℕ) (whole : ℕ → ℕ) (f g : Table) (agree : Agree n d f g)
   }
 
 -- To agree goes both ways.
-pub agree-back : {n d : ℕ} (f g : Table) → Agree n d f g → Agree n d g f
+pub agree-back : {n d : ℕ} (f g : Table) → Allow-same n d f g → Allow-same n d g f
 agree-back f g h i j a l k q m = sym (h i j a l k q m)

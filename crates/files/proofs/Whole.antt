@@ -17,7 +17,7 @@ use Rattle.splits.specs.Problem.{total}
 use Rattle.splits.specs.Subproblems.{every}
 use Rattle.splits.specs.Splits.{below}
 use Rattle.splits.proofs.Tests.{and-left, and-right, every-at}
-use Rattle.files.specs.Blocks.{bytesOf, wordAt, checkOf, blocksFor, headedBlock, blockWords, firstBlocks, fileOf}
+use Rattle.files.specs.Blocks.{fileBytes, wordAt, checkOf, blocksFor, headedBlock, blockWords, firstBlocks, fileOf}
 use Rattle.files.specs.Content.{each}
 use Rattle.files.specs.Reading.{blocksIn, blockWord, headOf, contentWord, Deserves-14, goodBlock, refusalOfFile}
 use Rattle.files.proofs.Lists.{total-const, each-same, map-is, map-same, seq, seq-is, seq-each}
@@ -171,5 +171,5 @@ module _ (file : List ℕ) where
     pub rebuilt : fileOf c ≡ file
     unfolding fileOf
     rebuilt =
-        ap (λ (m : ℕ). firstBlocks m m c) fills ∙ blocks-words (blocksIn file) (blocksIn file) c ∙ ap bytesOf words-is
+        ap (λ (m : ℕ). firstBlocks m m c) fills ∙ blocks-words (blocksIn file) (blocksIn file) c ∙ ap fileBytes words-is
         ∙ bytes-read file bytes (blocksIn file * 256) (omega (arith, w .whole)) ∙ take-all (2 * (blocksIn file * 256)) file (omega (arith, w .whole))

@@ -13,7 +13,7 @@ use Rattle.splits.specs.Problem.{total, tableOf}
 use Rattle.splits.specs.Splits.{below}
 use Rattle.search.specs.declared.state.State.{State}
 use Rattle.search.proofs.Encoding.{stack-of-words, length-stackOf}
-use Rattle.files.specs.Blocks.{bytesOf, wordAt, checkOf, contentOfBlock, headedBlock, blockWords, firstBlocks}
+use Rattle.files.specs.Blocks.{fileBytes, wordAt, checkOf, contentOfBlock, headedBlock, blockWords, firstBlocks}
 use Rattle.files.specs.Content.{each, triangle, contentOf}
 use Rattle.files.specs.Reading.{blockWord, headOf, triangleWords}
 use Rattle.files.specs.Work.Said.{Numbers, agendaStart, wordsOf}
@@ -240,15 +240,15 @@ unfolding wordAt
 word-kept p r k h = rw (List·getD-append p r 0 (2 * k) (omega arith), List·getD-append p r 0 (2 * k + 1) h) refl
 
 -- A word of bytes, whatever comes after them.
-word-append : (ws r : List ℕ) (k : ℕ) → k < length ws → wordAt (bytesOf ws ++ r) k ≡ getD ws k 0
+word-append : (ws r : List ℕ) (k : ℕ) → k < length ws → wordAt (fileBytes ws ++ r) k ≡ getD ws k 0
 word-append ws r k h = same ∙ word-read ws k
   where
-    same : wordAt (bytesOf ws ++ r) k ≡ wordAt (bytesOf ws) k
-    same = word-kept (bytesOf ws) r k (omega (arith, bytes-length ws))
+    same : wordAt (fileBytes ws ++ r) k ≡ wordAt (fileBytes ws) k
+    same = word-kept (fileBytes ws) r k (omega (arith, bytes-length ws))
 
 -- The two bytes of a word.
-one-word : (front : List ℕ) (w : ℕ) → front ++ bytesOf (w ∷ []) ≡ front ++ (w / 256 ∷ w % 256 ∷ [])
-unfolding bytesOf
+one-word : (front : List ℕ) (w : ℕ) → front ++ fileBytes (w ∷ []) ≡ front ++ (w / 256 ∷ w % 256 ∷ [])
+unfolding fileBytes
 one-word front w = refl
 
 module _ (blocks : ℕ) (content : List ℕ) (b : ℕ) where
@@ -273,7 +273,7 @@ module _ (blocks : ℕ) (content : List ℕ) (b : ℕ) where
 
   -- No word of a block is written yet.
   pub block-none : (l : List ℕ) → l ≡ blockPart blocks content b 0 l
-  unfolding blockPart bytesOf
+  unfolding blockPart fileBytes
   block-none l = refl
 
   -- What the two stores of a word make of a block.
@@ -282,7 +282,7 @@ module _ (blocks : ℕ) (content : List ℕ) (b : ℕ) where
   unfolding blockPart
   word-more l m k w e s h long =
       let words : List ℕ = blockWords blocks content b in
-      let front : List ℕ = bytesOf (take k words) in
+      let front : List ℕ = fileBytes (take k words) in
       let size : length words ≡ 256 = block-length blocks content b in
       let seam : length front ≡ 2 * k = bytes-length (take k words) ∙ omega (arith, length-take-le k words (omega arith)) in
       let two : drop (2 * k) l ≡ getD l (2 * k) 0 ∷ getD l (suc (2 * k)) 0 ∷ drop (suc (suc (2 * k))) l =
@@ -291,7 +291,7 @@ module _ (blocks : ℕ) (content : List ℕ) (b : ℕ) where
       let next : take (k + 1) words ≡ take k words ++ (w ∷ []) = rw (add-one, s) (take-suc words k 0 (omega arith)) in
       let seam-2 : length (front ++ ((w / 256) ∷ [])) ≡ 2 * k + 1 = length-append front ((w / 256) ∷ []) ∙ omega arith in
       let place : suc (suc (2 * k)) ≡ 2 * (k + 1) = omega arith in
-      let bytes : bytesOf (take (k + 1) words) ≡ front ++ (w / 256 ∷ w % 256 ∷ []) = ap bytesOf next ∙ bytes-append (take k words) (w ∷ []) ∙ one-word front w in
+      let bytes : fileBytes (take (k + 1) words) ≡ front ++ (w / 256 ∷ w % 256 ∷ []) = ap fileBytes next ∙ bytes-append (take k words) (w ∷ []) ∙ one-word front w in
       ap (λ (x : List ℕ). set (set x (2 * k) (w / 256)) (2 * k + 1) (w % 256)) (e ∙ ap (λ (x : List ℕ). front ++ x) two)
       ∙ ap (λ (x : List ℕ). set x (2 * k + 1) (w % 256)) (set-at front (getD l (2 * k) 0) (getD l (suc (2 * k)) 0 ∷ rest) (w / 256) (2 * k) seam
       ∙ sym (append-snoc front (w / 256) (getD l (suc (2 * k)) 0 ∷ rest)))
@@ -310,7 +310,7 @@ module _ (blocks : ℕ) (content : List ℕ) (b : ℕ) where
   unfolding blockPart
   part-length l m k e h long =
       let words : List ℕ = blockWords blocks content b in
-      ap length e ∙ length-append (bytesOf (take k words)) (drop (2 * k) l)
+      ap length e ∙ length-append (fileBytes (take k words)) (drop (2 * k) l)
       ∙ omega (arith, bytes-length (take k words), length-take-le k words (omega (arith, block-length blocks content b)), length-drop (2 * k) l)
 
   -- Before its check stand the headed words.
@@ -328,7 +328,7 @@ module _ (blocks : ℕ) (content : List ℕ) (b : ℕ) where
   head-written l =
       let head : List ℕ = headedBlock blocks content b in
       let size : length head ≡ 255 = headed-length blocks content b in
-      rw head-taken (map-is (λ k. wordAt (bytesOf head ++ drop 510 l) (256 * 0 + k)) 255 head size
+      rw head-taken (map-is (λ k. wordAt (fileBytes head ++ drop 510 l) (256 * 0 + k)) 255 head size
       (λ k h. let place : 256 * 0 + k ≡ k = omega arith in rw place (word-append head (drop 510 l) k (omega arith))))
 
   -- All 255 words before the check.
@@ -340,13 +340,13 @@ module _ (blocks : ℕ) (content : List ℕ) (b : ℕ) where
   check-written l m w e h = h ∙ ap (λ (x : List ℕ). checkOf (headOf x 0)) e ∙ ap checkOf (head-written l) ∙ sym (block-check blocks content b)
 
   -- All 256 words are written.
-  pub block-end : (l m : List ℕ) → m ≡ blockPart blocks content b 256 l → length l ≡ 512 → m ≡ bytesOf (blockWords blocks content b)
+  pub block-end : (l m : List ℕ) → m ≡ blockPart blocks content b 256 l → length l ≡ 512 → m ≡ fileBytes (blockWords blocks content b)
   unfolding blockPart
   block-end l m e long =
       let words : List ℕ = blockWords blocks content b in
       let none : drop 512 l ≡ [] = ap (λ (x : ℕ). drop x l) (sym long) ∙ drop-length l in
       let all : take 256 words ≡ words = take-all 256 words (omega (arith, block-length blocks content b)) in
-      e ∙ ap (λ (x : List ℕ). bytesOf (take 256 words) ++ x) none ∙ append-nil (bytesOf (take 256 words)) ∙ ap bytesOf all
+      e ∙ ap (λ (x : List ℕ). fileBytes (take 256 words) ++ x) none ∙ append-nil (fileBytes (take 256 words)) ∙ ap fileBytes all
 
 -- ---- the blocks
 
@@ -357,13 +357,13 @@ module _ (blocks : ℕ) (content : List ℕ) where
   file-none l = refl
 
   -- One block more.
-  pub file-more : (l m ys : List ℕ) (b : ℕ) → m ≡ filePart blocks content b l → ys ≡ bytesOf (blockWords blocks content b) → 512 * b + 512 ≤ length l
+  pub file-more : (l m ys : List ℕ) (b : ℕ) → m ≡ filePart blocks content b l → ys ≡ fileBytes (blockWords blocks content b) → 512 * b + 512 ≤ length l
       → putMid (512 * b) ((512 * b + 512) - 512 * b) m ys ≡ filePart blocks content (b + 1) l
   unfolding filePart firstBlocks
   file-more l m ys b e y h =
       let words : List ℕ = blockWords blocks content b in
       let up : 512 * b + 512 ≡ 512 * (b + 1) = omega arith in
-      part-more (firstBlocks b blocks content) (bytesOf words) l m ys (512 * b) 512 e (blocks-length b blocks content) y
+      part-more (firstBlocks b blocks content) (fileBytes words) l m ys (512 * b) 512 e (blocks-length b blocks content) y
       (bytes-length words ∙ omega (arith, block-length blocks content b)) h
       ∙ rw (← up, add-one) refl
 

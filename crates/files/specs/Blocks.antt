@@ -4,9 +4,9 @@ use Prim.Native.Nat.{ℕ, zero, suc, _+_, _-_, _*_, _/_, _%_}
 use lib.ListN.{length, getD, take, drop, replicate}
 
 -- The bytes of a list of words, the high byte of each first.
-unfoldable pub bytesOf : List ℕ → List ℕ
-bytesOf [] = []
-bytesOf (w ∷ ws) = w / 256 ∷ w % 256 ∷ bytesOf ws
+unfoldable pub fileBytes : List ℕ → List ℕ
+fileBytes [] = []
+fileBytes (w ∷ ws) = w / 256 ∷ w % 256 ∷ fileBytes ws
 
 -- Word k of a list of bytes.
 unfoldable pub wordAt : List ℕ → ℕ → ℕ
@@ -42,7 +42,7 @@ blockWords blocks content k = headedBlock blocks content k ++ (checkOf (headedBl
 -- The first m of the blocks that a content fills, one after the other.
 unfoldable pub firstBlocks : ℕ → ℕ → List ℕ → List ℕ
 firstBlocks zero blocks content = []
-firstBlocks (suc m) blocks content = firstBlocks m blocks content ++ bytesOf (blockWords blocks content m)
+firstBlocks (suc m) blocks content = firstBlocks m blocks content ++ fileBytes (blockWords blocks content m)
 
 -- The file that holds a content.
 unfoldable pub fileOf : List ℕ → List ℕ

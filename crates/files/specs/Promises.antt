@@ -41,8 +41,8 @@ pub record Canonical (n : ℕ) (P : Subproblem) : Type 0 where
   pub masks : (i : ℕ) → domain P i < 2 ^ 16
 
 -- Two tables allow the same at every place of two different variables.
-abbrev pub Agree : ℕ → ℕ → Table → Table → Type 0
-Agree n d f g = (i j a : ℕ) → i < n → j < n → (i ≡ j → ⊥) → a < d → f i j a ≡ g i j a
+abbrev pub Allow-same : ℕ → ℕ → Table → Table → Type 0
+Allow-same n d f g = (i j a : ℕ) → i < n → j < n → (i ≡ j → ⊥) → a < d → f i j a ≡ g i j a
 
 -- ---- blocks
 
@@ -81,7 +81,7 @@ pub record Says (file : List ℕ) (n d : ℕ) (domains : List ℕ) (allowed : Ta
   pub its-n : saidN file ≡ n
   pub its-d : saidD file ≡ d
   pub its-domains : saidDomains file ≡ domains
-  pub its-allowed : Agree n d (saidAllowed file) allowed
+  pub its-allowed : Allow-same n d (saidAllowed file) allowed
   pub its-subproblems : saidSubproblems file ≡ length (s .stack)
   pub its-search : saidSearch file ≡ s
 
@@ -127,7 +127,7 @@ pub record Given-back (n d : ℕ) (domains tables : List ℕ) (s : Search) (r : 
   pub its-n : r .n ≡ n
   pub its-d : r .d ≡ d
   pub its-domains : domains′ ≡ domains
-  pub its-allowed : Agree n d (tableOf n d tables′) (tableOf n d tables)
+  pub its-allowed : Allow-same n d (tableOf n d tables′) (tableOf n d tables)
   pub its-search : searchOf n agenda′ (r .state) ≡ s
 
 -- Load of exactly the blocks that save wrote, into buffers of the right lengths and an agenda that takes the subproblems.

@@ -3,7 +3,7 @@ use crate::checksum;
 ghost use mathlib.Core.Path.{_≡_};
 ghost use Prim.Native.Nat.{_+_, _*_, _/_, _%_, _<_, _≤_};
 ghost use lib.ListN.{length, getD, set};
-ghost use Rattle.files.specs.Blocks.{bytesOf, headedBlock, blockWords};
+ghost use Rattle.files.specs.Blocks.{fileBytes, headedBlock, blockWords};
 ghost use Rattle.files.specs.Work.Saved.{blockPart, filePart};
 
 // Word `k` of a block.
@@ -45,7 +45,7 @@ fn put_head(words: &[u16], blocks: usize, b: usize, block: &mut [u8])
 // Block `b`, with its check.
 fn put_block(words: &[u16], blocks: usize, b: usize, block: &mut [u8])
     requires { ⌜ (length (now words) ≡ 25553) × ((blocks ≤ 101) × ((b < blocks) × (length (now block) ≡ 512))) ⌝ }
-    ensures { λ r. ⌜ now (block .exit) ≡ bytesOf (blockWords blocks (now (words .entry)) b) ⌝ }
+    ensures { λ r. ⌜ now (block .exit) ≡ fileBytes (blockWords blocks (now (words .entry)) b) ⌝ }
 {
     put_head(words, blocks, b, block);
     let check = checksum::check(block);

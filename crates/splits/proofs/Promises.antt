@@ -12,7 +12,7 @@ use Rattle.splits.specs.Subproblems.{domain, empty, some}
 use Rattle.splits.specs.Splits.{filled, keep, below, precluded, disjunct, without, cutBeside, changed, instantiate, extract, atTargets}
 use Rattle.splits.specs.Shortcuts.{skipping, weak, weakDisjunct, untargeted, pair-top}
 use Rattle.splits.specs.Measure.{sum, unmarked, measure}
-use Rattle.splits.specs.Promises.{Sound, Cover, Exact, Obeys, Sizes, Apart, Falls, Peel, Solved, Skipping-loses, Weak-overlaps, One-value-lies, Dropping-loses, No-constraint, Lowest, Smaller-half-of, One-by-one, At-most-496, Refusal-7, Refusal-8, Refusal-9, Refusal-10, Refusal-none, Reads-refusal, Reads-pieces, Reads-checks, Count-one, First-one, Smaller-half-one, Domain-one, Is-instantiated-one, All-instantiated-one, Is-empty-one, Instantiate-one, Without-one, Cut-one, Precluded-one, Precluded-empty-one, Candidates-one, Piece-one, Checks-one, Refusal-one}
+use Rattle.splits.specs.Promises.{Sound, Cover, Exact, Obeys, Sizes, Apart, Falls, Peel, Solved, Skipping-loses, Weak-overlaps, One-value-lies, Dropping-loses, No-constraint, Lowest-value, Smaller-half-of, One-by-one, At-most-496, Refusal-7, Refusal-8, Refusal-9, Refusal-10, Refusal-none, Reads-refusal, Reads-pieces, Reads-checks, Count-one, First-one, Smaller-half-one, Domain-one, Is-instantiated-one, All-instantiated-one, Is-empty-one, Instantiate-one, Without-one, Cut-one, Precluded-one, Precluded-empty-one, Candidates-one, Piece-one, Checks-one, Refusal-one}
 use Rattle.splits.specs.declared.subproblem.Subproblem.{Subproblem}
 use Rattle.splits.proofs.Masks.{size-single, all-set, lowest-member, lowest-least, half-part, half-size, half-below}
 use Rattle.splits.proofs.Splitting.{lowest-in}
@@ -81,7 +81,7 @@ dropping-loses = (
 pub no-constraint : No-constraint
 no-constraint p i j all a b k l = ap (λ (m : ℕ). bit m b) (all a k) ∙ all-set (p .d) b l
 
-pub lowest-value : Lowest
+pub lowest-value : Lowest-value
 lowest-value m h e = (lowest-member m h e, λ v. lowest-least m v h)
 
 pub smaller-half-of : Smaller-half-of

@@ -108,8 +108,8 @@ No-constraint =
     → (a b : ℕ) → a < p .d → b < p .d → b ∈ p .allowed i j a
 
 -- The lowest value of a mask that is not empty is a member, and no member is below it.
-abbrev pub Lowest : Type 0
-Lowest = (m : ℕ) → m < 2 ^ 16 → (m ≡ 0 → ⊥) → (lowest m ∈ m) × ((v : ℕ) → v ∈ m → lowest m ≤ v)
+abbrev pub Lowest-value : Type 0
+Lowest-value = (m : ℕ) → m < 2 ^ 16 → (m ≡ 0 → ⊥) → (lowest m ∈ m) × ((v : ℕ) → v ∈ m → lowest m ≤ v)
 
 -- The smaller half of k values is ⌈k / 2⌉ of them, each smaller than each of the rest.
 abbrev pub Smaller-half-of : Type 0

@@ -5,7 +5,7 @@ use Prim.Native.Nat.{ℕ, _+_, _-_, _*_, _/_, _%_, _^_, _≤_}
 use lib.ListN.{length, take, drop, replicate}
 use Rattle.splits.specs.Problem.{tableOf}
 use Rattle.search.specs.declared.state.State.{State}
-use Rattle.files.specs.Blocks.{bytesOf, blockWords, firstBlocks}
+use Rattle.files.specs.Blocks.{fileBytes, blockWords, firstBlocks}
 use Rattle.files.specs.Content.{firstWord, triangle}
 use Rattle.files.specs.Reading.{triangleWords}
 use Rattle.files.specs.Calls.{handedContent}
@@ -44,7 +44,7 @@ pub record Tail (n d : ℕ) (tables agenda : List ℕ) (subproblems words : ℕ)
 
 -- A block of which the first k words are written.
 unfoldable pub blockPart : ℕ → List ℕ → ℕ → ℕ → List ℕ → List ℕ
-blockPart blocks content b k before = bytesOf (take k (blockWords blocks content b)) ++ drop (2 * k) before
+blockPart blocks content b k before = fileBytes (take k (blockWords blocks content b)) ++ drop (2 * k) before
 
 -- A file of which the first b blocks are written.
 unfoldable pub filePart : ℕ → List ℕ → ℕ → List ℕ → List ℕ
