@@ -2,29 +2,29 @@
 -- Assumes nothing.
 use mathlib.Core.Path.{_≡_, refl, sym, ap, _∙_, subst}
 use mathlib.Core.Logic.{_⊎_, inl, inr, ⊎-elim}
-use mathlib.Core.Bool.{Bool, true, false, not, cond, _&&_, _||_}
+use mathlib.Core.Bool.{Bool, true, false, not, cond, _||_}
 use mathlib.Core.List.{List}
 use Prim.Native.Nat.{ℕ, zero, suc, _+_, _-_, _*_, _^_, _≤_, _<_, min}
 use native.Mathlib.Omega.{arith}
 use native.Mathlib.Numerals.{add-one}
-use native.Mathlib.Nat.{le-refl, lt-of-lt-of-le, add-zero}
+use native.Mathlib.Nat.{lt-of-lt-of-le, add-zero}
 use native.Mathlib.Decide.{decLt, ℕ-discrete}
 use lib.ListN.{getD, set}
 use lib.Bits.{bitOr}
 use lib.Count.{ones-le}
 use lib.Pow.{pow-mono}
-use lib.Dec.{eqb, ltb}
-use borrow.Author.Tests.{eq-eqb, ne-eqb, lt-ltb, le-ltb}
-use Rattle.splits.specs.Masks.{bit, common, size}
+use lib.Dec.{eqb}
+use borrow.Author.Tests.{eq-eqb, ne-eqb}
+use Rattle.splits.specs.Masks.{bit, common, minus, size}
 use Rattle.splits.specs.Problem.{total}
 use Rattle.splits.specs.Subproblems.{domain, some, instantiated}
 use Rattle.splits.specs.Checks.{valuesIn, others}
 use Rattle.splits.specs.declared.subproblem.Subproblem.{Subproblem}
-use Rattle.splits.proofs.Masks.{bit-le, bit-none, bit-ext, bit-or, bit-single-same, member-some, size-of-none}
+use Rattle.splits.proofs.Masks.{bit-le, bit-none, bit-ext, bit-common, bit-minus, bit-or, bit-single-same, member-some, size-of-none}
 use Rattle.splits.proofs.Loops.{changed-more, changed-next}
 use Rattle.search.specs.Promises.{Fewest}
 use Rattle.search.specs.Work.Kept.{Regular}
-use Rattle.search.specs.Work.Lanes.{keyOf, LeastKey, lost, cutTo}
+use Rattle.search.specs.Work.Lanes.{keyOf, LeastKey, lost, cutTo, outsideTo}
 
 -- ---- turns of the loops
 
@@ -81,8 +81,12 @@ module _ (m mask : ℕ) where
   loss-none h e = rw (ne-eqb m 0 h, ne-eqb (common m mask) 0 e) refl
 
 -- A number joined with none, and with 1.
-or-none : (x : ℕ) → bitOr x 0 ≡ x
+pub or-none : (x : ℕ) → bitOr x 0 ≡ x
 or-none x = bit-ext (bitOr x 0) x (λ v. rw (bit-or, bit-none v) (omega arith))
+
+-- What is common with a mask, joined with the rest.
+pub or-parts : (x mask : ℕ) → bitOr (common x mask) (minus x mask) ≡ x
+or-parts x mask = bit-ext (bitOr (common x mask) (minus x mask)) x (λ v. rw (bit-or, bit-common, bit-minus) (omega (arith, bit-le x v, bit-le mask v)))
 
 or-one : (x : ℕ) → bitOr x 1 ≡ 0 → ⊥
 or-one x = member-some (bitOr x 1) 0 (rw (bit-or, bit-single-same 0) (omega (arith, bit-le x 0)))
@@ -109,6 +113,12 @@ pub cut-more : (l row m : List ℕ) (i : ℕ) → m ≡ cutTo l row i → set m 
 unfolding cutTo
 cut-more l row m i e =
     rw (e, add-one, changed-next i (λ j m. common m (getD row j 0)) l) (changed-more i (λ j m. common m (getD row j 0)) l)
+
+-- One mask more left outside.
+pub outside-more : (l row m : List ℕ) (i x : ℕ) → m ≡ outsideTo l row i → x ≡ minus (getD m i 0) (getD row i 0) → set m i x ≡ outsideTo l row (i + 1)
+unfolding outsideTo
+outside-more l row m i x e f =
+    rw (f, e, add-one, changed-next i (λ j m. minus m (getD row j 0)) l) (changed-more i (λ j m. minus m (getD row j 0)) l)
 
 -- ---- what they tell of a subproblem
 

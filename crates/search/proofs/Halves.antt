@@ -1,7 +1,7 @@
 -- Sets of variables in halves, words kept by their lanes, and the piece for a variable, as the loops over 32 masks make them.
 -- Assumes nothing.
-use mathlib.Core.Path.{_≡_, refl, sym, ap, _∙_, subst}
-use mathlib.Core.Bool.{Bool, true, cond}
+use mathlib.Core.Path.{_≡_, refl, sym, ap, _∙_}
+use mathlib.Core.Bool.{true, cond}
 use mathlib.Core.List.{List, _++_}
 use Prim.Native.Nat.{ℕ, zero, suc, _+_, _-_, _*_, _/_, _%_, _^_, _≤_, _<_}
 use native.Mathlib.Omega.{arith}
@@ -9,17 +9,17 @@ use native.Mathlib.Decide.{decLt, ℕ-discrete}
 use native.Mathlib.Nat.{one-mul, mod-eq-of-lt}
 use lib.ListN.{length, getD, set, take, drop, replicate, length-set, length-append, length-take, length-drop, length-replicate, List·getD-append}
 use lib.Seq.{length-take-le, getD-set-same, getD-set-other, getD-take, getD-drop, getD-append-add, take-take, ext-getD}
+use lib.Bits.{bitOr}
 use lib.Pow.{pow-mono, pow-pos}
-use lib.Dec.{eqb, leb}
-use borrow.Author.Tests.{eq-eqb, ne-eqb, lt-ltb, le-ltb, eqb-true, le-leb, lt-leb}
-use Rattle.splits.specs.Masks.{bit, single, common, minus, size}
-use Rattle.splits.specs.Problem.{total}
+use lib.Dec.{eqb, ltb, leb}
+use borrow.Author.Tests.{lt-ltb, le-ltb, eqb-true, le-leb, lt-leb}
+use Rattle.splits.specs.Masks.{bit, common, minus, size}
 use Rattle.splits.specs.Subproblems.{every}
-use Rattle.splits.proofs.Masks.{common-none, not-minus, single-lt, bit-single-same, bit-single-other}
+use Rattle.splits.proofs.Masks.{common-none, not-minus, single-lt}
 use Rattle.splits.proofs.Tests.{every-at}
 use Rattle.search.specs.Agenda.{holding, subproblemOf, slotAt}
 use Rattle.search.specs.Work.Slots.{SlotIn}
-use Rattle.search.specs.Work.Lanes.{Half, Beyond, Below, Kept, KeptTo, keyOf, Sided, partOf, furtherAt, FurtherTo, exceeding}
+use Rattle.search.specs.Work.Lanes.{Half, Beyond, Below, Kept, KeptTo, keyOf, Sides, joinedAt, JoinedTo}
 use Rattle.search.proofs.Joining.{bit-shr}
 use Rattle.search.proofs.Turning.{bit-low}
 
@@ -46,10 +46,6 @@ all-beyond = refl
 pub shift-is : (i : ℕ) → i ≤ 32 → 1 * 2 ^ i % 2 ^ 64 ≡ 2 ^ i
 shift-is i h = simp one-mul (mod-eq-of-lt (single-lt 64 i (omega arith)))
 
--- Within a u32.
-pub one-is : (j : ℕ) → j < 32 → 1 * 2 ^ j % 2 ^ 32 ≡ single j
-one-is j h = simp one-mul (mod-eq-of-lt (single-lt 32 j h))
-
 pub shift-small : (i : ℕ) → i ≤ 32 → (1 ≤ 1 * 2 ^ i % 2 ^ 64) × (1 * 2 ^ i % 2 ^ 64 ≤ 4294967296)
 shift-small i h = rw (shift-is i h) (pow-pos i, pow-mono h)
 
@@ -66,14 +62,10 @@ beyond-is i h = record {
 
 -- ---- lanes
 
--- A word cut to all 16 values, and without them.
+-- A word cut to all 16 values.
 pub all-common : (x : ℕ) → x < 2 ^ 16 → common x 65535 ≡ x
 unfolding minus
 all-common x h = not-minus 16 x 0 h (omega arith) ∙ rw (common-none x) (omega arith)
-
-pub minus-all : (x : ℕ) → x < 2 ^ 16 → minus x 65535 ≡ 0
-unfolding minus
-minus-all x h = rw (all-common x h) (omega arith)
 
 -- A word of zeros.
 zeros-at : (k i : ℕ) → getD (replicate {A = ℕ} k 0) i 0 ≡ 0
@@ -152,57 +144,37 @@ slot-lanes n k agenda lanes D high low m slot fits b kept hi lo e =
 
 -- ---- the piece for a variable
 
--- A mask as it is, and all that is outside it.
-pub sided-not : (mask test : ℕ) → mask < 2 ^ 16 → test ≡ 1 → Sided mask test (65535 - mask)
-sided-not mask test h e m k = rw (eq-eqb test 1 e) (not-minus 16 m mask k h)
+-- No side yet, and one lane more.
+pub sides-none : Sides 32 (replicate 64 0)
+sides-none = record { long = refl; none = λ j h. zeros-at 64 j; all = λ j h k. absurd (omega arith) }
 
-pub sided-same : (mask test : ℕ) → (test ≡ 1 → ⊥) → Sided mask test mask
-sided-same mask test e m k = rw (ne-eqb test 1 e) refl
+pub sides-more : (l : List ℕ) (i : ℕ) → Sides i l → 32 ≤ i → i < 64 → Sides (i + 1) (set l i 65535)
+sides-more l i s h k = record {
+  long = length-set l i 65535 ∙ s .long;
+  none = λ j a. getD-set-other l i j 65535 0 (λ e. omega arith) ∙ s .none j a;
+  all = λ j a b. elim (ℕ-discrete j i) [
+    | yes e ↦ rw e (getD-set-same l i 65535 0 (omega (arith, s .long)))
+    | no e ↦ getD-set-other l i j 65535 0 e ∙ s .all j a (omega arith)
+  ];
+}
 
--- A mask of it by two tests.
-module _ (m mask at after : ℕ) where
-  pub part-after : after ≡ 1 → m ≡ partOf m mask at after
-  unfolding partOf
-  part-after e = rw (eq-eqb after 1 e) refl
+-- No mask joined yet, and one more.
+pub joined-none : (cut out : List ℕ) (j : ℕ) → length cut ≡ 32 → JoinedTo cut out j 0 cut
+joined-none cut out j e = record { long = e; each = λ k h. absurd (omega arith) }
 
-  pub part-other : (after ≡ 1 → ⊥) → m < 2 ^ 16 → (r : ℕ) → Sided mask at r → common m r ≡ partOf m mask at after
-  unfolding partOf
-  part-other h k r t = t m k ∙ rw (ne-eqb after 1 h) refl
-
--- The tests are those of variable j and of those after it.
-part-is : (l row : List ℕ) (j after i : ℕ) → Beyond (j + 1) after → i < 32
-    → partOf (getD l i 0) (getD row i 0) (bit (single j) i) (bit after i) ≡ furtherAt l row j i
-unfolding partOf furtherAt
-part-is l row j after i a h = elim (decLt i j) [
-  | yes k ↦ rw (bit-single-other j i (λ e. omega arith), a .before i (omega arith), lt-ltb i j k) refl
-  | no k ↦ elim (ℕ-discrete i j) [
-    | yes e ↦ rw (le-ltb i j (omega arith), eq-eqb i j e, a .before i (omega arith), e, bit-single-same j) refl
-    | no e ↦ rw (a .after i (omega arith) h, le-ltb i j (omega arith), ne-eqb i j e) refl
-  ]
-]
-
--- Two masks more of it.
-module _ (l row : List ℕ) (j at after low low′ high high′ i : ℕ) (f : at ≡ single j) (a : Beyond (j + 1) after) (h : i < 16)
-    (fl : Half at 0 low) (al : Half after 0 low′) (fh : Half at 16 high) (ah : Half after 16 high′) (r : List ℕ) (so-far : FurtherTo l row j i r) (x y : ℕ)
-    (first : x ≡ partOf (getD l i 0) (getD row i 0) (bit low i) (bit low′ i)) (second : y ≡ partOf (getD l (i + 16) 0) (getD row (i + 16) 0) (bit high i) (bit high′ i)) where
-  first-is : x ≡ furtherAt l row j i
-  first-is = first ∙ rw (fl i h, al i h, f) (let e : 0 + i ≡ i = omega arith in rw e (part-is l row j after i a (omega arith)))
-
-  second-is : y ≡ furtherAt l row j (i + 16)
-  second-is = second ∙ rw (fh i h, ah i h, f) (let e : 16 + i ≡ i + 16 = omega arith in rw e (part-is l row j after (i + 16) a (omega arith)))
-
-  pub further-more : FurtherTo l row j (i + 1) (set (set r i x) (i + 16) y)
-  further-more = record {
-    long = length-set (set r i x) (i + 16) y ∙ length-set r i x ∙ so-far .long;
-    low = λ k q. getD-set-other (set r i x) (i + 16) k y 0 (λ e. omega arith) ∙ elim (ℕ-discrete k i) [
-      | yes e ↦ rw e (getD-set-same r i x 0 (omega (arith, so-far .long)) ∙ first-is)
-      | no e ↦ getD-set-other r i k x 0 e ∙ so-far .low k (omega arith)
-    ];
-    high = λ k q. elim (ℕ-discrete k i) [
-      | yes e ↦ rw e (getD-set-same (set r i x) (i + 16) y 0 (omega (arith, length-set r i x, so-far .long)) ∙ second-is)
-      | no e ↦ getD-set-other (set r i x) (i + 16) (k + 16) y 0 (λ z. e (omega arith)) ∙ getD-set-other r i (k + 16) x 0 (λ z. omega arith) ∙ so-far .high k (omega arith)
-    ];
-  }
-
-pub further-none : (l row : List ℕ) (j : ℕ) → length l ≡ 32 → FurtherTo l row j 0 l
-further-none l row j e = record { long = e; low = λ k h. absurd (omega arith); high = λ k h. absurd (omega arith) }
+pub joined-more : (cut out sides : List ℕ) (j i x : ℕ) (r : List ℕ) → JoinedTo cut out j i r → Sides 64 sides → i < 32 → j ≤ 32 → Kept (getD out i 0) (getD sides (32 - j + i) 0) x
+    → JoinedTo cut out j (i + 1) (set r i (bitOr (getD cut i 0) x))
+unfolding joinedAt
+joined-more cut out sides j i x r so-far s h l w = record {
+  long = length-set r i _ ∙ so-far .long;
+  each = λ k q. elim (ℕ-discrete k i) [
+    | yes e ↦ rw e (getD-set-same r i _ 0 (omega (arith, so-far .long)) ∙ ap (bitOr (getD cut i 0)) its-side)
+    | no e ↦ getD-set-other r i k _ 0 e ∙ so-far .each k (omega arith)
+  ];
+}
+  where
+    its-side : x ≡ cond (ltb i j) 0 (getD out i 0)
+    its-side = elim (decLt i j) [
+      | yes k ↦ rw (lt-ltb i j k) (w .1 (s .none (32 - j + i) (omega arith)))
+      | no k ↦ rw (le-ltb i j (omega arith)) (w .0 (s .all (32 - j + i) (omega arith) (omega arith)))
+    ]

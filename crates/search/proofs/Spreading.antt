@@ -10,6 +10,7 @@ use native.Mathlib.Nat.{le-refl, add-zero}
 use native.Mathlib.Decide.{decLt, ℕ-discrete}
 use lib.ListN.{length, getD, set, length-set, length-append}
 use lib.Seq.{getD-set-same, getD-set-other, ext-getD}
+use lib.Bits.{bitOr}
 use lib.Dec.{eqb}
 use borrow.Author.Tests.{eq-eqb, ne-eqb, le-leb, lt-ltb, le-ltb}
 use Rattle.splits.specs.Masks.{single, common, minus}
@@ -19,7 +20,7 @@ use Rattle.splits.specs.Splits.{changed, without, cut, cutBeside, disjunct, inf
 use Rattle.splits.specs.Calls.{readable, Piece, Candidates}
 use Rattle.splits.specs.Work.Loops.{precludedEmpty}
 use Rattle.splits.specs.declared.subproblem.Subproblem.{Subproblem}
-use Rattle.splits.proofs.Masks.{common-none, minus-part, part-lt}
+use Rattle.splits.proofs.Masks.{common-none, none-minus, minus-part, part-lt}
 use Rattle.splits.proofs.Tests.{true-false, some-none, some-all-not}
 use Rattle.splits.proofs.Loops.{changed-next}
 use Rattle.splits.proofs.Domains.{length-changed, changed-before, changed-after}
@@ -28,13 +29,12 @@ use Rattle.search.specs.Agenda.{slotWords}
 use Rattle.search.specs.Chooser.{request}
 use Rattle.search.specs.Work.Slots.{splice, SlotIn}
 use Rattle.search.specs.Work.Steps.{Replaced}
-use Rattle.search.specs.Work.Lanes.{furtherAt, FurtherTo, exceeding}
-use Rattle.search.specs.Work.Found.{AtTop, RoomFor, precludedBy, several}
+use Rattle.search.specs.Work.Lanes.{cutTo, outsideTo, joinedAt, JoinedTo, filled}
+use Rattle.search.specs.Work.Found.{AtTop, RoomFor, innerBy, outerBy, Spread, precludedBy, several}
 use Rattle.search.specs.declared.choice.Choice.{Choice}
 use Rattle.search.proofs.Candidates.{firsts, firsts-start, firsts-drop, firsts-keep, pieces-are}
 use Rattle.search.proofs.Gathering.{Gathered, gather-none, gather-drop, gather-slot, gather-keep, gather-replaced}
-use Rattle.search.proofs.AtOnce.{word}
-use Rattle.search.proofs.Halves.{all-common, minus-all}
+use Rattle.search.proofs.AtOnce.{word, or-none, or-parts}
 use Rattle.search.proofs.Lone.{some-left}
 use Rattle.search.proofs.Settling.{several-kept, several-more, put-variable, put-member, put-reads, put-precluded, put-kept}
 
@@ -121,25 +121,62 @@ module _ (n d : ℕ) (t : List ℕ) (P : Subproblem) (c : Choice) (below words :
 
   -- ---- the arrays of the loop
 
-  module _ (less′ beside : List ℕ) (its : less′ ≡ without P (c .variable) (getD (c .row) (c .variable) 0) .domains) (row : beside ≡ set (c .row) (c .variable) 65535) where
-    less-is : less′ ≡ less
-    unfolding less
-    less-is = its ∙ rw (h .found .row .own) refl
+  module _ (cut′ out : List ℕ) (its : Spread P c cut′ out) where
+    -- V's own, and what is allowed of another and what is not.
+    cut-own : getD cut′ (c .variable) 0 ≡ getD less (c .variable) 0
+    unfolding innerBy cutTo
+    cut-own =
+        ap (λ (l : List ℕ). getD l (c .variable) 0) (its .inner)
+        ∙ getD-set-same (cutTo (P .domains) (c .row) 32) (c .variable) _ 0 (rw (length-changed 32 (λ j m. common m (getD (c .row) j 0)) (P .domains)) (omega (arith, below-n, few, h .regular .shape .long)))
+        ∙ ap (minus (domain P (c .variable))) (h .found .row .own) ∙ sym less-own
 
-    beside-own : getD beside (c .variable) 0 ≡ 65535
-    beside-own = rw row (getD-set-same (c .row) (c .variable) 65535 0 (omega (arith, below-n, few, h .found .row .long)))
+    out-own : getD out (c .variable) 0 ≡ 0
+    unfolding outerBy outsideTo
+    out-own =
+        ap (λ (l : List ℕ). getD l (c .variable) 0) (its .outer)
+        ∙ getD-set-same (outsideTo (P .domains) (c .row) 32) (c .variable) 0 0 (rw (length-changed 32 (λ j m. minus m (getD (c .row) j 0)) (P .domains)) (omega (arith, below-n, few, h .regular .shape .long)))
 
-    beside-other : (i : ℕ) → i < n → (i ≡ c .variable → ⊥) → getD beside i 0 ≡ tableOf n d t (c .variable) i (c .value)
-    beside-other i l k = rw row (getD-set-other (c .row) (c .variable) i 65535 0 k) ∙ h .found .row .other i l k
+    cut-by : (i : ℕ) → i < 32 → (i ≡ c .variable → ⊥) → getD cut′ i 0 ≡ common (getD less i 0) (getD (c .row) i 0)
+    unfolding innerBy cutTo
+    cut-by i l k =
+        ap (λ (l : List ℕ). getD l i 0) (its .inner) ∙ getD-set-other (cutTo (P .domains) (c .row) 32) (c .variable) i _ 0 k
+        ∙ changed-before 32 (λ j m. common m (getD (c .row) j 0)) (P .domains) i l (omega (arith, h .regular .shape .long))
+        ∙ ap (λ (m : ℕ). common m (getD (c .row) i 0)) (sym (less-other i k))
+
+    out-by : (i : ℕ) → i < 32 → (i ≡ c .variable → ⊥) → getD out i 0 ≡ minus (getD less i 0) (getD (c .row) i 0)
+    unfolding outerBy outsideTo
+    out-by i l k =
+        ap (λ (l : List ℕ). getD l i 0) (its .outer) ∙ getD-set-other (outsideTo (P .domains) (c .row) 32) (c .variable) i 0 0 k
+        ∙ changed-before 32 (λ j m. minus m (getD (c .row) j 0)) (P .domains) i l (omega (arith, h .regular .shape .long))
+        ∙ ap (λ (m : ℕ). minus m (getD (c .row) i 0)) (sym (less-other i k))
+
+    cut-other : (i : ℕ) → i < n → (i ≡ c .variable → ⊥) → getD cut′ i 0 ≡ common (getD less i 0) (tableOf n d t (c .variable) i (c .value))
+    cut-other i l k = cut-by i (omega (arith, few)) k ∙ rw (h .found .row .other i l k) refl
+
+    out-other : (i : ℕ) → i < n → (i ≡ c .variable → ⊥) → getD out i 0 ≡ minus (getD less i 0) (tableOf n d t (c .variable) i (c .value))
+    out-other i l k = out-by i (omega (arith, few)) k ∙ rw (h .found .row .other i l k) refl
+
+    -- Both together are the whole; past the last variable there is nothing.
+    both : (i : ℕ) → i < 32 → bitOr (getD cut′ i 0) (getD out i 0) ≡ getD less i 0
+    both i l = elim (ℕ-discrete i (c .variable)) [
+      | yes e ↦ rw (e, cut-own, out-own) (or-none (getD less (c .variable) 0))
+      | no k ↦ rw (cut-by i l k, out-by i l k) (or-parts (getD less i 0) (getD (c .row) i 0))
+    ]
+
+    out-past : (i : ℕ) → n ≤ i → i < 32 → getD out i 0 ≡ 0
+    out-past i l k = out-by i k (λ e. omega (arith, below-n)) ∙ rw (less-past i l) (none-minus (getD (c .row) i 0))
 
     -- ---- the piece of a variable
-    module _ (j rest : ℕ) (l : 0 < j) (le : j ≤ n) (g : rest ≡ minus (getD less′ (j - 1) 0) (getD beside (j - 1) 0)) where
+    module _ (j : ℕ) (l : 0 < j) (le : j ≤ n) where
+      abbrev rest : ℕ
+      rest = getD out (j - 1) 0
+
       other-rest : (j - 1 ≡ c .variable → ⊥) → rest ≡ minus (getD less (j - 1) 0) (tableOf n d t (c .variable) (j - 1) (c .value))
-      other-rest k = g ∙ rw (less-is, beside-other (j - 1) (omega arith) k) refl
+      other-rest k = out-other (j - 1) (omega arith) k
 
       -- V's own has nothing left.
       pub rest-other : (rest ≡ 0 → ⊥) → j - 1 ≡ c .variable → ⊥
-      rest-other k e = k (g ∙ rw (less-is, e, beside-own) (minus-all (getD less (c .variable) 0) (less-word (c .variable))))
+      rest-other k e = k (rw e out-own)
 
       -- The candidate in its place.
       candidate-own : j - 1 ≡ c .variable → candidate n (tableOf n d t) P r j ≡ cut P (c .variable) 0
@@ -192,42 +229,36 @@ module _ (n d : ℕ) (t : List ℕ) (P : Subproblem) (c : Choice) (below words :
           ]
 
       -- The piece that the code makes is the candidate.
-      made-at : (D : List ℕ) → FurtherTo less′ beside (j - 1) 16 D → (rest ≡ 0 → ⊥) → (i : ℕ) → i < 32
-          → getD D i 0 ≡ domain (disjunct (tableOf n d t) P (c .variable) (c .value) (j - 1)) i
-      unfolding furtherAt besides
-      made-at D f k i h = its-mask ∙ elim (ℕ-discrete i (j - 1)) [
-        | yes e ↦ rw (le-ltb i (j - 1) (omega arith), eq-eqb i (j - 1) e) (rw e (sym g) ∙ other-rest (rest-other k) ∙ sym here ∙ rw e refl)
-        | no w ↦ elim (decLt i (j - 1)) [
-          | yes b ↦
-              rw (lt-ltb i (j - 1) b) (rw less-is (cut-at b) ∙ sym (changed-before (j - 1) besides less i b (omega (arith, long)))
-              ∙ sym (elsewhere i w))
-          | no b ↦
-              rw (le-ltb i (j - 1) (omega arith), ne-eqb i (j - 1) w, less-is)
-              (sym (changed-after (j - 1) besides less i (omega arith)) ∙ sym (elsewhere i w))
+      module _ (D : List ℕ) (f : JoinedTo cut′ out (j - 1) 32 D) (k : rest ≡ 0 → ⊥) where
+        abbrev made : List ℕ
+        made = set D (j - 1) rest
+
+        made-at : (i : ℕ) → i < 32 → getD made i 0 ≡ domain (disjunct (tableOf n d t) P (c .variable) (c .value) (j - 1)) i
+        unfolding joinedAt besides
+        made-at i h = elim (ℕ-discrete i (j - 1)) [
+          | yes e ↦ rw e (getD-set-same D (j - 1) rest 0 (omega (arith, f .long, few)) ∙ other-rest (rest-other k) ∙ sym here)
+          | no w ↦ getD-set-other D (j - 1) i rest 0 w ∙ f .each i h ∙ elim (decLt i (j - 1)) [
+            | yes b ↦
+                rw (lt-ltb i (j - 1) b) (or-none (getD cut′ i 0) ∙ cut-at i b) ∙ sym (changed-before (j - 1) besides less i b (omega (arith, long)))
+                ∙ sym (elsewhere i w)
+            | no b ↦ rw (le-ltb i (j - 1) (omega arith)) (both i h) ∙ sym (changed-after (j - 1) besides less i (omega arith)) ∙ sym (elsewhere i w)
+          ]
         ]
-      ]
-        where
-          its-mask : getD D i 0 ≡ furtherAt less′ beside (j - 1) i
-          its-mask = elim (decLt i 16) [
-            | yes a ↦ f .low i a
-            | no a ↦ let up : (i - 16) + 16 ≡ i = omega arith in subst (λ (q : ℕ). getD D q 0 ≡ furtherAt less′ beside (j - 1) q) up (f .high (i - 16) (omega arith))
-          ]
+          where
+            cut-at : (i : ℕ) → i < j - 1 → getD cut′ i 0 ≡ cond (eqb i (c .variable)) (getD less i 0) (common (getD less i 0) (tableOf n d t (c .variable) i (c .value)))
+            cut-at i b = elim (ℕ-discrete i (c .variable)) [
+              | yes e ↦ rw (eq-eqb i (c .variable) e, e) cut-own
+              | no w ↦ rw (ne-eqb i (c .variable) w) (cut-other i (omega arith) w)
+            ]
 
-          cut-at : i < j - 1 → common (getD less i 0) (getD beside i 0) ≡ cond (eqb i (c .variable)) (getD less i 0) (common (getD less i 0) (tableOf n d t (c .variable) i (c .value)))
-          cut-at b = elim (ℕ-discrete i (c .variable)) [
-            | yes e ↦ rw (eq-eqb i (c .variable) e, e, beside-own) (all-common (getD less (c .variable) 0) (less-word (c .variable)))
-            | no w ↦ rw (ne-eqb i (c .variable) w, beside-other i (omega arith) w) refl
-          ]
-
-      made-is : (D : List ℕ) (Q : Subproblem) → (rest ≡ 0 → ⊥) → FurtherTo less′ beside (j - 1) 16 D → Q ≡ record { domains = D; marked = P .marked }
-          → Q ≡ candidate n (tableOf n d t) P r j
-      unfolding disjunct without cutBeside
-      made-is D Q k f q =
-          let all : D ≡ disjunct (tableOf n d t) P (c .variable) (c .value) (j - 1) .domains =
-          ext-getD 0 _ _ (f .long ∙ sym (length-set (cutDown (j - 1)) (j - 1) _ ∙ rw (cut-is (j - 1), length-changed (j - 1) besides less) long)) (λ i h. made-at D f k i (omega (arith, f .long))) in
-          let same : record { domains = D; marked = P .marked } ≡ disjunct (tableOf n d t) P (c .variable) (c .value) (j - 1) =
-          λ i. record { domains = all i; marked = P .marked } in
-          q ∙ same ∙ sym (candidate-other (rest-other k))
+        pub made-is : record { domains = made; marked = P .marked } ≡ candidate n (tableOf n d t) P r j
+        unfolding disjunct without cutBeside
+        made-is =
+            let all : made ≡ disjunct (tableOf n d t) P (c .variable) (c .value) (j - 1) .domains =
+            ext-getD 0 _ _ (length-set D (j - 1) rest ∙ f .long ∙ sym (length-set (cutDown (j - 1)) (j - 1) _ ∙ rw (cut-is (j - 1), length-changed (j - 1) besides less) long)) (λ i h. made-at i (omega (arith, length-set D (j - 1) rest, f .long))) in
+            let same : record { domains = made; marked = P .marked } ≡ disjunct (tableOf n d t) P (c .variable) (c .value) (j - 1) =
+            λ i. record { domains = all i; marked = P .marked } in
+            same ∙ sym (candidate-other (rest-other k))
 
       -- ---- a turn of the loop
       module _ (before agenda : List ℕ) (at : ℕ) (whole : length before ≡ words) (room : RoomFor n d t P c 3 below words) (so-far : Gathered n d t P r before below agenda at (j + 1)) where
@@ -244,24 +275,27 @@ module _ (n d : ℕ) (t : List ℕ) (P : Subproblem) (c : Choice) (below words :
             (candidate n (tableOf n d t) P r j) (subst (λ (k : ℕ). Piece P n d t r k (candidate n (tableOf n d t) P r j)) (sym back) (piece-of j _ (omega arith) refl))
             true (sym (none-left z)) refl)
 
-        module _ (D : List ℕ) (Q : Subproblem) (k : rest ≡ 0 → ⊥) (f : FurtherTo less′ beside (j - 1) 16 D) (q : Q ≡ record { domains = D; marked = P .marked }) where
+        module _ (D : List ℕ) (k : rest ≡ 0 → ⊥) (f : JoinedTo cut′ out (j - 1) 32 D) where
+          abbrev Q : Subproblem
+          Q = record { domains = set D (j - 1) rest; marked = P .marked }
+
           its-piece : Piece P n d t r ((j + 1) - 1) Q
-          its-piece = subst (λ (i : ℕ). Piece P n d t r i Q) (sym back) (piece-of j Q (omega arith) (made-is D Q k f q))
+          its-piece = subst (λ (i : ℕ). Piece P n d t r i Q) (sym back) (piece-of j Q (omega arith) (made-is D f k))
 
           its-filled : false ≡ empty n Q
-          its-filled = sym (rw (made-is D Q k f q) (some-rest k))
+          its-filled = sym (rw (made-is D f k) (some-rest k))
 
           pub spread-slot : SlotIn n at (length agenda)
           spread-slot =
               gather-slot n d t P r reads before below agenda at (j + 1) so-far (n + 1) its-named (omega arith) (omega arith) Q its-piece false its-filled refl few
               (rw whole room)
 
-          pub spread-keep : (after : List ℕ) → length (Q .domains) ≡ 32 → after ≡ splice agenda (at * (n + 2)) (slotWords n Q) → length after ≡ length agenda
+          pub spread-keep : (after : List ℕ) → after ≡ splice agenda (at * (n + 2)) (slotWords n Q) → length after ≡ length agenda
               → Gathered n d t P r before below after (at + 1) ((j - 1) + 1)
-          spread-keep after l w m =
+          spread-keep after w m =
               subst (λ (i : ℕ). Gathered n d t P r before below after (at + 1) i) down
               (gather-keep n d t P r reads before below agenda at (j + 1) so-far (n + 1) its-named (omega arith) (omega arith) Q its-piece false its-filled refl after few
-              (rw whole room) l w m)
+              (rw whole room) (length-set D (j - 1) rest ∙ f .long) w m)
 
   -- ---- the start and the end
   module _ (before : List ℕ) (whole : length before ≡ words) (room : RoomFor n d t P c 3 below words) where
@@ -297,32 +331,28 @@ module _ (n d : ℕ) (t : List ℕ) (P : Subproblem) (c : Choice) (below words :
           some (rw whole room)
 
   -- ---- how many they are
-  module _ (less′ beside : List ℕ) (its : less′ ≡ without P (c .variable) (getD (c .row) (c .variable) 0) .domains) (row : beside ≡ set (c .row) (c .variable) 65535) where
+  module _ (cut′ out : List ℕ) (its : Spread P c cut′ out) where
     -- One for each variable before j with values outside the row, and the first.
     first-kept : empty n (candidate n (tableOf n d t) P r 0) ≡ false
     unfolding candidate inferred
     first-kept = put-kept n d t P c below words h s
 
-    outside : ℕ → ℕ
-    outside j = minus (getD less′ j 0) (getD beside j 0)
-
     one-more : (j : ℕ) → j < n
-        → length (firsts n (candidate n (tableOf n d t) P r) (suc j + 1)) ≡ length (firsts n (candidate n (tableOf n d t) P r) (suc j)) + cond (eqb (outside j) 0) 0 1
-    unfolding outside
-    one-more j k = elim (ℕ-discrete (minus (getD less′ j 0) (getD beside j 0)) 0) [
+        → length (firsts n (candidate n (tableOf n d t) P r) (suc j + 1)) ≡ length (firsts n (candidate n (tableOf n d t) P r) (suc j)) + cond (eqb (getD out j 0) 0) 0 1
+    one-more j k = elim (ℕ-discrete (getD out j 0) 0) [
       | yes z ↦
-          ap length (firsts-drop n (candidate n (tableOf n d t) P r) (suc j) (none-left less′ beside its row (suc j) _ (omega arith) k at z))
-          ∙ rw (eq-eqb (minus (getD less′ j 0) (getD beside j 0)) 0 z) (omega arith)
+          ap length (firsts-drop n (candidate n (tableOf n d t) P r) (suc j) (none-left cut′ out its (suc j) (omega arith) k (at ∙ z)))
+          ∙ rw (eq-eqb (getD out j 0) 0 z) (omega arith)
       | no z ↦
-          ap length (firsts-keep n (candidate n (tableOf n d t) P r) (suc j) (some-rest less′ beside its row (suc j) _ (omega arith) k at z))
-          ∙ rw (length-append, ne-eqb (minus (getD less′ j 0) (getD beside j 0)) 0 z) refl
+          ap length (firsts-keep n (candidate n (tableOf n d t) P r) (suc j) (some-rest cut′ out its (suc j) (omega arith) k (λ e. z (sym at ∙ e))))
+          ∙ rw (length-append, ne-eqb (getD out j 0) 0 z) refl
     ]
       where
-        at : minus (getD less′ j 0) (getD beside j 0) ≡ minus (getD less′ (suc j - 1) 0) (getD beside (suc j - 1) 0)
+        at : getD out (suc j - 1) 0 ≡ getD out j 0
         at = let back : suc j - 1 ≡ j = omega arith in rw back refl
 
-    so-many : (j : ℕ) → j ≤ n → length (firsts n (candidate n (tableOf n d t) P r) (suc j)) ≡ exceeding less′ beside j + 1
-    unfolding exceeding total outside
+    so-many : (j : ℕ) → j ≤ n → length (firsts n (candidate n (tableOf n d t) P r) (suc j)) ≡ filled out j + 1
+    unfolding filled total
     so-many zero k = ap length (firsts-keep n (candidate n (tableOf n d t) P r) 0 first-kept) ∙ start
       where
         start : length (firsts n (candidate n (tableOf n d t) P r) 0 ++ (candidate n (tableOf n d t) P r 0 ∷ [])) ≡ 0 + 1
@@ -332,16 +362,15 @@ module _ (n d : ℕ) (t : List ℕ) (P : Subproblem) (c : Choice) (below words :
         ap (λ (x : ℕ). length (firsts n (candidate n (tableOf n d t) P r) x)) up ∙ one-more j k ∙ rw (so-many j (omega arith)) (omega arith)
 
     -- None past the last variable.
-    past-none : (j : ℕ) → exceeding less′ beside (n + j) ≡ exceeding less′ beside n
-    unfolding exceeding total minus
-    past-none zero = ap (exceeding less′ beside) (add-zero n)
-    past-none (suc j) =
+    past-none : (j : ℕ) → n + j ≤ 32 → filled out (n + j) ≡ filled out n
+    unfolding filled total
+    past-none zero k = ap (filled out) (add-zero n)
+    past-none (suc j) k =
         let up : n + suc j ≡ suc (n + j) = omega arith in
-        let none : getD less′ (n + j) 0 - common (getD less′ (n + j) 0) (getD beside (n + j) 0) ≡ 0 = rw (less-is less′ beside its row, less-past (n + j) (omega arith)) (omega arith) in
-        rw (up, past-none j, eq-eqb (getD less′ (n + j) 0 - common (getD less′ (n + j) 0) (getD beside (n + j) 0)) 0 none) (omega arith)
+        rw (up, past-none j (omega arith), eq-eqb (getD out (n + j) 0) 0 (out-past cut′ out its (n + j) (omega arith) (omega arith))) (omega arith)
 
-    pub count-three : length (pieces n (tableOf n d t) P r) ≡ exceeding less′ beside 32 + 1
+    pub count-three : length (pieces n (tableOf n d t) P r) ≡ filled out 32 + 1
     unfolding candidates
     count-three =
         let end : n + (32 - n) ≡ 32 = omega (arith, few) in
-        ap length (pieces-are n d t P r reads (h .regular .shape .long)) ∙ (let up : n + 1 ≡ suc n = omega arith in ap (λ (x : ℕ). length (firsts n (candidate n (tableOf n d t) P r) x)) up) ∙ so-many n (le-refl n) ∙ ap (λ (k : ℕ). k + 1) (sym (rw end at (past-none (32 - n))))
+        ap length (pieces-are n d t P r reads (h .regular .shape .long)) ∙ (let up : n + 1 ≡ suc n = omega arith in ap (λ (x : ℕ). length (firsts n (candidate n (tableOf n d t) P r) x)) up) ∙ so-many n (le-refl n) ∙ ap (λ (k : ℕ). k + 1) (sym (rw end at (past-none (32 - n) (omega arith))))

@@ -1,12 +1,13 @@
 // The lent agenda: slots of n + 2 words, slot 0 the bottom. Slots are read, written and cleared here and nowhere else.
+use crate::lanes;
 use splits::subproblem::Subproblem;
 ghost use mathlib.Core.Path.{_≡_};
 ghost use Prim.Native.Nat.{ℕ, _+_, _*_, _≤_, _<_};
 ghost use mathlib.Core.List.{_++_};
-ghost use lib.ListN.{length, take, drop, replicate};
+ghost use lib.ListN.{length, take, drop, set, replicate};
 ghost use Rattle.search.specs.Agenda.{holding, slotWords, subproblemOf, slotAt, slotsIn};
 ghost use Rattle.search.specs.Work.Slots.{splice, SlotIn};
-ghost use Rattle.search.specs.Work.Lanes.{Below, Kept, KeptTo};
+ghost use Rattle.search.specs.Work.Lanes.{Below, KeptTo};
 
 // The subproblem of the first `n` words as domains.
 pub(crate) fn holding(n: usize, words: &[u16], marked: u32) -> Subproblem
@@ -47,13 +48,6 @@ pub(crate) fn read_slot(n: usize, agenda: &[u16], k: usize) -> Subproblem
     subproblem_of(n, &agenda[at..end])
 }
 
-// A word if all bits keep it, none if none does.
-fn kept(word: u16, lane: u16) -> u16
-    ensures { λ r. ⌜ Kept word lane r ⌝ }
-{
-    word & lane
-}
-
 // The first 32 words, each kept by its own.
 fn kept_words(lanes: [u16; 32], words: &[u16]) -> [u16; 32]
     requires { ⌜ 32 ≤ length (now words) ⌝ }
@@ -62,7 +56,7 @@ fn kept_words(lanes: [u16; 32], words: &[u16]) -> [u16; 32]
     let mut domains = [0u16; 32];
     let mut i = 0;
     while i < 32 {
-        domains[i] = kept(words[i], lanes[i]);
+        domains[i] = lanes::kept(words[i], lanes[i]);
         i += 1;
     }
     domains
@@ -135,6 +129,16 @@ pub(crate) fn write_slot(n: usize, agenda: &mut [u16], k: usize, p: Subproblem)
     let at = k * (n + 2);
     let end = at + (n + 2);
     put_words(n, &mut agenda[at..end], p);
+}
+
+// Slot `k` holds the subproblem with another mask for variable `j`.
+pub(crate) fn write_but(n: usize, agenda: &mut [u16], k: usize, p: Subproblem, j: usize, mask: u16)
+    requires { ⌜ SlotIn n k (length (now agenda)) × (j < n) ⌝ }
+    ensures { λ r. ⌜ now (agenda .exit) ≡ splice (now (agenda .entry)) (k * (n + 2)) (slotWords n (record { domains = set (p .domains) j mask; marked = p .marked })) ⌝ }
+{
+    write_slot(n, agenda, k, p);
+    let at = k * (n + 2) + j;
+    agenda[at] = mask;
 }
 
 // Slot `k` holds zeros.

@@ -12,7 +12,7 @@ use splits::subproblem::Subproblem;
 ghost use mathlib.Core.Path.{_≡_};
 ghost use mathlib.Core.Bool.{true, false};
 ghost use Prim.Native.Nat.{ℕ, _+_, _-_, _^_, _<_, _≤_};
-ghost use lib.ListN.{length, getD, set};
+ghost use lib.ListN.{length};
 ghost use Rattle.splits.specs.Masks.{size};
 ghost use Rattle.splits.specs.Problem.{tableOf, total};
 ghost use Rattle.splits.specs.Subproblems.{domain, instantiated};
@@ -21,7 +21,7 @@ ghost use Rattle.search.specs.Work.Slots.{SlotIn};
 ghost use Rattle.search.specs.Work.Kept.{Fitting, Regular};
 ghost use Rattle.search.specs.Work.Steps.{Replaced, Taking};
 ghost use Rattle.search.specs.Work.Lanes.{Rows};
-ghost use Rattle.search.specs.Work.Found.{Found, AtTop, RoomFor, Spread, Puts, requestBy, precludedBy, leftBy, several, TakesChosen};
+ghost use Rattle.search.specs.Work.Found.{Found, AtTop, RoomFor, innerBy, outerBy, Spread, Puts, requestBy, precludedBy, leftBy, several, TakesChosen};
 
 // What the chooser finds of a top subproblem: the variable and its value, how many values the variable has, what is allowed
 // beside the value, and whether the precluded piece is empty.
@@ -96,26 +96,24 @@ fn settle(top: Subproblem, n: usize, agenda: &mut [u16], choice: Choice, below: 
     below + 1
 }
 
-// The domains with V's without its value.
-fn lessened(top: Subproblem, choice: Choice) -> [u16; 32]
-    requires { ⌜ choice .variable < 32 ⌝ }
-    ensures { λ r. ⌜ r ≡ without top (choice .variable) (getD (choice .row) (choice .variable) 0) .domains ⌝ }
+// What the further pieces keep of each domain before their variable: what the row allows, and of V its other values.
+fn inner(whole: [u16; 32], row: [u16; 32], variable: usize) -> [u16; 32]
+    requires { ⌜ variable < 32 ⌝ }
+    ensures { λ r. ⌜ r ≡ innerBy whole row variable ⌝ }
 {
-    let variable = choice.variable;
-    let row = choice.row;
-    let less = top.without(variable, row[variable]);
-    less.domains
+    let mut cut = lanes::cut(whole, row);
+    cut[variable] = lanes::outside(whole[variable], row[variable]);
+    cut
 }
 
-// The row with every value for V itself.
-fn beside(choice: Choice) -> [u16; 32]
-    requires { ⌜ choice .variable < 32 ⌝ }
-    ensures { λ r. ⌜ r ≡ set (choice .row) (choice .variable) 65535 ⌝ }
+// What they have of their variable: what is outside the row, and of V nothing.
+fn outer(whole: [u16; 32], row: [u16; 32], variable: usize) -> [u16; 32]
+    requires { ⌜ variable < 32 ⌝ }
+    ensures { λ r. ⌜ r ≡ outerBy whole row variable ⌝ }
 {
-    let mut row = choice.row;
-    let variable = choice.variable;
-    row[variable] = 65535;
-    row
+    let mut out = lanes::outsides(whole, row);
+    out[variable] = 0;
+    out
 }
 
 // Kind 3's pieces, the last named in the place of the top, the others above; the number of subproblems then.
@@ -126,21 +124,22 @@ fn spread(
     tables: &[u16],
     agenda: &mut [u16],
     choice: Choice,
-    less: [u16; 32],
-    row: [u16; 32],
+    cut: [u16; 32],
+    out: [u16; 32],
     below: usize,
 ) -> usize
-    requires { ⌜ AtTop n d (now tables) top choice below (length (now agenda)) × (RoomFor n d (now tables) top choice 3 below (length (now agenda)) × Spread top choice less row) ⌝ }
+    requires { ⌜ AtTop n d (now tables) top choice below (length (now agenda)) × (RoomFor n d (now tables) top choice 3 below (length (now agenda)) × Spread top choice cut out) ⌝ }
     ensures { λ r. ⌜ Replaced n (pieces n (tableOf n d (now (tables .entry))) top (requestBy choice 3)) below (now (agenda .entry)) (now (agenda .exit)) r ⌝ }
 {
     let marked = top.marked;
+    let sides = lanes::sides();
     let mut at = below;
     let mut j = n;
     while 0 < j {
         j -= 1;
-        if lanes::outside(less[j], row[j]) != 0 {
-            let domains = lanes::further(less, row, j);
-            agenda::write_slot(n, agenda, at, Subproblem { domains, marked });
+        if out[j] != 0 {
+            let domains = lanes::joined(cut, out, &sides, j);
+            agenda::write_but(n, agenda, at, Subproblem { domains, marked }, j, out[j]);
             at += 1;
         }
     }
@@ -188,12 +187,14 @@ fn divide(
     ensures { λ r. ⌜ Puts n d (now (tables .entry)) top below (now (agenda .entry)) (now (agenda .exit)) r ⌝ }
 {
     let free = agenda.len() / (n + 2) - below;
-    let less = lessened(top, choice);
-    let row = beside(choice);
-    if (lanes::exceeding(less, row) as usize) < free {
+    let whole = top.domains;
+    let row = choice.row;
+    let cut = inner(whole, row, choice.variable);
+    let out = outer(whole, row, choice.variable);
+    if (lanes::filled(out) as usize) < free {
         return Left {
             refusal: 0,
-            subproblems: spread(top, n, d, tables, agenda, choice, less, row, below),
+            subproblems: spread(top, n, d, tables, agenda, choice, cut, out, below),
         };
     }
     if free < 2 {

@@ -6,7 +6,7 @@ ghost use lib.ListN.{getD};
 ghost use lib.Dec.{eqb};
 ghost use Rattle.splits.specs.Masks.{bit, minus, size};
 ghost use Rattle.splits.specs.Problem.{total};
-ghost use Rattle.search.specs.Work.Lanes.{Half, Beyond, Below, LeastKey, lost, loses, cutTo, Sided, partOf, FurtherTo, exceeding};
+ghost use Rattle.search.specs.Work.Lanes.{Half, Beyond, Below, Kept, LeastKey, lost, loses, cutTo, outsideTo, Sides, JoinedTo, filled};
 
 fn least(a: u16, b: u16) -> u16
     ensures { λ r. ⌜ r ≡ min a b ⌝ }
@@ -54,6 +54,13 @@ pub(crate) fn below(n: usize) -> [u16; 32]
         i += 1;
     }
     lanes
+}
+
+// A word if all bits keep it, none if none does.
+pub(crate) fn kept(word: u16, lane: u16) -> u16
+    ensures { λ r. ⌜ Kept word lane r ⌝ }
+{
+    word & lane
 }
 
 // What puts an instantiated variable after all others.
@@ -143,59 +150,60 @@ pub(crate) fn cut(mut domains: [u16; 32], row: [u16; 32]) -> [u16; 32]
     domains
 }
 
-// A mask, or of a variable in the half of a set all that is outside it.
-fn sided(mask: u16, half: u16, i: usize) -> u16
-    requires { ⌜ i < 16 ⌝ }
-    ensures { λ r. ⌜ Sided mask (bit half i) r ⌝ }
+// The values of each domain outside its own mask.
+pub(crate) fn outsides(mut domains: [u16; 32], row: [u16; 32]) -> [u16; 32]
+    ensures { λ r. ⌜ r ≡ outsideTo domains row 32 ⌝ }
 {
-    if (half >> i) % 2 == 1 { !mask } else { mask }
-}
-
-// A domain of the piece for a variable: cut to its mask before it, at the values outside the mask for it, whole after it.
-fn part(whole: u16, mask: u16, i: usize, at: u16, after: u16) -> u16
-    requires { ⌜ i < 16 ⌝ }
-    ensures { λ r. ⌜ r ≡ partOf whole mask (bit at i) (bit after i) ⌝ }
-{
-    let sided = sided(mask, at, i);
-    if (after >> i) % 2 == 1 {
-        whole
-    } else {
-        whole & sided
-    }
-}
-
-// All of them, for variable `j`.
-pub(crate) fn further(domains: [u16; 32], row: [u16; 32], j: usize) -> [u16; 32]
-    requires { ⌜ j < 32 ⌝ }
-    ensures { λ r. ⌜ FurtherTo domains row j 16 r ⌝ }
-{
-    let at: u32 = 1 << j;
-    let after = beyond(j + 1);
-    let mut piece = domains;
     let mut i = 0;
-    while i < 16 {
-        piece[i] = part(domains[i], row[i], i, low_of(at), low_of(after));
-        piece[i + 16] = part(domains[i + 16], row[i + 16], i, high_of(at), high_of(after));
+    while i < 32 {
+        domains[i] = outside(domains[i], row[i]);
+        i += 1;
+    }
+    domains
+}
+
+// No bits in 32 lanes, then all in 32: from lane 32 - j on, all bits for each variable from j on and none for those before.
+pub(crate) fn sides() -> [u16; 64]
+    ensures { λ r. ⌜ Sides 64 r ⌝ }
+{
+    let mut lanes = [0u16; 64];
+    let mut i = 32;
+    while i < 64 {
+        lanes[i] = 65535;
+        i += 1;
+    }
+    lanes
+}
+
+// Each mask as it is cut, from variable `j` on joined with what is outside.
+pub(crate) fn joined(cut: [u16; 32], out: [u16; 32], sides: &[u16], j: usize) -> [u16; 32]
+    requires { ⌜ (j ≤ 32) × Sides 64 (now sides) ⌝ }
+    ensures { λ r. ⌜ JoinedTo cut out j 32 r ⌝ }
+{
+    let mut piece = cut;
+    let mut i = 0;
+    while i < 32 {
+        piece[i] = cut[i] | kept(out[i], sides[32 - j + i]);
         i += 1;
     }
     piece
 }
 
-// Whether a domain has values outside a mask: 1 if so, else 0.
-fn excess(domain: u16, mask: u16) -> u16
-    ensures { λ r. ⌜ (r ≡ cond (eqb (minus domain mask) 0) 0 1) × (r ≤ 1) ⌝ }
+// Whether there are values: 1 if so, else 0.
+fn one_if(values: u16) -> u16
+    ensures { λ r. ⌜ (r ≡ cond (eqb values 0) 0 1) × (r ≤ 1) ⌝ }
 {
-    if outside(domain, mask) == 0 { 0 } else { 1 }
+    if values == 0 { 0 } else { 1 }
 }
 
-// How many have, each outside its own.
-pub(crate) fn exceeding(domains: [u16; 32], row: [u16; 32]) -> u16
-    ensures { λ r. ⌜ r ≡ exceeding domains row 32 ⌝ }
+// How many of the masks have values.
+pub(crate) fn filled(out: [u16; 32]) -> u16
+    ensures { λ r. ⌜ r ≡ filled out 32 ⌝ }
 {
     let mut sum: u16 = 0;
     let mut i = 0;
     while i < 32 {
-        sum += excess(domains[i], row[i]);
+        sum += one_if(out[i]);
         i += 1;
     }
     sum

@@ -6,7 +6,7 @@ use Prim.Native.Nat.{ℕ, _+_, _-_, _*_, _≤_}
 use lib.Bits.{bitOr}
 use lib.ListN.{length, getD, set}
 use lib.Dec.{eqb, ltb}
-use Rattle.splits.specs.Masks.{single, size, lowest}
+use Rattle.splits.specs.Masks.{single, minus, size, lowest}
 use Rattle.splits.specs.Problem.{tableOf}
 use Rattle.splits.specs.Subproblems.{domain, empty, instantiated}
 use Rattle.splits.specs.Splits.{precluded, without, pieces}
@@ -17,7 +17,7 @@ use Rattle.search.specs.Work.Slots.{SlotIn}
 use Rattle.search.specs.Work.Kept.{Fitting, Regular}
 use Rattle.search.specs.Work.Choices.{chosenFor}
 use Rattle.search.specs.Work.Steps.{TakesOne, Replaced}
-use Rattle.search.specs.Work.Lanes.{RowOf, cutTo}
+use Rattle.search.specs.Work.Lanes.{RowOf, cutTo, outsideTo}
 use Rattle.search.specs.declared.state.State.{State}
 use Rattle.search.specs.declared.step.Stop.{Stop}
 use Rattle.search.specs.declared.choice.Choice.{Choice}
@@ -60,11 +60,18 @@ pub record AtTop (n d : ℕ) (tables : List ℕ) (P : Subproblem) (c : Choice) (
 abbrev pub RoomFor : ℕ → ℕ → List ℕ → Subproblem → Choice → ℕ → ℕ → ℕ → Type 0
 RoomFor n d tables P c kind below words = (below + length (pieces n (tableOf n d tables) P (requestBy c kind))) * (n + 2) ≤ words
 
--- What kind 3's further pieces are made of, where several may be left: the domains with V's without its value, and the row with every value for V itself.
-pub record Spread (P : Subproblem) (c : Choice) (less row : List ℕ) : Type 0 where
+-- What the further pieces keep of the domains before their variable, and what they have of their variable: for V its other values, and nothing.
+unfoldable pub innerBy : List ℕ → List ℕ → ℕ → List ℕ
+innerBy masks row V′ = set (cutTo masks row 32) V′ (minus (getD masks V′ 0) (getD row V′ 0))
+
+unfoldable pub outerBy : List ℕ → List ℕ → ℕ → List ℕ
+outerBy masks row V′ = set (outsideTo masks row 32) V′ 0
+
+-- What they are made of, where several pieces may be left.
+pub record Spread (P : Subproblem) (c : Choice) (cut out : List ℕ) : Type 0 where
   pub several : several c ≡ true
-  pub domains : less ≡ without P (c .variable) (getD (c .row) (c .variable) 0) .domains
-  pub beside : row ≡ set (c .row) (c .variable) 65535
+  pub inner : cut ≡ innerBy (P .domains) (c .row) (c .variable)
+  pub outer : out ≡ outerBy (P .domains) (c .row) (c .variable)
 
 -- The pieces of the request that the rule chooses in the place of the top, if they have room.
 pub record Puts (n d : ℕ) (tables : List ℕ) (P : Subproblem) (below : ℕ) (before after : List ℕ) (r : Left) : Type 0 where

@@ -3,7 +3,8 @@ use mathlib.Core.Path.{_≡_}
 use mathlib.Core.Logic.{_⊎_}
 use mathlib.Core.Bool.{Bool, not, cond, _&&_}
 use mathlib.Core.List.{List, []}
-use Prim.Native.Nat.{ℕ, _+_, _*_, _^_, _≤_, _<_}
+use Prim.Native.Nat.{ℕ, _+_, _*_, _≤_, _<_}
+use lib.Bits.{bitOr}
 use lib.ListN.{length, getD}
 use lib.Dec.{eqb, ltb}
 use Rattle.splits.specs.Masks.{bit, single, common, minus, size}
@@ -57,28 +58,28 @@ loses masks row = some 32 (λ i. lost (getD masks i 0) (getD row i 0))
 unfoldable pub cutTo : List ℕ → List ℕ → ℕ → List ℕ
 cutTo masks row i = changed i (λ j m. common m (getD row j 0)) masks
 
--- What cuts as a mask does or, where a test is 1, takes away what the mask keeps.
-abbrev pub Sided : ℕ → ℕ → ℕ → Type 0
-Sided mask test r = (m : ℕ) → m < 2 ^ 16 → common m r ≡ cond (eqb test 1) (minus m mask) (common m mask)
+-- What is left of the first i masks outside their own of a row.
+unfoldable pub outsideTo : List ℕ → List ℕ → ℕ → List ℕ
+outsideTo masks row i = changed i (λ j m. minus m (getD row j 0)) masks
 
--- A mask of the piece for a variable, by whether it is that variable's and whether a later one's: cut to its own before it, the rest for it, whole after it.
-unfoldable pub partOf : ℕ → ℕ → ℕ → ℕ → ℕ
-partOf m mask at after = cond (eqb after 1) m (cond (eqb at 1) (minus m mask) (common m mask))
+-- Of 64 lanes the first 32 have no bits, those from there up to i all.
+pub record Sides (i : ℕ) (lanes : List ℕ) : Type 0 where
+  pub long : length lanes ≡ 64
+  pub none : (j : ℕ) → j < 32 → getD lanes j 0 ≡ 0
+  pub all : (j : ℕ) → 32 ≤ j → j < i → getD lanes j 0 ≡ 65535
 
--- The piece for variable j: mask i of it.
-unfoldable pub furtherAt : List ℕ → List ℕ → ℕ → ℕ → ℕ
-furtherAt masks row j i =
-    cond (ltb i j) (common (getD masks i 0) (getD row i 0)) (cond (eqb i j) (minus (getD masks i 0) (getD row i 0)) (getD masks i 0))
+-- Mask i as it is cut, from variable j on joined with what is outside.
+unfoldable pub joinedAt : List ℕ → List ℕ → ℕ → ℕ → ℕ
+joinedAt cut out j i = bitOr (getD cut i 0) (cond (ltb i j) 0 (getD out i 0))
 
--- Its first i masks and the i from 16 on.
-pub record FurtherTo (masks row : List ℕ) (j i : ℕ) (r : List ℕ) : Type 0 where
+-- The first i masks so.
+pub record JoinedTo (cut out : List ℕ) (j i : ℕ) (r : List ℕ) : Type 0 where
   pub long : length r ≡ 32
-  pub low : (k : ℕ) → k < i → getD r k 0 ≡ furtherAt masks row j k
-  pub high : (k : ℕ) → k < i → getD r (k + 16) 0 ≡ furtherAt masks row j (k + 16)
+  pub each : (k : ℕ) → k < i → getD r k 0 ≡ joinedAt cut out j k
 
--- How many of the first i masks have values outside their own of a row.
-unfoldable pub exceeding : List ℕ → List ℕ → ℕ → ℕ
-exceeding masks row i = total i (λ j. cond (eqb (minus (getD masks j 0) (getD row j 0)) 0) 0 1)
+-- How many of the first i masks have values.
+unfoldable pub filled : List ℕ → ℕ → ℕ
+filled masks i = total i (λ j. cond (eqb (getD masks j 0) 0) 0 1)
 
 -- The row of v of V: what each other variable may hold beside it, and for V itself v alone.
 pub record RowOf (n : ℕ) (allowed : Table) (V′ v : ℕ) (row : List ℕ) : Type 0 where

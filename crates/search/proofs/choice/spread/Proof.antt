@@ -1,6 +1,6 @@
 -- `search::choice::spread` meets its contract. The invariant: the pieces of the variables from j on are placed.
 -- Assumes nothing.
-use mathlib.Core.Path.{_≡_, refl}
+use mathlib.Core.Path.{_≡_}
 use Prim.Native.Nat.{_≤_, _+_}
 use native.Mathlib.Omega.{arith}
 use lib.ListN.{length}
@@ -14,67 +14,70 @@ use Rattle.search.proofs.choice.spread.Statement.{statement}
 use Rattle.search.proofs.choice.spread.Tie as tie
 
 abbrev Inv-loop : tie.InvT-loop
-Inv-loop top n d tables agenda₀ choice below less row marked at₀ j₀ agenda at j = (j ≤ n) × Gathered n d tables top (request 3 (choice .variable) (choice .value)) agenda₀ below agenda at (j + 1)
+Inv-loop top n d tables agenda₀ choice cut below out marked sides at₀ j₀ agenda at j = (j ≤ n) × Gathered n d tables top (request 3 (choice .variable) (choice .value)) agenda₀ below agenda at (j + 1)
 
 abbrev μ-loop : tie.MeasureT-loop
-μ-loop top n d tables agenda₀ choice below less row marked at₀ j₀ agenda at j = j
+μ-loop top n d tables agenda₀ choice cut below out marked sides at₀ j₀ agenda at j = j
+
+sides-requires : tie.Need-sides-requires Inv-loop μ-loop
+sides-requires c κs = search needs
 
 loop-holds : tie.Need-loop-holds Inv-loop μ-loop
-loop-holds c = let k = c .before .before .pre in (search needs, spread-none _ _ _ _ _ _ _ (k .0) (k .1 .1 .several) _ (omega arith) (k .1 .0))
+loop-holds c = let k = c .before .before .before .pre in (search needs, spread-none _ _ _ _ _ _ _ (k .0) (k .1 .1 .several) _ (omega arith) (k .1 .0))
 
 sub-j : tie.Need-sub-j Inv-loop μ-loop
 sub-j c = search needs
 
-mul-outside : tie.Need-mul-outside Inv-loop μ-loop
-mul-outside c = search needs
+mul-if1 : tie.Need-mul-if1 Inv-loop μ-loop
+mul-if1 c = search needs
 
-array-read-outside : tie.Need-array-read-outside Inv-loop μ-loop
-array-read-outside c = let k = c .before .before .before .before .pre .0 .fitting .few in search needs
+array-read-if1 : tie.Need-array-read-if1 Inv-loop μ-loop
+array-read-if1 c = let k = c .before .before .before .before .before .pre .0 .fitting .few in search needs
 
-mul-outside-2 : tie.Need-mul-outside-2 Inv-loop μ-loop
-mul-outside-2 c = search needs
+slice-aggregate-joined : tie.Need-slice-aggregate-joined Inv-loop μ-loop
+slice-aggregate-joined c = search needs
 
-array-read-outside-2 : tie.Need-array-read-outside-2 Inv-loop μ-loop
-array-read-outside-2 c = let k = c .before .before .before .before .pre .0 .fitting .few in search needs
+joined-requires : tie.Need-joined-requires Inv-loop μ-loop
+joined-requires c κs = let k = c .before .before .before .before .before .before .before .pre .0 .fitting .few in (omega arith, c .before .before .before .before .sides .ensures)
 
-outside-requires : tie.Need-outside-requires Inv-loop μ-loop
-outside-requires c κs = search needs
+mul-write-but : tie.Need-mul-write-but Inv-loop μ-loop
+mul-write-but c = search needs
 
-further-requires : tie.Need-further-requires Inv-loop μ-loop
-further-requires c κs = let k = c .before .before .before .before .before .before .pre .0 .fitting .few in omega arith
+array-read-write-but : tie.Need-array-read-write-but Inv-loop μ-loop
+array-read-write-but c = let k = c .before .before .before .before .before .before .before .before .before .pre .0 .fitting .few in search needs
 
-write-slot-requires : tie.Need-write-slot-requires Inv-loop μ-loop
-write-slot-requires c κs = let k = c .before .before .before .before .before .before .before .before .pre in let inv = c .before .before .before .before .before .loop .inv in spread-slot _ _ _ _ _ _ _ (k .0) (k .1 .1 .several) _ _ (k .1 .1 .domains) (k .1 .1 .beside) _ _ (c .before .before .before .before .loop-test .taken) (inv .0) (c .before .before .before .outside .ensures) _ _ _ (omega arith) (k .1 .0) (inv .1) _ _ (c .before .before .if1 .taken) (c .before .further .ensures) refl
+write-but-requires : tie.Need-write-but-requires Inv-loop μ-loop
+write-but-requires c κs = let k = c .before .before .before .before .before .before .before .before .before .pre in let inv = c .before .before .before .before .before .loop .inv in (spread-slot _ _ _ _ _ _ _ (k .0) (k .1 .1 .several) _ _ (k .1 .1) _ (c .before .before .before .before .loop-test .taken) (inv .0) _ _ _ (omega arith) (k .1 .0) (inv .1) _ (c .before .before .before .if1 .taken) (c .before .joined .ensures), omega arith)
 
 add-at : tie.Need-add-at Inv-loop μ-loop
-add-at c = let k = c .before .before .before .before .before .before .before .before .before .before .before .pre in let inv = c .before .before .before .before .before .before .before .before .loop .inv in let slot = spread-slot _ _ _ _ _ _ _ (k .0) (k .1 .1 .several) _ _ (k .1 .1 .domains) (k .1 .1 .beside) _ _ (c .before .before .before .before .before .before .before .loop-test .taken) (inv .0) (c .before .before .before .before .before .before .outside .ensures) _ _ _ (omega arith) (k .1 .0) (inv .1) _ _ (c .before .before .before .before .before .if1 .taken) (c .before .before .before .before .further .ensures) refl in let inside : c .before .before .before .before .before .before .before .before .loop .at + 1 ≤ length (c .before .before .before .before .before .before .before .before .before .before .before .args .agenda .now) = omega (arith, slot-end _ _ _ slot, inv .1 .same) in let good = c .before .before .before .before .before .before .before .before .before .before .before .good in let blocks = c .before .before .before .before .before .before .before .before .before .before .before .blocks in search needs
+add-at c = let k = c .before .before .before .before .before .before .before .before .before .before .before .before .pre in let inv = c .before .before .before .before .before .before .before .before .loop .inv in let slot = spread-slot _ _ _ _ _ _ _ (k .0) (k .1 .1 .several) _ _ (k .1 .1) _ (c .before .before .before .before .before .before .before .loop-test .taken) (inv .0) _ _ _ (omega arith) (k .1 .0) (inv .1) _ (c .before .before .before .before .before .before .if1 .taken) (c .before .before .before .before .joined .ensures) in let inside : c .before .before .before .before .before .before .before .before .loop .at + 1 ≤ length (c .before .before .before .before .before .before .before .before .before .before .before .before .args .agenda .now) = omega (arith, slot-end _ _ _ slot, inv .1 .same) in let good = c .before .before .before .before .before .before .before .before .before .before .before .before .good in let blocks = c .before .before .before .before .before .before .before .before .before .before .before .before .blocks in search needs
 
 loop-less : tie.Need-loop-less Inv-loop μ-loop
 loop-less c = search needs
 
 loop-again : tie.Need-loop-again Inv-loop μ-loop
-loop-again c = let k = c .before .before .before .before .before .before .before .before .before .before .before .pre in let inv = c .before .before .before .before .before .before .before .before .loop .inv in (omega arith, spread-keep _ _ _ _ _ _ _ (k .0) (k .1 .1 .several) _ _ (k .1 .1 .domains) (k .1 .1 .beside) _ _ (c .before .before .before .before .before .before .before .loop-test .taken) (inv .0) (c .before .before .before .before .before .before .outside .ensures) _ _ _ (omega arith) (k .1 .0) (inv .1) _ _ (c .before .before .before .before .before .if1 .taken) (c .before .before .before .before .further .ensures) refl _ (c .before .before .before .before .further .ensures .long) (c .before .before .write-slot .ensures) (search needs))
+loop-again c = let k = c .before .before .before .before .before .before .before .before .before .before .before .before .pre in let inv = c .before .before .before .before .before .before .before .before .loop .inv in (omega arith, spread-keep _ _ _ _ _ _ _ (k .0) (k .1 .1 .several) _ _ (k .1 .1) _ (c .before .before .before .before .before .before .before .loop-test .taken) (inv .0) _ _ _ (omega arith) (k .1 .0) (inv .1) _ (c .before .before .before .before .before .before .if1 .taken) (c .before .before .before .before .joined .ensures) _ (c .before .before .write-but .ensures) (search needs))
 
 loop-less-2 : tie.Need-loop-less-2 Inv-loop μ-loop
 loop-less-2 c = search needs
 
 loop-again-2 : tie.Need-loop-again-2 Inv-loop μ-loop
-loop-again-2 c = let k = c .before .before .before .before .before .before .pre in let inv = c .before .before .before .loop .inv in (omega arith, spread-drop _ _ _ _ _ _ _ (k .0) (k .1 .1 .several) _ _ (k .1 .1 .domains) (k .1 .1 .beside) _ _ (c .before .before .loop-test .taken) (inv .0) (c .before .outside .ensures) _ _ _ (omega arith) (k .1 .0) (inv .1) (c .if1 .left))
+loop-again-2 c = let k = c .before .before .before .before .before .before .pre in let inv = c .before .before .loop .inv in (omega arith, spread-drop _ _ _ _ _ _ _ (k .0) (k .1 .1 .several) _ _ (k .1 .1) _ (c .before .loop-test .taken) (inv .0) _ _ _ (omega arith) (k .1 .0) (inv .1) (c .if1 .left))
 
 precluded-requires : tie.Need-precluded-requires Inv-loop μ-loop
-precluded-requires c κs = let v = put-variable _ _ _ _ _ _ _ (c .before .before .before .before .before .pre .0) in omega (arith, c .before .before .before .before .before .pre .0 .fitting .few)
+precluded-requires c κs = let v = put-variable _ _ _ _ _ _ _ (c .before .before .before .before .before .before .pre .0) in omega (arith, c .before .before .before .before .before .before .pre .0 .fitting .few)
 
-write-slot-requires-2 : tie.Need-write-slot-requires-2 Inv-loop μ-loop
-write-slot-requires-2 c κs = let k = c .before .before .before .before .before .before .pre in let inv = c .before .before .before .loop .inv in spread-last _ _ _ _ _ _ _ (k .0) (k .1 .1 .several) _ (omega arith) (k .1 .0) _ _ _ (inv .1) (omega arith) _ (c .precluded .ensures)
+write-slot-requires : tie.Need-write-slot-requires Inv-loop μ-loop
+write-slot-requires c κs = let k = c .before .before .before .before .before .before .before .pre in let inv = c .before .before .before .loop .inv in spread-last _ _ _ _ _ _ _ (k .0) (k .1 .1 .several) _ (omega arith) (k .1 .0) _ _ _ (inv .1) (omega arith) _ (c .precluded .ensures)
 
 add-result : tie.Need-add-result Inv-loop μ-loop
-add-result c = let k = c .before .before .before .before .before .before .before .before .before .pre in let inv = c .before .before .before .before .before .before .loop .inv in let slot = spread-last _ _ _ _ _ _ _ (k .0) (k .1 .1 .several) _ (omega arith) (k .1 .0) _ _ _ (inv .1) (omega arith) _ (c .before .before .before .precluded .ensures) in let inside : c .before .before .before .before .before .before .loop .at + 1 ≤ length (c .before .before .before .before .before .before .before .before .before .args .agenda .now) = omega (arith, slot-end _ _ _ slot, inv .1 .same) in let good = c .before .before .before .before .before .before .before .before .before .good in let blocks = c .before .before .before .before .before .before .before .before .before .blocks in search needs
+add-result c = let k = c .before .before .before .before .before .before .before .before .before .before .pre in let inv = c .before .before .before .before .before .before .loop .inv in let slot = spread-last _ _ _ _ _ _ _ (k .0) (k .1 .1 .several) _ (omega arith) (k .1 .0) _ _ _ (inv .1) (omega arith) _ (c .before .before .before .precluded .ensures) in let inside : c .before .before .before .before .before .before .loop .at + 1 ≤ length (c .before .before .before .before .before .before .before .before .before .before .args .agenda .now) = omega (arith, slot-end _ _ _ slot, inv .1 .same) in let good = c .before .before .before .before .before .before .before .before .before .before .good in let blocks = c .before .before .before .before .before .before .before .before .before .before .blocks in search needs
 
 same-length : tie.Need-same-length Inv-loop μ-loop
 same-length c = search needs
 
 returns : tie.Need-returns Inv-loop μ-loop
-returns c = let k = c .before .before .before .before .before .before .before .before .before .pre in let inv = c .before .before .before .before .before .before .loop .inv in let long : length (c .before .before .before .precluded .result .domains) ≡ 32 = search needs in spread-end _ _ _ _ _ _ _ (k .0) (k .1 .1 .several) _ (omega arith) (k .1 .0) _ _ _ (inv .1) (omega arith) _ (c .before .before .before .precluded .ensures) _ long (c .before .before .write-slot2 .ensures) (search needs)
+returns c = let k = c .before .before .before .before .before .before .before .before .before .before .pre in let inv = c .before .before .before .before .before .before .loop .inv in let long : length (c .before .before .before .precluded .result .domains) ≡ 32 = search needs in spread-end _ _ _ _ _ _ _ (k .0) (k .1 .1 .several) _ (omega arith) (k .1 .0) _ _ _ (inv .1) (omega arith) _ (c .before .before .before .precluded .ensures) _ long (c .before .before .write-slot .ensures) (search needs)
 
 pub spread-spec : {M : Type 1} → statement M
 spread-spec =
@@ -82,22 +85,23 @@ spread-spec =
     (tie.spec
     Inv-loop
     μ-loop
+    sides-requires
     loop-holds
     sub-j
-    mul-outside
-    array-read-outside
-    mul-outside-2
-    array-read-outside-2
-    outside-requires
-    further-requires
-    write-slot-requires
+    mul-if1
+    array-read-if1
+    slice-aggregate-joined
+    joined-requires
+    mul-write-but
+    array-read-write-but
+    write-but-requires
     add-at
     loop-less
     loop-again
     loop-less-2
     loop-again-2
     precluded-requires
-    write-slot-requires-2
+    write-slot-requires
     add-result
     same-length
     returns)

@@ -1,10 +1,9 @@
--- `search::agenda::kept` meets its contract.
+-- `search::lanes::kept` meets its contract.
 -- Assumes nothing.
-use Prim.Native.Nat.{_<_, _^_}
 use Rattle.search.proofs.Halves.{kept-is}
 use borrow.Author.Needs.{needs}
-use Rattle.search.proofs.agenda.kept.Statement.{statement}
-use Rattle.search.proofs.agenda.kept.Tie as tie
+use Rattle.search.proofs.lanes.kept.Statement.{statement}
+use Rattle.search.proofs.lanes.kept.Tie as tie
 
 returns : tie.Need-returns
 returns c = kept-is _ _ (search needs)
