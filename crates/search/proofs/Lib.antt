@@ -6,6 +6,7 @@ pub mod Joining
 pub mod Marked
 pub mod Turning
 pub mod Exchanging
+mod Packing
 pub mod Pairs
 pub mod FirstParts
 pub mod Decisions

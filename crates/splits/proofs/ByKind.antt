@@ -1,6 +1,6 @@
 -- What is said by the kind of a request, at each kind. Assumes nothing.
-use mathlib.Core.Path.{_≡_, refl, sym, ap, _∙_}
-use mathlib.Core.Bool.{Bool, true, false, cond, _&&_}
+use mathlib.Core.Path.{_≡_, refl, sym, ap, ap₂, _∙_}
+use mathlib.Core.Bool.{Bool, true, false, cond, _&&_, and-true, and-false}
 use mathlib.Core.List.{List}
 use Prim.Native.Nat.{ℕ, zero, suc, _+_, _≤_, _<_}
 use native.Mathlib.Omega.{arith}
@@ -102,6 +102,33 @@ module _ {A : Type 0} (k : ℕ) (a b c d e other : A) where
 pub kind-last : {A : Type 0} (k : ℕ) (a b c d : A) → (k ≡ 1 → ⊥) → (k ≡ 2 → ⊥) → (k ≡ 3 → ⊥) → byKind k a b c d d d ≡ d
 kind-last k a b c d p q r =
     simp (ne-eqb k 1 p, ne-eqb k 2 q, ne-eqb k 3 r) (either (λ x. x ≡ d) (eqb k 4) refl (either (λ x. x ≡ d) (eqb k 5) refl refl))
+
+-- whether the words that a request's kind reads fit, with its kind as the code has it
+module _ (n d : ℕ) (t r : List ℕ) (kind : ℕ) (its-kind : kind ≡ kindOf r) where
+  pub readable-0 : kind ≡ 0 → leb n 32 ≡ readable n d t r
+  unfolding readable
+  readable-0 h = sym (no-kind (kindOf r) _ _ _ _ _ _ (inl (omega (arith, its-kind, h))))
+
+  pub readable-123 : (V′ v : ℕ) → V′ ≡ variableOf r → v ≡ valueOf r → (kind ≡ 0 → ⊥) → kind < 4 → (q : Bool)
+      → q ≡ inside n d t V′ v → q ≡ readable n d t r
+  unfolding readable
+  readable-123 V′ v its-variable its-value f l q e =
+      e ∙ ap₂ (inside n d t) its-variable its-value
+      ∙ sym (one-to-three (kindOf r) _ _ _ _ (λ z. f (its-kind ∙ z)) (rw (← its-kind) l))
+
+  pub readable-4-not : (V′ : ℕ) → V′ ≡ variableOf r → kind ≡ 4 → n ≤ V′ → false ≡ readable n d t r
+  unfolding readable
+  readable-4-not V′ its-variable h l =
+      sym (kind-4 (kindOf r) _ _ _ _ _ _ (sym its-kind ∙ h) ∙ ap (λ b. leb n 32 && b) (le-ltb (variableOf r) n (rw (← its-variable) l)) ∙ and-false (leb n 32))
+
+  pub readable-4 : (V′ : ℕ) → V′ ≡ variableOf r → kind ≡ 4 → V′ < n → leb n 32 ≡ readable n d t r
+  unfolding readable
+  readable-4 V′ its-variable h l =
+      sym (kind-4 (kindOf r) _ _ _ _ _ _ (sym its-kind ∙ h) ∙ ap (λ b. leb n 32 && b) (lt-ltb (variableOf r) n (rw (← its-variable) l)) ∙ and-true (leb n 32))
+
+  pub readable-past-4 : 4 ≤ kind → (kind ≡ 4 → ⊥) → leb n 32 ≡ readable n d t r
+  unfolding readable
+  readable-past-4 l f = sym (past-four (kindOf r) _ _ _ _ _ (rw (← its-kind) l) (λ z. f (its-kind ∙ z)))
 
 -- of a request whose words fit, with its kind, V and v as the code has them
 module _ (n d : ℕ) (t : List ℕ) (P : Subproblem) (r : List ℕ) (fits : readable n d t r ≡ true) (kind : ℕ) (its-kind : kind ≡ kindOf r) where

@@ -8,6 +8,7 @@ pub mod Subproblems
 pub mod Looking
 pub mod Counting
 pub mod ByKind
+mod Places
 pub mod Refusals
 pub mod Products
 pub mod Lists

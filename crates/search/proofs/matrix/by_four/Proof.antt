@@ -1,5 +1,6 @@
 -- `matrix::by_four` meets its contract: the definition follows the calls.
 -- Assumes nothing.
+use Rattle.search.proofs.Packing.{words-are}
 use borrow.Author.Needs.{needs}
 use Rattle.search.specs.Work.Matrices.{byFour}
 use Rattle.search.proofs.matrix.by_four.Statement.{statement}
@@ -19,7 +20,8 @@ sunk-requires-2 c κs = search needs
 
 returns : tie.Need-returns
 unfolding byFour
-returns c = cc
+returns c =
+    words-are _ _ _ _ _ (c .before .before .before .risen .ensures) (c .before .before .sunk .ensures) (c .before .risen2 .ensures) (c .sunk2 .ensures)
 
 pub by-four-spec : {M : Type 1} → statement M
 by-four-spec =

@@ -1,7 +1,8 @@
 -- `matrix::columns` meets its contract: the definition follows the calls.
 -- Assumes nothing.
+use mathlib.Core.Path.{ap, _∙_}
 use borrow.Author.Needs.{needs}
-use Rattle.search.specs.Work.Matrices.{columns}
+use Rattle.search.specs.Work.Matrices.{byFour, byEight, columns}
 use Rattle.search.proofs.matrix.columns.Statement.{statement}
 use Rattle.search.proofs.matrix.columns.Tie as tie
 
@@ -16,7 +17,7 @@ by-eight-requires c κs = search needs
 
 returns : tie.Need-returns
 unfolding columns
-returns c = cc
+returns c = c .by-eight .ensures ∙ ap byEight (c .before .by-four .ensures ∙ ap byFour (c .before .before .within .ensures))
 
 pub columns-spec : {M : Type 1} → statement M
 columns-spec = tie.close (tie.spec within-requires by-four-requires by-eight-requires returns)

@@ -1,5 +1,6 @@
 -- `matrix::matrix_of` meets its contract: the definition follows the calls.
 -- Assumes nothing.
+use Rattle.search.proofs.Packing.{words-are}
 use Rattle.search.specs.Work.Matrices.{matrixOf}
 use borrow.Author.Needs.{needs}
 use Rattle.search.proofs.matrix.matrix_of.Statement.{statement}
@@ -19,7 +20,8 @@ four-requires-4 c κs = search needs
 
 returns : tie.Need-returns
 unfolding matrixOf
-returns c = (cc, c .four4 .ensures .1)
+returns c =
+    (words-are _ _ _ _ _ (c .before .before .before .four .ensures .0) (c .before .before .four2 .ensures .0) (c .before .four3 .ensures .0) (c .four4 .ensures .0), c .four4 .ensures .1)
 
 pub matrix-of-spec : {M : Type 1} → statement M
 matrix-of-spec =

@@ -1,7 +1,9 @@
 -- `matrix::within` meets its contract: the definition follows the calls.
 -- Assumes nothing.
+use mathlib.Core.Path.{ap, _∙_}
+use Rattle.search.proofs.Packing.{words-are}
 use borrow.Author.Needs.{needs}
-use Rattle.search.specs.Work.Matrices.{within}
+use Rattle.search.specs.Work.Matrices.{byTwo, within}
 use Rattle.search.proofs.matrix.within.Statement.{statement}
 use Rattle.search.proofs.matrix.within.Tie as tie
 
@@ -31,7 +33,9 @@ by-two-requires-4 c κs = search needs
 
 returns : tie.Need-returns
 unfolding within
-returns c = cc
+returns c =
+    words-are _ _ _ _ _ (c .before .before .before .before .before .before .by-two .ensures ∙ ap byTwo (c .before .before .before .before .before .before .before .by-one .ensures))
+    (c .before .before .before .before .by-two2 .ensures ∙ ap byTwo (c .before .before .before .before .before .by-one2 .ensures)) (c .before .before .by-two3 .ensures ∙ ap byTwo (c .before .before .before .by-one3 .ensures)) (c .by-two4 .ensures ∙ ap byTwo (c .before .by-one4 .ensures))
 
 pub within-spec : {M : Type 1} → statement M
 within-spec =

@@ -1,10 +1,7 @@
 -- `splits::split::backtracking` meets its contract.
 -- Assumes nothing.
-use borrow.Author.Tests.{eq-eqb, ne-eqb, lt-ltb}
-use Rattle.splits.specs.Splits.{backtracked}
-use native.Mathlib.Nat.{le-trans}
+use Rattle.splits.proofs.Places.{backtracked-none, backtracked-first, backtracked-rest}
 use native.Mathlib.Omega.{arith}
-use mathlib.Core.Path.{sym, _∙_}
 use borrow.Author.Needs.{needs}
 use Rattle.splits.proofs.split.backtracking.Statement.{statement}
 use Rattle.splits.proofs.split.backtracking.Tie as tie
@@ -16,8 +13,7 @@ without-requires : tie.Need-without-requires
 without-requires c κs = search needs
 
 returns : tie.Need-returns
-unfolding backtracked
-returns c = simp (ne-eqb _ _ (c .before .before .if1 .taken)) (cc)
+returns c = backtracked-rest _ _ _ _ _ _ _ (c .before .before .if1 .taken) _ (c .before .only .ensures) (c .without .ensures)
 
 look-requires : tie.Need-look-requires
 look-requires c κs = c .before .before .pre
@@ -26,15 +22,13 @@ cut-requires : tie.Need-cut-requires
 cut-requires c κs = search needs
 
 returns-2 : tie.Need-returns-2
-unfolding backtracked
-returns-2 c = simp (eq-eqb _ _ (c .before .before .before .if1 .left), sym (c .before .before .look .ensures .met) ∙ c .before .if2 .taken) (c .cut .ensures)
+returns-2 c = backtracked-none _ _ _ _ _ _ _ _ (c .before .before .before .before .before .pre) (c .before .before .before .if1 .left) _ (c .before .before .look .ensures .met) (c .before .if2 .taken) (c .cut .ensures)
 
 instantiate-requires : tie.Need-instantiate-requires
 instantiate-requires c κs = search needs
 
 returns-3 : tie.Need-returns-3
-unfolding backtracked
-returns-3 c = simp (eq-eqb _ _ (c .before .before .before .if1 .left), sym (c .before .before .look .ensures .met) ∙ c .before .if2 .left) (simp (lt-ltb _ _ (le-trans (c .before .before .before .before .before .pre .a-variable) (c .before .before .before .before .before .pre .fit .few)), lt-ltb _ _ (le-trans (c .before .before .before .before .before .pre .a-value) (c .before .before .before .before .before .pre .fit .small))) at (c .instantiate .ensures))
+returns-3 c = backtracked-first _ _ _ _ _ _ _ _ (c .before .before .before .before .before .pre) (c .before .before .before .if1 .left) _ (c .before .before .look .ensures .met) (c .before .if2 .left) (c .instantiate .ensures)
 
 pub backtracking-spec : {M : Type 1} → statement M
 backtracking-spec =

@@ -1,7 +1,6 @@
 -- `splits::split::extraction` meets its contract.
 -- Assumes nothing.
-use borrow.Author.Tests.{eq-eqb, ne-eqb}
-use Rattle.splits.specs.Splits.{extracted, extract}
+use Rattle.splits.proofs.Places.{extracted-first, extracted-later}
 use borrow.Author.Needs.{needs}
 use Rattle.splits.proofs.split.extraction.Statement.{statement}
 use Rattle.splits.proofs.split.extraction.Tie as tie
@@ -10,8 +9,7 @@ at-targets-requires : tie.Need-at-targets-requires
 at-targets-requires c κs = search needs
 
 returns : tie.Need-returns
-unfolding extracted
-returns c = simp (eq-eqb _ _ (c .before .if1 .taken)) (c .at-targets .ensures)
+returns c = extracted-first _ _ _ _ _ (c .before .if1 .taken) (c .at-targets .ensures)
 
 sub-j : tie.Need-sub-j
 sub-j c = search needs
@@ -26,8 +24,7 @@ without-requires : tie.Need-without-requires
 without-requires c κs = search needs
 
 returns-2 : tie.Need-returns-2
-unfolding extracted extract
-returns-2 c = simp (ne-eqb _ _ (c .before .before .before .if1 .left)) (cc)
+returns-2 c = extracted-later _ _ _ _ _ (c .before .before .before .if1 .left) _ (c .before .before .at-targets2 .ensures) _ (c .before .target .ensures) (c .without .ensures)
 
 pub extraction-spec : {M : Type 1} → statement M
 extraction-spec =

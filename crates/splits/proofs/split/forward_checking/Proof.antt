@@ -1,8 +1,6 @@
 -- `splits::split::forward_checking` meets its contract.
 -- Assumes nothing.
-use Rattle.splits.proofs.Ranges.{inside-is}
-use borrow.Author.Tests.{eq-eqb, ne-eqb}
-use Rattle.splits.specs.Splits.{checked}
+use Rattle.splits.proofs.Places.{checked-first, checked-rest}
 use native.Mathlib.Omega.{arith}
 use borrow.Author.Needs.{needs}
 use Rattle.splits.proofs.split.forward_checking.Statement.{statement}
@@ -15,15 +13,13 @@ without-requires : tie.Need-without-requires
 without-requires c κs = search needs
 
 returns : tie.Need-returns
-unfolding checked
-returns c = simp (ne-eqb _ _ (c .before .before .if1 .taken)) (cc)
+returns c = checked-rest _ _ _ _ _ _ _ (c .before .before .if1 .taken) _ (c .before .only .ensures) (c .without .ensures)
 
 precluded-requires : tie.Need-precluded-requires
 precluded-requires c κs = search needs
 
 returns-2 : tie.Need-returns-2
-unfolding checked
-returns-2 c = simp (eq-eqb _ _ (c .before .if1 .left)) (simp (inside-is _ _ _ _ _ (c .before .before .before .pre)) at (c .precluded .ensures))
+returns-2 c = checked-first _ _ _ _ _ _ _ _ (c .before .before .before .pre) (c .before .if1 .left) (c .precluded .ensures)
 
 pub forward-checking-spec : {M : Type 1} → statement M
 forward-checking-spec =

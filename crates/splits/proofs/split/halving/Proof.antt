@@ -1,7 +1,6 @@
 -- `splits::split::halving` meets its contract.
 -- Assumes nothing.
-use borrow.Author.Tests.{eq-eqb, ne-eqb}
-use Rattle.splits.specs.Splits.{halved}
+use Rattle.splits.proofs.Places.{halved-first, halved-rest}
 use borrow.Author.Needs.{needs}
 use Rattle.splits.proofs.split.halving.Statement.{statement}
 use Rattle.splits.proofs.split.halving.Tie as tie
@@ -16,15 +15,13 @@ without-requires : tie.Need-without-requires
 without-requires c κs = search needs
 
 returns : tie.Need-returns
-unfolding halved
-returns c = simp (ne-eqb _ _ (c .before .if1 .taken)) (cc)
+returns c = halved-rest _ _ _ _ _ _ (c .before .before .before .domain .ensures) (c .before .before .smaller-half .ensures) (c .before .if1 .taken) (c .without .ensures)
 
 cut-requires : tie.Need-cut-requires
 cut-requires c κs = search needs
 
 returns-2 : tie.Need-returns-2
-unfolding halved
-returns-2 c = simp (eq-eqb _ _ (c .before .if1 .left)) (cc)
+returns-2 c = halved-first _ _ _ _ _ _ (c .before .before .before .domain .ensures) (c .before .before .smaller-half .ensures) (c .before .if1 .left) (c .cut .ensures)
 
 pub halving-spec : {M : Type 1} → statement M
 halving-spec =

@@ -1,8 +1,6 @@
 -- `splits::split::idc` meets its contract.
 -- Assumes nothing.
-use Rattle.splits.proofs.Ranges.{inside-is}
-use borrow.Author.Tests.{eq-eqb, ne-eqb}
-use Rattle.splits.specs.Splits.{inferred, disjunct}
+use Rattle.splits.proofs.Places.{inferred-first, inferred-none, inferred-later}
 use native.Mathlib.Omega.{arith}
 use borrow.Author.Needs.{needs}
 use Rattle.splits.proofs.split.idc.Statement.{statement}
@@ -12,8 +10,7 @@ precluded-requires : tie.Need-precluded-requires
 precluded-requires c κs = search needs
 
 returns : tie.Need-returns
-unfolding inferred
-returns c = simp (eq-eqb _ _ (c .before .if1 .taken)) (simp (inside-is _ _ _ _ _ (c .before .before .before .pre .0)) at (c .precluded .ensures))
+returns c = inferred-first _ _ _ _ _ _ _ _ (c .before .before .before .pre .0) (c .before .if1 .taken) (c .precluded .ensures)
 
 sub-j : tie.Need-sub-j
 sub-j c = search needs
@@ -22,8 +19,7 @@ cut-requires : tie.Need-cut-requires
 cut-requires c κs = search needs
 
 returns-2 : tie.Need-returns-2
-unfolding inferred
-returns-2 c = simp (ne-eqb _ _ (c .before .before .if1 .left), eq-eqb _ _ (c .before .if2 .taken)) (c .cut .ensures)
+returns-2 c = inferred-none _ _ _ _ _ _ _ (c .before .before .if1 .left) (c .before .if2 .taken) (c .cut .ensures)
 
 only-requires : tie.Need-only-requires
 only-requires c κs = omega (arith, c .before .before .before .pre .0 .fit .small, c .before .before .before .pre .0 .a-value)
@@ -41,8 +37,7 @@ without-requires-2 : tie.Need-without-requires-2
 without-requires-2 c κs = search needs
 
 returns-3 : tie.Need-returns-3
-unfolding inferred disjunct
-returns-3 c = simp (ne-eqb _ _ (c .before .before .before .before .before .before .if1 .left), ne-eqb _ _ (c .before .before .before .before .before .if2 .left)) (cc)
+returns-3 c = inferred-later _ _ _ _ _ _ _ (c .before .before .before .before .before .before .if1 .left) (c .before .before .before .before .before .if2 .left) _ (c .before .before .before .before .only .ensures) _ (c .before .before .before .without .ensures) _ (c .before .before .cut-beside .ensures) _ (c .before .allowed .ensures) (c .without2 .ensures)
 
 pub idc-spec : {M : Type 1} → statement M
 idc-spec =

@@ -1,12 +1,8 @@
 -- `tables::readable` meets its contract, kind by kind.
 -- Assumes nothing.
-use mathlib.Core.Path.{sym, _∙_}
-use mathlib.Core.Bool.{and-true, and-false}
 use mathlib.Core.Logic.{⊎-elim}
-use borrow.Author.Tests.{le-ltb, lt-ltb}
 use borrow.Author.Needs.{needs}
-use Rattle.splits.specs.Calls.{readable}
-use Rattle.splits.proofs.ByKind.{one-to-three, past-four}
+use Rattle.splits.proofs.ByKind.{readable-0, readable-123, readable-4-not, readable-4, readable-past-4}
 use Rattle.splits.proofs.tables.readable.Statement.{statement}
 use Rattle.splits.proofs.tables.readable.Tie as tie
 
@@ -17,8 +13,7 @@ variable-requires : tie.Need-variable-requires
 variable-requires c κs = search needs
 
 returns : tie.Need-returns
-unfolding readable
-returns c = simp (sym (c .before .before .kind .ensures) ∙ c .if1 .taken)
+returns c = readable-0 _ _ _ _ _ (c .before .before .kind .ensures) (c .if1 .taken)
 
 value-requires : tie.Need-value-requires
 value-requires c κs = search needs
@@ -27,23 +22,21 @@ within-requires : tie.Need-within-requires
 within-requires c κs = search needs
 
 returns-2 : tie.Need-returns-2
-unfolding readable
 returns-2 c =
-    simp (sym (c .before .before .before .before .before .kind .ensures), sym (c .before .before .before .before .variable .ensures), sym (c .before .value .ensures))
-    (c .within .ensures ∙ sym (one-to-three _ _ _ _ _ (c .before .before .before .if1 .left) (c .before .before .if2 .taken)))
+    let q = c .before .before .before in
+    readable-123 _ _ _ _ _ (q .before .before .kind .ensures) _ _ (q .before .variable .ensures) (c .before .value .ensures) (q .if1 .left)
+    (c .before .before .if2 .taken) _ (c .within .ensures)
 
 returns-3 : tie.Need-returns-3
-unfolding readable
 returns-3 c =
     let q = c .before .before .before .before in
-    simp (sym (q .before .kind .ensures) ∙ c .before .if3 .taken, sym (q .variable .ensures), le-ltb _ _ (c .if4 .taken), and-false)
+    readable-4-not _ _ _ _ _ (q .before .kind .ensures) _ (q .variable .ensures) (c .before .if3 .taken) (c .if4 .taken)
 
 returns-4 : tie.Need-returns-4
-unfolding readable
 returns-4 c =
     let q = c .before .before .before in
-    ⊎-elim (λ w. simp (sym (q .before .kind .ensures) ∙ w .0 .taken, sym (q .variable .ensures), lt-ltb _ _ (w .1 .left), and-true))
-    (λ w. simp (sym (q .before .kind .ensures)) (sym (past-four _ _ _ _ _ _ (c .before .if2 .left) (w .left)))) (c .if3 .came)
+    ⊎-elim (λ w. readable-4 _ _ _ _ _ (q .before .kind .ensures) _ (q .variable .ensures) (w .0 .taken) (w .1 .left))
+    (λ w. readable-past-4 _ _ _ _ _ (q .before .kind .ensures) (c .before .if2 .left) (w .left)) (c .if3 .came)
 
 pub readable-spec : {M : Type 1} → statement M
 readable-spec =
