@@ -30,7 +30,7 @@ use Rattle.console.specs.Calls.{unwhole, unwholeFile, WholeProblem, unop
 use Rattle.console.specs.Work.Rooms.{roomFor, wholeList, Room}
 use Rattle.console.specs.Work.Parts.{Listed, Narrow, NarrowLoaded}
 use Rattle.console.proofs.Words.{words-length, bytes-again}
-use Rattle.console.proofs.Rooms.{room-true, room-false, long-above, Above, unwhole-not, unwhole-file-not, open-above, search-above, run-above, run-cut, save-above, list-true, load-above, load-no-words}
+use Rattle.console.proofs.Rooms.{room-true, room-false, long-above, AboveOrNone, unwhole-not, unwhole-file-not, open-above, search-above, run-above, run-cut, save-above, list-true, load-above, load-no-words}
 
 -- What has room is whole words.
 room-whole : (domains tables agenda : List ℕ) → Room domains tables agenda → WholeProblem domains tables agenda
@@ -41,8 +41,8 @@ module _ (domains tables agenda : List ℕ) (b : Bool) (is : b ≡ roomFor (leng
   pub whole-then : b ≡ true → WholeProblem domains tables agenda
   whole-then y = room-whole domains tables agenda (room-true domains tables agenda b is y)
 
-  -- Whole and not turned into words, it is too long.
-  pub above-then : b ≡ false → WholeProblem domains tables agenda → Above (length (wordsOf domains)) (length (wordsOf tables)) (length (wordsOf agenda))
+  -- Whole and not turned into words, it is too long or empty.
+  pub above-then : b ≡ false → WholeProblem domains tables agenda → AboveOrNone (length (wordsOf domains)) (length (wordsOf tables)) (length (wordsOf agenda))
   above-then y w = long-above domains tables agenda w (room-false domains tables agenda b is y w)
 
 -- ---- opening

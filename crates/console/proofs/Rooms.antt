@@ -4,13 +4,13 @@ use mathlib.Core.Path.{_≡_, refl, sym, ap, _∙_}
 use mathlib.Core.Logic.{_⊎_, inl, inr, ⊎-elim}
 use mathlib.Core.Bool.{Bool, true, false, cond, _&&_}
 use mathlib.Core.List.{List, []}
-use Prim.Native.Nat.{ℕ, _+_, _*_, _%_, _≤_, _<_}
+use Prim.Native.Nat.{ℕ, zero, suc, _+_, _*_, _%_, _^_, _≤_, _<_}
 use native.Mathlib.Omega.{arith}
-use native.Mathlib.Nat.{mul-le-mul, lt-of-not-le}
+use native.Mathlib.Nat.{mul-le-mul, lt-of-not-le, zero-mul, mul-comm, mul-le-mul-right}
 use native.Mathlib.Decide.{decLt}
 use lib.ListN.{length}
-use lib.Dec.{eqb, leb}
-use borrow.Author.Tests.{leb-true, leb-false, eqb-true, eqb-false, eq-eqb, ne-eqb}
+use lib.Dec.{eqb, leb, ltb}
+use borrow.Author.Tests.{leb-true, leb-false, ltb-true, ltb-false, eqb-true, eqb-false, eq-eqb, ne-eqb}
 use Rattle.splits.proofs.Tests.{and-left, and-right}
 use Rattle.search.specs.Agenda.{problemOf}
 use Rattle.search.specs.FirstChecks.{orElse, refusalOfNumbers, wholeSlots, refusalOfLengths, refusalOfRequests, refusalOfProblem, refusalOfSearch, openRefusal, searchRefusal, runRefusal}
@@ -20,20 +20,33 @@ use Rattle.files.proofs.Tests.{and-cases}
 use Rattle.files.specs.Reading.{saidN, saidD, refusalOfFile, refusalOfWords}
 use Rattle.files.specs.Calls.{saveRefusal, loadRefusal}
 use Rattle.search.specs.declared.state.State.{State}
-use Rattle.files.proofs.Accepted.{words-accept}
-use Rattle.console.specs.Bytes.{wordsOf}
+use Rattle.files.proofs.Accepted.{Accepts, words-accept}
+use Rattle.console.specs.Bytes.{Whole, wordsOf}
 use Rattle.console.specs.Calls.{WholeProblem, unwhole, unwholeFile}
-use Rattle.console.specs.Work.Rooms.{fits, roomFor, wholeList, Fits, Room}
+use Rattle.console.specs.Work.Rooms.{fits, roomFor, wholeList, Fits, Room, Front}
 use Rattle.console.proofs.Words.{words-length}
 
 -- ---- what the tests say
 
-fits-true : (bytes most : ℕ) → fits bytes most ≡ true → Fits bytes most
+fits-true : (bytes most : ℕ) → 0 < bytes → fits bytes most ≡ true → Fits bytes most
 unfolding fits
-fits-true bytes most e = record {
+fits-true bytes most some e = record {
   even = eqb-true (bytes % 2) 0 (and-left (eqb (bytes % 2) 0) (leb bytes (2 * most)) e);
+  some = some;
   few = leb-true bytes (2 * most) (and-right (eqb (bytes % 2) 0) (leb bytes (2 * most)) e);
 }
+
+pub fits-few : (bytes most : ℕ) (b : Bool) → b ≡ fits bytes most → b ≡ true → bytes ≤ 2 * most
+unfolding fits
+fits-few bytes most b is y = leb-true bytes (2 * most) (and-right (eqb (bytes % 2) 0) (leb bytes (2 * most)) (sym is ∙ y))
+
+-- The product of three that are not 0 is not 0, and of no others.
+some-left : (a b : ℕ) → 0 < a * b → 0 < a
+some-left zero b h = let none : 0 * b ≡ 0 = zero-mul b in absurd (omega arith)
+some-left (suc a) b h = omega arith
+
+some-right : (a b : ℕ) → 0 < a * b → 0 < b
+some-right a b h = some-left b a (rw (mul-comm b a) h)
 
 fits-false : (bytes most : ℕ) → fits bytes most ≡ false → bytes % 2 ≡ 0 → 2 * most < bytes
 unfolding fits
@@ -42,38 +55,48 @@ fits-false bytes most e even = leb-false bytes (2 * most) (rw (eq-eqb (bytes % 2
 pub room-true : (domains tables agenda : List ℕ) (b : Bool) → b ≡ roomFor (length domains) (length tables) (length agenda) → b ≡ true → Room domains tables agenda
 unfolding roomFor
 room-true domains tables agenda b s y =
+    let product : ℕ = length domains * length tables * length agenda in
     let x : Bool = fits (length domains) 32 in
     let y′ : Bool = fits (length tables) 16384 in
     let z : Bool = fits (length agenda) 17408 in
-    let all : (x && y′ && z) ≡ true = sym s ∙ y in
-    let two : (x && y′) ≡ true = and-left (x && y′) z all in
+    let all : (x && y′ && z && ltb 0 product) ≡ true = sym s ∙ y in
+    let three : (x && y′ && z) ≡ true = and-left (x && y′ && z) (ltb 0 product) all in
+    let two : (x && y′) ≡ true = and-left (x && y′) z three in
+    let some : 0 < product = ltb-true 0 product (and-right (x && y′ && z) (ltb 0 product) all) in
+    let front : 0 < length domains * length tables = some-left (length domains * length tables) (length agenda) some in
     record {
-      of-domains = fits-true (length domains) 32 (and-left x y′ two);
-      of-tables = fits-true (length tables) 16384 (and-right x y′ two);
-      of-agenda = fits-true (length agenda) 17408 (and-right (x && y′) z all);
+      of-domains = fits-true (length domains) 32 (some-left (length domains) (length tables) front) (and-left x y′ two);
+      of-tables = fits-true (length tables) 16384 (some-right (length domains) (length tables) front) (and-right x y′ two);
+      of-agenda = fits-true (length agenda) 17408 (some-right (length domains * length tables) (length agenda) some) (and-right (x && y′) z three);
     }
 
--- One of them is longer than any that the rules allow.
-abbrev pub Long : List ℕ → List ℕ → List ℕ → Type 0
-Long domains tables agenda = (64 < length domains) ⊎ (32768 < length tables) ⊎ (34816 < length agenda)
+-- One of them is longer than any that the rules allow, or empty.
+abbrev pub LongOrNone : List ℕ → List ℕ → List ℕ → Type 0
+LongOrNone domains tables agenda =
+    (64 < length domains) ⊎ (32768 < length tables) ⊎ (34816 < length agenda) ⊎ (length domains * length tables * length agenda ≡ 0)
 
 pub room-false : (domains tables agenda : List ℕ) (b : Bool) → b ≡ roomFor (length domains) (length tables) (length agenda) → b ≡ false
-    → WholeProblem domains tables agenda → Long domains tables agenda
+    → WholeProblem domains tables agenda → LongOrNone domains tables agenda
 unfolding roomFor
 room-false domains tables agenda b s y w =
+    let product : ℕ = length domains * length tables * length agenda in
     let x : Bool = fits (length domains) 32 in
     let y′ : Bool = fits (length tables) 16384 in
     let z : Bool = fits (length agenda) 17408 in
     ⊎-elim
+    (λ three. ⊎-elim
     (λ two. ⊎-elim (λ e. inl (fits-false (length domains) 32 e (w .of-domains))) (λ e. inr (inl (fits-false (length tables) 16384 e (w .of-tables)))) (and-cases x y′ two))
-    (λ e. inr (inr (fits-false (length agenda) 17408 e (w .of-agenda))))
-    (and-cases (x && y′) z (sym s ∙ y))
+    (λ e. inr (inr (inl (fits-false (length agenda) 17408 e (w .of-agenda)))))
+    (and-cases (x && y′) z three))
+    (λ e. let none : product ≤ 0 = ltb-false 0 product e in inr (inr (inr (omega arith))))
+    (and-cases (x && y′ && z) (ltb 0 product) (sym s ∙ y))
 
 -- ---- then 3 is deserved
 
 pub record In-range (n d : ℕ) : Type 0 where
   pub some : 1 ≤ n
   pub few : n ≤ 32
+  pub some-value : 1 ≤ d
   pub small : d ≤ 16
 
 pub in-range : (n d : ℕ) → refusalOfNumbers n d ≡ 0 → In-range n d
@@ -87,25 +110,37 @@ in-range n d e =
         | yes l ↦ absurd (f .0 (inr l))
         | no a ↦ omega (arith, lt-of-not-le a)
       ];
+      some-value = elim (decLt d 1) [
+        | yes l ↦ absurd (f .1 (inl l))
+        | no a ↦ omega (arith, lt-of-not-le a)
+      ];
       small = elim (decLt 16 d) [
         | yes l ↦ absurd (f .1 (inr l))
         | no a ↦ omega (arith, lt-of-not-le a)
       ];
     }
 
--- So many words are more than the rules allow.
-abbrev pub Above : ℕ → ℕ → ℕ → Type 0
-Above domains tables agenda = (32 < domains) ⊎ (16384 < tables) ⊎ (17408 < agenda)
+-- So many words are more than the rules allow, or none.
+abbrev pub AboveOrNone : ℕ → ℕ → ℕ → Type 0
+AboveOrNone domains tables agenda = (32 < domains) ⊎ (16384 < tables) ⊎ (17408 < agenda) ⊎ (domains * tables * agenda ≡ 0)
 
-pub long-above : (domains tables agenda : List ℕ) → WholeProblem domains tables agenda → Long domains tables agenda
-    → Above (length (wordsOf domains)) (length (wordsOf tables)) (length (wordsOf agenda))
+eighth : (x y z : ℕ) → 2 * x * (2 * y) * (2 * z) ≡ 0 → x * y * z ≡ 0
+eighth x y z e = omega arith
+
+twice-words : (b : List ℕ) → Whole b → length b ≡ 2 * length (wordsOf b)
+twice-words b w = omega (arith, words-length b)
+
+pub long-above : (domains tables agenda : List ℕ) → WholeProblem domains tables agenda → LongOrNone domains tables agenda
+    → AboveOrNone (length (wordsOf domains)) (length (wordsOf tables)) (length (wordsOf agenda))
 long-above domains tables agenda w h =
     ⊎-elim (λ l. inl (omega (arith, words-length domains, w .of-domains)))
-    (λ k. inr (⊎-elim (λ l. inl (omega (arith, words-length tables, w .of-tables))) (λ l. inr (omega (arith, words-length agenda, w .of-agenda))) k)) h
+    (λ k. inr (⊎-elim (λ l. inl (omega (arith, words-length tables, w .of-tables)))
+    (λ k. inr (⊎-elim (λ l. inl (omega (arith, words-length agenda, w .of-agenda)))
+    (λ e. inr (eighth _ _ _ (rw (twice-words domains (w .of-domains), twice-words tables (w .of-tables), twice-words agenda (w .of-agenda)) at e))) k)) k)) h
 
-pub lengths-three : (n d domains tables agenda : ℕ) → n ≤ 32 → d ≤ 16 → Above domains tables agenda → refusalOfLengths n d domains tables agenda ≡ 3
+pub lengths-three : (n d domains tables agenda : ℕ) → In-range n d → AboveOrNone domains tables agenda → refusalOfLengths n d domains tables agenda ≡ 3
 unfolding refusalOfLengths
-lengths-three n d domains tables agenda few small h = go (eqb domains n && eqb tables (n * n * d) && wholeSlots n agenda) refl
+lengths-three n d domains tables agenda range h = go (eqb domains n && eqb tables (n * n * d) && wholeSlots n agenda) refl
   where
     go : (b : Bool) → (eqb domains n && eqb tables (n * n * d) && wholeSlots n agenda) ≡ b → _≡_ {A = ℕ} (cond b 0 3) 3
     go false e = refl
@@ -116,11 +151,18 @@ lengths-three n d domains tables agenda few small h = go (eqb domains n && eqb t
         let two : (x && y) ≡ true = and-left (x && y) z e in
         let its-n : domains ≡ n = eqb-true domains n (and-left x y two) in
         let its-masks : tables ≡ n * n * d = eqb-true tables (n * n * d) (and-right x y two) in
-        let masks : n * n * d ≤ 32 * 32 * 16 = mul-le-mul (mul-le-mul few few) small in
+        let masks : n * n * d ≤ 32 * 32 * 16 = mul-le-mul (mul-le-mul (range .few) (range .few)) (range .small) in
+        let some-masks : 1 * 1 * 1 ≤ n * n * d = mul-le-mul (mul-le-mul (range .some) (range .some)) (range .some-value) in
         let slots = slots-true n agenda (and-right (x && y) z e) in
-        let slot : n + 2 ≤ 34 = omega arith in
+        let slot : n + 2 ≤ 34 = omega (arith, range .few) in
+        let some-slot : 1 ≤ n + 2 = omega arith in
         let words : slots .0 * (n + 2) ≤ 512 * 34 = mul-le-mul (slots .2) slot in
-        absurd (⊎-elim (λ l. omega arith) (λ k. ⊎-elim (λ l. omega arith) (λ l. omega (arith, slots .3)) k) h)
+        let some-words : 1 * 1 ≤ slots .0 * (n + 2) = mul-le-mul (slots .1) some-slot in
+        let some-domains : 1 ≤ domains = omega (arith, range .some) in
+        let some-tables : 1 ≤ tables = omega arith in
+        let some-agenda : 1 ≤ agenda = omega (arith, slots .3) in
+        let all : 1 * 1 * 1 ≤ domains * tables * agenda = mul-le-mul (mul-le-mul some-domains some-tables) some-agenda in
+        absurd (⊎-elim (λ l. omega (arith, range .few)) (λ k. ⊎-elim (λ l. omega arith) (λ k. ⊎-elim (λ l. omega (arith, slots .3)) (λ e. omega arith) k) k) h)
 
 -- ---- the refusals that follow
 
@@ -144,25 +186,25 @@ unwhole-not n d = unwhole-some (refusalOfNumbers n d)
 
 module _ (n d : ℕ) (domains tables agenda : List ℕ) where
   -- Of opening.
-  pub open-above : Above (length domains) (length tables) (length agenda) → openRefusal n d domains tables agenda ≡ unwhole n d
+  pub open-above : AboveOrNone (length domains) (length tables) (length agenda) → openRefusal n d domains tables agenda ≡ unwhole n d
   unfolding openRefusal unwhole
   open-above h =
       else-three (refusalOfNumbers n d) _
-      (λ e. let r = in-range n d e in rw (lengths-three n d (length domains) (length tables) (length agenda) (r .few) (r .small) h) refl)
+      (λ e. let r = in-range n d e in rw (lengths-three n d (length domains) (length tables) (length agenda) r h) refl)
 
   -- Of the chooser and of save.
-  pub search-above : (steps checks subproblems : ℕ) → Above (length domains) (length tables) (length agenda)
+  pub search-above : (steps checks subproblems : ℕ) → AboveOrNone (length domains) (length tables) (length agenda)
       → searchRefusal n d domains tables agenda steps checks subproblems ≡ unwhole n d
   unfolding searchRefusal
   search-above steps checks subproblems h = rw (open-above h, ne-eqb (unwhole n d) 0 (unwhole-not n d)) refl
 
   -- Of a run.
-  pub run-above : (requests : List ℕ) (steps checks subproblems : ℕ) → Above (length domains) (length tables) (length agenda)
+  pub run-above : (requests : List ℕ) (steps checks subproblems : ℕ) → AboveOrNone (length domains) (length tables) (length agenda)
       → runRefusal n d domains tables agenda requests steps checks subproblems ≡ unwhole n d
   unfolding runRefusal unwhole
   run-above requests steps checks subproblems h =
       else-three (refusalOfNumbers n d) _
-      (λ e. let r = in-range n d e in rw (lengths-three n d (length domains) (length tables) (length agenda) (r .few) (r .small) h) refl)
+      (λ e. let r = in-range n d e in rw (lengths-three n d (length domains) (length tables) (length agenda) r h) refl)
 
   -- Of a run whose list is not whole requests.
   pub run-cut : (requests : List ℕ) (steps checks subproblems : ℕ) → (n ≤ 32 → refusalOfRequests n (length requests) ≡ 3)
@@ -178,7 +220,7 @@ module _ (n d : ℕ) (domains tables agenda : List ℕ) where
       go false x e = refl
 
 -- Of save.
-pub save-above : (n d : ℕ) (domains tables agenda : List ℕ) (s : State) (file : List ℕ) → Above (length domains) (length tables) (length agenda)
+pub save-above : (n d : ℕ) (domains tables agenda : List ℕ) (s : State) (file : List ℕ) → AboveOrNone (length domains) (length tables) (length agenda)
     → saveRefusal n d domains tables agenda s file ≡ unwhole n d
 unfolding saveRefusal
 save-above n d domains tables agenda s file h =
@@ -208,14 +250,38 @@ unwhole-file-not file = go (eqb (refusalOfFile file) 0) refl
     go true e h = unwhole-some (refusalOfWords file) h
     go false e h = eqb-false (refusalOfFile file) 0 e h
 
-pub load-above : (file : List ℕ) (domains tables agenda : ℕ) → Above domains tables agenda → loadRefusal file domains tables agenda ≡ unwholeFile file
+said-range : (file : List ℕ) → Accepts file → In-range (saidN file) (saidD file)
+said-range file r = record { some = r .some-variable; few = r .variables; some-value = r .some-value; small = r .values }
+
+pub load-above : (file : List ℕ) (domains tables agenda : ℕ) → AboveOrNone domains tables agenda → loadRefusal file domains tables agenda ≡ unwholeFile file
 unfolding loadRefusal unwholeFile
 load-above file domains tables agenda h =
     ap (orElse (refusalOfFile file)) (else-three (refusalOfWords file) _
-    (λ e. let r = words-accept file e in rw (lengths-three (saidN file) (saidD file) domains tables agenda (r .variables) (r .values) h) refl))
+    (λ e. let r = words-accept file e in rw (lengths-three (saidN file) (saidD file) domains tables agenda (said-range file r) h) refl))
 
 pub load-no-words : (file : List ℕ) → loadRefusal file 0 0 0 ≡ unwholeFile file
 unfolding loadRefusal unwholeFile refusalOfLengths
 load-no-words file =
     ap (orElse (refusalOfFile file)) (else-three (refusalOfWords file) _
     (λ e. let r = words-accept file e in let f : eqb 0 (saidN file) ≡ false = ne-eqb 0 (saidN file) (λ z. absurd (omega (arith, r .some-variable))) in rw f refl))
+
+-- ---- what is written back
+
+pub front-few : (n before after slots : ℕ) → n ≤ 32 → before < 4294967296 → after < 4294967296 → slots ≤ before + after → slots * (n + 2) < 2 ^ 64
+front-few n before after slots few b a h =
+    let most : slots ≤ 8589934592 = omega arith in
+    let slot : n + 2 ≤ 34 = omega arith in
+    omega (arith, mul-le-mul most slot)
+
+-- The slots used before and after take no more words than so many times the larger number.
+pub front-used : (n before after slots words used : ℕ) → before ≤ slots → after ≤ slots → used ≡ slots * (n + 2) → used < words → Front n before after words used
+front-used n before after slots words used b a e l = record {
+  inside = omega arith;
+  past = λ i h m.
+      let low : before * (n + 2) ≤ slots * (n + 2) = mul-le-mul-right (n + 2) b in
+      let high : after * (n + 2) ≤ slots * (n + 2) = mul-le-mul-right (n + 2) a in
+      (omega arith, omega arith);
+}
+
+pub front-all : (n before after words : ℕ) → Front n before after words words
+front-all n before after words = record { inside = omega arith; past = λ i h m. absurd (omega arith) }

@@ -4,7 +4,7 @@ use mathlib.Core.Path.{_≡_, refl, sym, ap, ap₂, subst, _∙_}
 use mathlib.Core.Logic.{⊎-elim}
 use mathlib.Core.Bool.{Bool, true, false}
 use mathlib.Core.List.{List, _∷_, _++_}
-use Prim.Native.Nat.{ℕ, _+_, _^_, _≤_, _<_}
+use Prim.Native.Nat.{ℕ, _+_, _*_, _^_, _≤_, _<_}
 use native.Mathlib.Omega.{arith}
 use native.Mathlib.Nat.{zero-add}
 use native.Mathlib.Decide.{ℕ-discrete}
@@ -146,6 +146,20 @@ module _ (n d : ℕ) (domains tables before : List ℕ) (s : State) (small : (i 
       elim (ℕ-discrete first 0) [
         | yes e ↦ run-leaves-so n d domains tables before left requests s r (run-handed requests e) runs .0 whole .handed .stepped
         | no f ↦ let same : r .state .counts .steps .0 ≡ s .counts .steps .0 = rw (ne-eqb first 0 f) at (runs .steps) in omega (arith, stepped)
+      ]
+
+  -- Past the slots used before and after a run nothing changes.
+  pub run-past : (left requests : List ℕ) (r : Ran) → WholeRequests n (length requests) → Runs n d domains tables before left requests s r
+      → (i : ℕ) → i < length before → i < length left → s .subproblems * (n + 2) ≤ i → r .state .subproblems * (n + 2) ≤ i
+      → getD left i 0 ≡ getD before i 0
+  run-past left requests r whole runs i h h′ b a =
+      let first : ℕ = runRefusal n d domains tables before requests (s .counts .steps .0) (s .counts .checks .0) (s .subproblems) in
+      elim (ℕ-discrete first 0) [
+        | yes e ↦
+            let handed = run-handed requests e in
+            let l = run-leaves-so n d domains tables before left requests s r handed runs .0 whole in
+            known n d domains tables left (r .state) (l .handed) .passed .zeros i a h′ ∙ sym (known n d domains tables before s handed .passed .zeros i b h)
+        | no f ↦ let same : left ≡ before = rw (ne-eqb first 0 f) at (runs .agenda) in ap (λ (w : List ℕ). getD w i 0) same
       ]
 
   pub choose-narrow : (left : List ℕ) (limit : ℕ) (r : Ran) → s .subproblems < 4294967296 → Chooses n d domains tables before left limit s r → Narrow r

@@ -4,7 +4,7 @@ use mathlib.Core.Path.{_≡_, refl, sym, ap, ap₂, _∙_}
 use mathlib.Core.List.{List, [], _∷_, _++_, append-nil}
 use Prim.Native.Nat.{ℕ, zero, suc, _+_, _*_, _/_, _%_, _^_, _≤_, _<_}
 use native.Mathlib.Omega.{arith}
-use lib.ListN.{length, getD, take, drop, set}
+use lib.ListN.{length, getD, take, drop, set, take-append-drop}
 use lib.Seq.{take-at, take-length, drop-length}
 use Rattle.search.proofs.Copies.{copy-more}
 use Rattle.console.specs.Bytes.{Whole, wordsOf, bytesOf}
@@ -86,6 +86,27 @@ words-append [] b e = refl
 words-append (x ∷ []) b e = absurd (omega arith)
 words-append (x ∷ y ∷ a) b e = ap₂ _∷_ refl (words-append a b (omega arith))
 
+-- The bytes of two lists of words are those of the first, then those of the second.
+pub bytes-append : (v w : List ℕ) → bytesOf (v ++ w) ≡ bytesOf v ++ bytesOf w
+unfolding bytesOf
+bytes-append [] w = refl
+bytes-append (x ∷ v) w = ap (λ (b : List ℕ). (x % 256) ∷ (x / 256) ∷ b) (bytes-append v w)
+
+-- The bytes past those of the first k words.
+pub bytes-past : (k : ℕ) (w : List ℕ) → drop (2 * k) (bytesOf w) ≡ bytesOf (drop k w)
+unfolding bytesOf
+bytes-past zero w = refl
+bytes-past (suc k) [] = let two : 2 * suc k ≡ suc (suc (2 * k)) = omega arith in rw two refl
+bytes-past (suc k) (x ∷ w) = let two : 2 * suc k ≡ suc (suc (2 * k)) = omega arith in rw two (bytes-past k w)
+
+-- Where words are past k as before, writing the bytes of the first k writes all.
+pub front-said : (k : ℕ) (b y : List ℕ) → Whole b → ((i : ℕ) → getD b i 0 < 256) → drop k y ≡ drop k (wordsOf b)
+    → bytesOf (take k y) ++ drop (2 * k) b ≡ bytesOf y
+front-said k b y w small e =
+    let rest : drop (2 * k) b ≡ bytesOf (drop k y) =
+    ap (drop (2 * k)) (sym (bytes-again b w small)) ∙ bytes-past k (wordsOf b) ∙ ap bytesOf (sym e) in
+    ap (λ (z : List ℕ). bytesOf (take k y) ++ z) rest ∙ sym (bytes-append (take k y) (drop k y)) ∙ ap bytesOf (take-append-drop k y)
+
 -- ---- the loops
 
 -- A word more.
@@ -102,6 +123,12 @@ words-end b d m i e h k =
   where
     take-words : take (length b / 2) (wordsOf b) ≡ wordsOf b
     take-words = ap (λ (k : ℕ). take k (wordsOf b)) (sym (words-length b)) ∙ take-length (wordsOf b)
+
+-- No bytes say no words.
+pub none-said : (b d : List ℕ) → length b ≡ 0 → take (length b / 2) d ≡ wordsOf b
+unfolding wordsOf
+none-said [] d e = refl
+none-said (x ∷ b) d e = absurd (omega arith)
 
 -- The two bytes of a word more.
 pub bytes-more : (w d m : List ℕ) (i x y : ℕ) → m ≡ take (2 * i) (bytesOf w) ++ drop (2 * i) d → x ≡ getD w i 0 % 256 → y ≡ getD w i 0 / 256

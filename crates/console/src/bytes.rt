@@ -2,8 +2,9 @@
 ghost use mathlib.Core.Path.{_≡_};
 ghost use Prim.Native.Nat.{_+_, _*_, _/_, _%_, _≤_, _<_};
 ghost use lib.ListN.{length, take};
+ghost use lib.Dec.{ltb};
 ghost use Rattle.console.specs.Bytes.{wordsOf, bytesOf};
-ghost use Rattle.console.specs.Work.Rooms.{fits, roomFor, wholeList};
+ghost use Rattle.console.specs.Work.Rooms.{fits, roomFor, wholeList, Front};
 
 // The word of two bytes.
 fn word(low: u8, high: u8) -> u16
@@ -12,17 +13,31 @@ fn word(low: u8, high: u8) -> u16
     (low as u16) + 256 * (high as u16)
 }
 
-// The words that the bytes say, at the front of `words`.
+// The words that the bytes say, at the front of `words`. There is one at least: with no test before the first, what they cover is not filled with zeros too.
 pub(crate) fn words_of(bytes: &[u8], words: &mut [u16])
-    requires { ⌜ (length (now bytes) % 2 ≡ 0) × (length (now bytes) ≤ 2 * length (now words)) ⌝ }
+    requires { ⌜ (length (now bytes) % 2 ≡ 0) × ((0 < length (now bytes)) × (length (now bytes) ≤ 2 * length (now words))) ⌝ }
     ensures { λ r. ⌜ take (length (now (bytes .entry)) / 2) (now (words .exit)) ≡ wordsOf (now (bytes .entry)) ⌝ }
 {
     let count = bytes.len() / 2;
     let mut i = 0;
-    while i < count {
+    loop {
         words[i] = word(bytes[2 * i], bytes[2 * i + 1]);
         i += 1;
+        if count <= i {
+            return;
+        }
     }
+}
+
+// The same of bytes that may be none.
+pub(crate) fn any_words_of(bytes: &[u8], words: &mut [u16])
+    requires { ⌜ (length (now bytes) % 2 ≡ 0) × (length (now bytes) ≤ 2 * length (now words)) ⌝ }
+    ensures { λ r. ⌜ take (length (now (bytes .entry)) / 2) (now (words .exit)) ≡ wordsOf (now (bytes .entry)) ⌝ }
+{
+    if bytes.len() == 0 {
+        return;
+    }
+    words_of(bytes, words);
 }
 
 // The bytes that say the words.
@@ -49,7 +64,15 @@ fn fits(bytes: usize, most: usize) -> bool
     bytes <= 2 * most
 }
 
-// Whether domains, tables and agenda are whole words, no more of them than any problem and any agenda have.
+// Whether none of the three is 0, by one test.
+fn none_empty(domains: usize, tables: usize, agenda: usize) -> bool
+    requires { ⌜ (domains ≤ 64) × ((tables ≤ 32768) × (agenda ≤ 34816)) ⌝ }
+    ensures { λ r. ⌜ r ≡ ltb 0 (domains * tables * agenda) ⌝ }
+{
+    0 < domains * tables * agenda
+}
+
+// Whether domains, tables and agenda are whole words, none of them empty, and no more words than any problem and any agenda have.
 pub(crate) fn room_for(domains: usize, tables: usize, agenda: usize) -> bool
     ensures { λ r. ⌜ r ≡ roomFor domains tables agenda ⌝ }
 {
@@ -59,7 +82,10 @@ pub(crate) fn room_for(domains: usize, tables: usize, agenda: usize) -> bool
     if !fits(tables, 16384) {
         return false;
     }
-    fits(agenda, 17408)
+    if !fits(agenda, 17408) {
+        return false;
+    }
+    none_empty(domains, tables, agenda)
 }
 
 // Whether so many bytes are whole requests; of n above 32 no length is.
@@ -70,4 +96,26 @@ pub(crate) fn whole_list(n: usize, bytes: usize) -> bool
         return false;
     }
     bytes % (2 * (n + 3)) == 0
+}
+
+// The larger of two numbers.
+fn larger(a: usize, b: usize) -> usize
+    ensures { λ r. ⌜ (a ≤ r) × ((b ≤ r) × (r ≤ a + b)) ⌝ }
+{
+    if a < b {
+        return b;
+    }
+    a
+}
+
+// How many of the agenda's words a call can have changed: those of the slots used before or after it.
+pub(crate) fn front(n: usize, before: usize, after: usize, words: usize) -> usize
+    requires { ⌜ (n ≤ 32) × ((before < 4294967296) × (after < 4294967296)) ⌝ }
+    ensures { λ r. ⌜ Front n before after words r ⌝ }
+{
+    let used = larger(before, after) * (n + 2);
+    if used < words {
+        return used;
+    }
+    words
 }

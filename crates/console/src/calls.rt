@@ -61,7 +61,7 @@ fn run_words(
     requests: &[u8],
     state: State,
 ) -> Ran
-    requires { ⌜ Room (now domains) (now tables) (now agenda) × (Listed n (length (now requests)) × (state .subproblems < 4294967296)) ⌝ }
+    requires { ⌜ Room (now domains) (now tables) (now agenda) × (Listed n (length (now requests)) × ((state .counts .steps .0 < 4294967296) × (state .subproblems < 4294967296))) ⌝ }
     ensures { λ r. ⌜ RunsWords n d (now (domains .entry)) (now (tables .entry)) (now (agenda .entry)) (now (agenda .exit)) (now (requests .entry)) state r × Narrow r ⌝ }
 {
     let variables = domains.len() / 2;
@@ -82,7 +82,8 @@ fn run_words(
         requests,
         state,
     );
-    bytes::bytes_of(&agenda_words[..slots], agenda);
+    let front = bytes::front(n, state.subproblems, ran.state.subproblems, slots);
+    bytes::bytes_of(&agenda_words[..front], &mut agenda[..2 * front]);
     ran
 }
 

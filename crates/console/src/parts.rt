@@ -63,7 +63,7 @@ fn run_few(
 {
     let mut words = [0u16; 560];
     let count = requests.len() / 2;
-    bytes::words_of(requests, &mut words);
+    bytes::any_words_of(requests, &mut words);
     search::run(n, d, domains, tables, agenda, &words[..count], state)
 }
 
@@ -82,7 +82,7 @@ fn run_many(
 {
     let mut words = [0u16; 7000];
     let count = requests.len() / 2;
-    bytes::words_of(requests, &mut words);
+    bytes::any_words_of(requests, &mut words);
     search::run(n, d, domains, tables, agenda, &words[..count], state)
 }
 

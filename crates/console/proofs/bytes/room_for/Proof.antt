@@ -3,6 +3,7 @@
 use mathlib.Core.Path.{sym, _∙_}
 use mathlib.Core.Bool.{and-false}
 use borrow.Author.Tests.{not-true, not-false}
+use Rattle.console.proofs.Rooms.{fits-few}
 use Rattle.console.specs.Work.Rooms.{roomFor}
 use borrow.Author.Needs.{needs}
 use Rattle.console.proofs.bytes.room_for.Statement.{statement}
@@ -27,8 +28,34 @@ fits-requires-3 c κs = search needs
 
 returns-3 : tie.Need-returns-3
 unfolding roomFor
-returns-3 c = simp (sym (c .before .before .fits3 .ensures) ∙ not-false _ (c .before .if2 .left), sym (c .before .before .before .before .fits2 .ensures) ∙ not-false _ (c .before .before .before .if1 .left)) (c .fits4 .ensures)
+returns-3 c = simp (sym (c .before .fits4 .ensures) ∙ not-true _ (c .if3 .taken), and-false)
+
+none-empty-requires : tie.Need-none-empty-requires
+none-empty-requires c κs = (
+  fits-few _ _ _ (c .before .before .before .before .before .fits2 .ensures) (not-false _ (c .before .before .before .before .if1 .left)),
+  (
+    fits-few _ _ _ (c .before .before .before .fits3 .ensures) (not-false _ (c .before .before .if2 .left)),
+    fits-few _ _ _ (c .before .fits4 .ensures) (not-false _ (c .if3 .left)),
+  ),
+)
+
+returns-4 : tie.Need-returns-4
+unfolding roomFor
+returns-4 c = simp (
+  sym (c .before .before .fits4 .ensures) ∙ not-false _ (c .before .if3 .left),
+  sym (c .before .before .before .before .fits3 .ensures) ∙ not-false _ (c .before .before .before .if2 .left),
+  sym (c .before .before .before .before .before .before .fits2 .ensures) ∙ not-false _ (c .before .before .before .before .before .if1 .left),
+) (c .none-empty .ensures)
 
 pub room-for-spec : {M : Type 1} → statement M
 room-for-spec =
-    tie.close (tie.spec fits-requires returns fits-requires-2 returns-2 fits-requires-3 returns-3)
+    tie.close
+    (tie.spec
+    fits-requires
+    returns
+    fits-requires-2
+    returns-2
+    fits-requires-3
+    returns-3
+    none-empty-requires
+    returns-4)

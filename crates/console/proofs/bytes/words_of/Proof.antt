@@ -2,7 +2,7 @@
 -- Assumes nothing.
 use mathlib.Core.Path.{_≡_, refl}
 use mathlib.Core.List.{_++_}
-use Prim.Native.Nat.{_-_, _/_, _≤_}
+use Prim.Native.Nat.{_-_, _/_, _<_}
 use native.Mathlib.Omega.{arith}
 use lib.ListN.{length, take, drop, length-set}
 use Rattle.console.specs.Bytes.{wordsOf}
@@ -12,7 +12,7 @@ use Rattle.console.proofs.bytes.words_of.Statement.{statement}
 use Rattle.console.proofs.bytes.words_of.Tie as tie
 
 abbrev Inv-loop : tie.InvT-loop
-Inv-loop bytes words₀ count i₀ words i = (i ≤ length bytes / 2) × ((length words ≡ length words₀) × (words ≡ take i (wordsOf bytes) ++ drop i words₀))
+Inv-loop bytes words₀ count i₀ words i = (i < length bytes / 2) × ((length words ≡ length words₀) × (words ≡ take i (wordsOf bytes) ++ drop i words₀))
 
 abbrev μ-loop : tie.MeasureT-loop
 μ-loop bytes words₀ count i₀ words i = length bytes / 2 - i
@@ -47,19 +47,21 @@ slice-write-words c = search needs
 add-i : tie.Need-add-i Inv-loop μ-loop
 add-i c = search needs
 
+same-length : tie.Need-same-length Inv-loop μ-loop
+same-length c = search needs
+
+returns : tie.Need-returns Inv-loop μ-loop
+returns c =
+    let inv = c .before .before .before .before .loop .inv in
+    words-end _ _ _ _ (word-more _ _ _ _ _ (inv .1 .1) (c .before .word .ensures) (inv .0) (omega arith)) (omega arith) (c .if1 .taken)
+
 loop-less : tie.Need-loop-less Inv-loop μ-loop
 loop-less c = search needs
 
 loop-again : tie.Need-loop-again Inv-loop μ-loop
 loop-again c =
     let inv = c .before .before .before .before .loop .inv in
-    (omega arith, (simp length-set (inv .1 .0), word-more _ _ _ _ _ (inv .1 .1) (c .word .ensures) (c .before .before .before .loop-test .taken) (omega arith)))
-
-same-length : tie.Need-same-length Inv-loop μ-loop
-same-length c = search needs
-
-returns : tie.Need-returns Inv-loop μ-loop
-returns c = let inv = c .before .loop .inv in words-end _ _ _ _ (inv .1 .1) (inv .0) (c .loop-test .left)
+    (omega arith, (simp length-set (inv .1 .0), word-more _ _ _ _ _ (inv .1 .1) (c .before .word .ensures) (inv .0) (omega arith)))
 
 pub words-of-spec : {M : Type 1} → statement M
 words-of-spec =
@@ -77,7 +79,7 @@ words-of-spec =
     mul-words
     slice-write-words
     add-i
-    loop-less
-    loop-again
     same-length
-    returns)
+    returns
+    loop-less
+    loop-again)

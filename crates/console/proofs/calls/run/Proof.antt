@@ -21,7 +21,7 @@ whole-list-requires : tie.Need-whole-list-requires
 whole-list-requires c κs = search needs
 
 run-words-requires : tie.Need-run-words-requires
-run-words-requires c κs = (room-true _ _ _ _ (c .before .before .before .before .room-for .ensures) (not-false _ (c .before .before .before .if1 .left)), (listed-then _ _ _ (c .before .before .whole-list .ensures) (c .before .if2 .taken), c .before .before .before .before .before .before .before .before .before .pre))
+run-words-requires c κs = (room-true _ _ _ _ (c .before .before .before .before .room-for .ensures) (not-false _ (c .before .before .before .if1 .left)), (listed-then _ _ _ (c .before .before .whole-list .ensures) (c .before .if2 .taken), (search needs, c .before .before .before .before .before .before .before .before .before .pre)))
 
 same-length : tie.Need-same-length
 same-length c = search needs

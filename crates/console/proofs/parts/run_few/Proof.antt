@@ -7,11 +7,11 @@ use borrow.Author.Needs.{needs}
 use Rattle.console.proofs.parts.run_few.Statement.{statement}
 use Rattle.console.proofs.parts.run_few.Tie as tie
 
-slice-aggregate-words-of : tie.Need-slice-aggregate-words-of
-slice-aggregate-words-of c = search needs
+slice-aggregate-any-words-of : tie.Need-slice-aggregate-any-words-of
+slice-aggregate-any-words-of c = search needs
 
-words-of-requires : tie.Need-words-of-requires
-words-of-requires c κs = search needs
+any-words-of-requires : tie.Need-any-words-of-requires
+any-words-of-requires c κs = search needs
 
 array-share-prefix-words : tie.Need-array-share-prefix-words
 array-share-prefix-words c = search needs
@@ -26,14 +26,14 @@ same-length : tie.Need-same-length
 same-length c = search needs
 
 returns : tie.Need-returns
-returns c = runs-list _ _ _ _ _ _ _ _ _ _ (c .before .before .before .before .before .before .words-of .ensures) (c .before .before .run .ensures)
+returns c = runs-list _ _ _ _ _ _ _ _ _ _ (c .before .before .before .before .before .before .any-words-of .ensures) (c .before .before .run .ensures)
 
 pub run-few-spec : {M : Type 1} → statement M
 run-few-spec =
     tie.close
     (tie.spec
-    slice-aggregate-words-of
-    words-of-requires
+    slice-aggregate-any-words-of
+    any-words-of-requires
     array-share-prefix-words
     slice-aggregate-run
     run-requires
