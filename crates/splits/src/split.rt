@@ -142,23 +142,14 @@ pub fn piece(
     if candidates(n, request) <= k {
         return top;
     }
-    let kind = words::kind(request);
     let variable = words::variable(request);
     let value = words::value(request);
-    if kind == 1 {
-        return backtracking(top, n, d, tables, variable, value, k);
+    match words::kind(request) {
+        1 => backtracking(top, n, d, tables, variable, value, k),
+        2 => forward_checking(top, n, d, tables, variable, value, k),
+        3 => idc(top, n, d, tables, variable, value, k),
+        4 => halving(top, variable, k),
+        5 => extraction(top, n, request, k),
+        _ => top,
     }
-    if kind == 2 {
-        return forward_checking(top, n, d, tables, variable, value, k);
-    }
-    if kind == 3 {
-        return idc(top, n, d, tables, variable, value, k);
-    }
-    if kind == 4 {
-        return halving(top, variable, k);
-    }
-    if kind == 5 {
-        return extraction(top, n, request, k);
-    }
-    top
 }

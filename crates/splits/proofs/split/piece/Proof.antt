@@ -20,47 +20,57 @@ candidates-requires c κs = search needs
 returns-2 : tie.Need-returns-2
 returns-2 c = piece-over _ _ _ _ _ _ _ (sym (c .before .before .before .readable .ensures) ∙ not-false _ (c .before .before .if1 .left)) (c .before .candidates .ensures) (c .if2 .taken)
 
-kind-requires : tie.Need-kind-requires
-kind-requires c κs = search needs
-
 variable-requires : tie.Need-variable-requires
 variable-requires c κs = search needs
 
 value-requires : tie.Need-value-requires
 value-requires c κs = search needs
 
-backtracking-requires : tie.Need-backtracking-requires
-backtracking-requires c κs = inside-1 _ _ _ (c .before .before .before .before .before .before .before .before .before .before .args .top) _ (sym (c .before .before .before .before .before .before .before .readable .ensures) ∙ not-false _ (c .before .before .before .before .before .before .if1 .left)) _ (c .before .before .before .kind .ensures) _ _ (c .before .before .variable .ensures) (c .before .value .ensures) (c .if3 .taken)
+kind-requires : tie.Need-kind-requires
+kind-requires c κs = search needs
 
-returns-3 : tie.Need-returns-3
-returns-3 c = piece-1 _ _ _ _ _ _ _ (sym (c .before .before .before .before .before .before .before .before .readable .ensures) ∙ not-false _ (c .before .before .before .before .before .before .before .if1 .left)) (c .before .before .before .before .before .before .candidates .ensures) (c .before .before .before .before .before .if2 .left) _ (c .before .before .before .before .kind .ensures) _ _ _ (c .before .before .before .variable .ensures) (c .before .before .value .ensures) (c .before .if3 .taken) (c .backtracking .ensures)
+backtracking-requires : tie.Need-backtracking-requires
+backtracking-requires c κs =
+    inside-1 _ _ _ (c .before .before .before .before .before .before .before .before .before .before .args .top) _ (sym (c .before .before .before .before .before .before .before .readable .ensures) ∙ not-false _ (c .before .before .before .before .before .before .if1 .left)) _ (c .before .kind .ensures) _ _ (c .before .before .before .variable .ensures) (c .before .before .value .ensures) (c .match .keys1)
 
 forward-checking-requires : tie.Need-forward-checking-requires
-forward-checking-requires c κs = inside-2 _ _ _ (c .before .before .before .before .before .before .before .before .before .before .before .args .top) _ (sym (c .before .before .before .before .before .before .before .before .readable .ensures) ∙ not-false _ (c .before .before .before .before .before .before .before .if1 .left)) _ (c .before .before .before .before .kind .ensures) _ _ (c .before .before .before .variable .ensures) (c .before .before .value .ensures) (c .if4 .taken)
-
-returns-4 : tie.Need-returns-4
-returns-4 c = piece-2 _ _ _ _ _ _ _ (sym (c .before .before .before .before .before .before .before .before .before .readable .ensures) ∙ not-false _ (c .before .before .before .before .before .before .before .before .if1 .left)) (c .before .before .before .before .before .before .before .candidates .ensures) (c .before .before .before .before .before .before .if2 .left) _ (c .before .before .before .before .before .kind .ensures) _ _ _ (c .before .before .before .before .variable .ensures) (c .before .before .before .value .ensures) (c .before .if4 .taken) (c .forward-checking .ensures)
+forward-checking-requires c κs =
+    inside-2 _ _ _ (c .before .before .before .before .before .before .before .before .before .before .args .top) _ (sym (c .before .before .before .before .before .before .before .readable .ensures) ∙ not-false _ (c .before .before .before .before .before .before .if1 .left)) _ (c .before .kind .ensures) _ _ (c .before .before .before .variable .ensures) (c .before .before .value .ensures) (c .match .keys2)
 
 idc-requires : tie.Need-idc-requires
-idc-requires c κs = (inside-3 _ _ _ (c .before .before .before .before .before .before .before .before .before .before .before .before .args .top) _ (sym (c .before .before .before .before .before .before .before .before .before .readable .ensures) ∙ not-false _ (c .before .before .before .before .before .before .before .before .if1 .left)) _ (c .before .before .before .before .before .kind .ensures) _ _ (c .before .before .before .before .variable .ensures) (c .before .before .before .value .ensures) (c .if5 .taken), peel-place _ _ _ (c .before .before .before .before .before .before .before .before .before .before .before .before .args .top) _ _ _ (sym (c .before .before .before .before .before .before .before .before .before .readable .ensures) ∙ not-false _ (c .before .before .before .before .before .before .before .before .if1 .left)) (c .before .before .before .before .before .before .before .candidates .ensures) _ (c .before .before .before .before .before .kind .ensures) (c .before .before .before .before .before .before .if2 .left) (inl (c .if5 .taken)))
-
-returns-5 : tie.Need-returns-5
-returns-5 c = piece-3 _ _ _ _ _ _ _ (sym (c .before .before .before .before .before .before .before .before .before .before .readable .ensures) ∙ not-false _ (c .before .before .before .before .before .before .before .before .before .if1 .left)) (c .before .before .before .before .before .before .before .before .candidates .ensures) (c .before .before .before .before .before .before .before .if2 .left) _ (c .before .before .before .before .before .before .kind .ensures) _ _ _ (c .before .before .before .before .before .variable .ensures) (c .before .before .before .before .value .ensures) (c .before .if5 .taken) (c .idc .ensures)
+idc-requires c κs =
+    (inside-3 _ _ _ (c .before .before .before .before .before .before .before .before .before .before .args .top) _ (sym (c .before .before .before .before .before .before .before .readable .ensures) ∙ not-false _ (c .before .before .before .before .before .before .if1 .left)) _ (c .before .kind .ensures) _ _ (c .before .before .before .variable .ensures) (c .before .before .value .ensures) (c .match .keys3), peel-place _ _ _ (c .before .before .before .before .before .before .before .before .before .before .args .top) _ _ _ (sym (c .before .before .before .before .before .before .before .readable .ensures) ∙ not-false _ (c .before .before .before .before .before .before .if1 .left)) (c .before .before .before .before .before .candidates .ensures) _ (c .before .kind .ensures) (c .before .before .before .before .if2 .left) (inl (c .match .keys3)))
 
 halving-requires : tie.Need-halving-requires
 halving-requires c κs = search needs
 
-returns-6 : tie.Need-returns-6
-returns-6 c = piece-4 _ _ _ _ _ _ _ (sym (c .before .before .before .before .before .before .before .before .before .before .before .readable .ensures) ∙ not-false _ (c .before .before .before .before .before .before .before .before .before .before .if1 .left)) (c .before .before .before .before .before .before .before .before .before .candidates .ensures) (c .before .before .before .before .before .before .before .before .if2 .left) _ (c .before .before .before .before .before .before .before .kind .ensures) _ _ _ (c .before .before .before .before .before .before .variable .ensures) (c .before .before .before .before .before .value .ensures) (c .before .if6 .taken) (c .halving .ensures)
-
 extraction-requires : tie.Need-extraction-requires
-extraction-requires c κs = (few _ _ _ _ (sym (c .before .before .before .before .before .before .before .before .before .before .before .readable .ensures) ∙ not-false _ (c .before .before .before .before .before .before .before .before .before .before .if1 .left)), peel-place _ _ _ (c .before .before .before .before .before .before .before .before .before .before .before .before .before .before .args .top) _ _ _ (sym (c .before .before .before .before .before .before .before .before .before .before .before .readable .ensures) ∙ not-false _ (c .before .before .before .before .before .before .before .before .before .before .if1 .left)) (c .before .before .before .before .before .before .before .before .before .candidates .ensures) _ (c .before .before .before .before .before .before .before .kind .ensures) (c .before .before .before .before .before .before .before .before .if2 .left) (inr (c .if7 .taken)))
+extraction-requires c κs =
+    (few _ _ _ _ (sym (c .before .before .before .before .before .before .before .readable .ensures) ∙ not-false _ (c .before .before .before .before .before .before .if1 .left)), peel-place _ _ _ (c .before .before .before .before .before .before .before .before .before .before .args .top) _ _ _ (sym (c .before .before .before .before .before .before .before .readable .ensures) ∙ not-false _ (c .before .before .before .before .before .before .if1 .left)) (c .before .before .before .before .before .candidates .ensures) _ (c .before .kind .ensures) (c .before .before .before .before .if2 .left) (inr (c .match .keys5)))
+
+returns-3 : tie.Need-returns-3
+returns-3 c =
+    piece-1 _ _ _ _ _ _ _ (sym (c .before .before .before .before .before .before .before .before .readable .ensures) ∙ not-false _ (c .before .before .before .before .before .before .before .if1 .left)) (c .before .before .before .before .before .before .candidates .ensures) (c .before .before .before .before .before .if2 .left) _ (c .before .before .kind .ensures) _ _ _ (c .before .before .before .before .variable .ensures) (c .before .before .before .value .ensures) (c .before .match .keys1) (c .backtracking .ensures)
+
+returns-4 : tie.Need-returns-4
+returns-4 c =
+    piece-2 _ _ _ _ _ _ _ (sym (c .before .before .before .before .before .before .before .before .readable .ensures) ∙ not-false _ (c .before .before .before .before .before .before .before .if1 .left)) (c .before .before .before .before .before .before .candidates .ensures) (c .before .before .before .before .before .if2 .left) _ (c .before .before .kind .ensures) _ _ _ (c .before .before .before .before .variable .ensures) (c .before .before .before .value .ensures) (c .before .match .keys2) (c .forward-checking .ensures)
+
+returns-5 : tie.Need-returns-5
+returns-5 c =
+    piece-3 _ _ _ _ _ _ _ (sym (c .before .before .before .before .before .before .before .before .readable .ensures) ∙ not-false _ (c .before .before .before .before .before .before .before .if1 .left)) (c .before .before .before .before .before .before .candidates .ensures) (c .before .before .before .before .before .if2 .left) _ (c .before .before .kind .ensures) _ _ _ (c .before .before .before .before .variable .ensures) (c .before .before .before .value .ensures) (c .before .match .keys3) (c .idc .ensures)
+
+returns-6 : tie.Need-returns-6
+returns-6 c =
+    piece-4 _ _ _ _ _ _ _ (sym (c .before .before .before .before .before .before .before .before .readable .ensures) ∙ not-false _ (c .before .before .before .before .before .before .before .if1 .left)) (c .before .before .before .before .before .before .candidates .ensures) (c .before .before .before .before .before .if2 .left) _ (c .before .before .kind .ensures) _ _ _ (c .before .before .before .before .variable .ensures) (c .before .before .before .value .ensures) (c .before .match .keys4) (c .halving .ensures)
 
 returns-7 : tie.Need-returns-7
-returns-7 c = piece-5 _ _ _ _ _ _ _ (sym (c .before .before .before .before .before .before .before .before .before .before .before .before .readable .ensures) ∙ not-false _ (c .before .before .before .before .before .before .before .before .before .before .before .if1 .left)) (c .before .before .before .before .before .before .before .before .before .before .candidates .ensures) (c .before .before .before .before .before .before .before .before .before .if2 .left) _ (c .before .before .before .before .before .before .before .before .kind .ensures) _ (c .before .if7 .taken) (c .extraction .ensures)
+returns-7 c =
+    piece-5 _ _ _ _ _ _ _ (sym (c .before .before .before .before .before .before .before .before .readable .ensures) ∙ not-false _ (c .before .before .before .before .before .before .before .if1 .left)) (c .before .before .before .before .before .before .candidates .ensures) (c .before .before .before .before .before .if2 .left) _ (c .before .before .kind .ensures) _ (c .before .match .keys5) (c .extraction .ensures)
 
 returns-8 : tie.Need-returns-8
-returns-8 c = piece-none _ _ _ _ _ _ _ (sym (c .before .before .before .before .before .before .before .before .before .before .before .readable .ensures) ∙ not-false _ (c .before .before .before .before .before .before .before .before .before .before .if1 .left)) (c .before .before .before .before .before .before .before .before .before .candidates .ensures) (c .before .before .before .before .before .before .before .before .if2 .left) _ (c .before .before .before .before .before .before .before .kind .ensures) _ (c .before .before .before .before .if3 .left) (c .before .before .before .if4 .left) (c .before .before .if5 .left) (c .before .if6 .left) (c .if7 .left) refl
+returns-8 c =
+    piece-none _ _ _ _ _ _ _ (sym (c .before .before .before .before .before .before .before .readable .ensures) ∙ not-false _ (c .before .before .before .before .before .before .if1 .left)) (c .before .before .before .before .before .candidates .ensures) (c .before .before .before .before .if2 .left) _ (c .before .kind .ensures) _ (c .match .rest .0 .0 .0 .0 .1) (c .match .rest .0 .0 .0 .1) (c .match .rest .0 .0 .1) (c .match .rest .0 .1) (c .match .rest .1) refl
 
 pub piece-spec : {M : Type 1} → statement M
 piece-spec =
@@ -70,17 +80,17 @@ piece-spec =
     returns
     candidates-requires
     returns-2
-    kind-requires
     variable-requires
     value-requires
+    kind-requires
     backtracking-requires
-    returns-3
     forward-checking-requires
-    returns-4
     idc-requires
-    returns-5
     halving-requires
-    returns-6
     extraction-requires
+    returns-3
+    returns-4
+    returns-5
+    returns-6
     returns-7
     returns-8)
