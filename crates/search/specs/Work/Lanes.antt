@@ -68,14 +68,9 @@ pub record Sides (i : ℕ) (lanes : List ℕ) : Type 0 where
   pub none : (j : ℕ) → j < 32 → getD lanes j 0 ≡ 0
   pub all : (j : ℕ) → 32 ≤ j → j < i → getD lanes j 0 ≡ 65535
 
--- Mask i as it is cut, from variable j on joined with what is outside.
-unfoldable pub joinedAt : List ℕ → List ℕ → ℕ → ℕ → ℕ
-joinedAt cut out j i = bitOr (getD cut i 0) (cond (ltb i j) 0 (getD out i 0))
-
--- The first i masks so.
-pub record JoinedTo (cut out : List ℕ) (j i : ℕ) (r : List ℕ) : Type 0 where
-  pub long : length r ≡ 32
-  pub each : (k : ℕ) → k < i → getD r k 0 ≡ joinedAt cut out j k
+-- The first i masks as they are cut, those from variable j on joined with what is outside.
+unfoldable pub joinedTo : List ℕ → List ℕ → ℕ → ℕ → List ℕ
+joinedTo cut out j i = changed i (λ k m. bitOr m (cond (ltb k j) 0 (getD out k 0))) cut
 
 -- How many of the first i masks have values.
 unfoldable pub filled : List ℕ → ℕ → ℕ

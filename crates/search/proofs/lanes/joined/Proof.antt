@@ -1,28 +1,30 @@
 -- `search::lanes::joined` meets its contract. The invariant: the first i are joined.
 -- Assumes nothing.
-use mathlib.Core.Path.{_≡_}
+use mathlib.Core.Path.{_≡_, refl}
 use Prim.Native.Nat.{_≤_, _-_}
 use native.Mathlib.Omega.{arith}
-use Rattle.search.specs.Work.Lanes.{JoinedTo}
-use Rattle.search.proofs.Halves.{joined-none, joined-more}
+use Rattle.splits.specs.Splits.{changed}
+use Rattle.search.specs.Work.Lanes.{joinedTo}
+use Rattle.search.proofs.Halves.{joined-more}
 use borrow.Author.Needs.{needs}
 use Rattle.search.proofs.lanes.joined.Statement.{statement}
 use Rattle.search.proofs.lanes.joined.Tie as tie
 
 abbrev Inv-loop : tie.InvT-loop
-Inv-loop sides j cut out piece₀ i₀ piece i = (i ≤ 32) × JoinedTo cut out j i piece
+Inv-loop sides j cut₀ out i₀ cut i = (i ≤ 32) × (cut ≡ joinedTo cut₀ out j i)
 
 abbrev μ-loop : tie.MeasureT-loop
-μ-loop sides j cut out piece₀ i₀ piece i = 32 - i
+μ-loop sides j cut₀ out i₀ cut i = 32 - i
 
 loop-holds : tie.Need-loop-holds Inv-loop μ-loop
-loop-holds c = (search needs, joined-none _ _ _ (search needs))
+unfolding joinedTo changed
+loop-holds c = (search needs, refl)
 
-mul-piece : tie.Need-mul-piece Inv-loop μ-loop
-mul-piece c = search needs
+mul-cut : tie.Need-mul-cut Inv-loop μ-loop
+mul-cut c = search needs
 
-array-read-piece : tie.Need-array-read-piece Inv-loop μ-loop
-array-read-piece c = search needs
+array-read-cut : tie.Need-array-read-cut Inv-loop μ-loop
+array-read-cut c = search needs
 
 mul-kept : tie.Need-mul-kept Inv-loop μ-loop
 mul-kept c = search needs
@@ -45,11 +47,11 @@ shared-slice-read-kept c = let long = c .before .before .before .before .pre .1 
 kept-requires : tie.Need-kept-requires Inv-loop μ-loop
 kept-requires c κs = search needs
 
-mul-piece-2 : tie.Need-mul-piece-2 Inv-loop μ-loop
-mul-piece-2 c = search needs
+mul-cut-2 : tie.Need-mul-cut-2 Inv-loop μ-loop
+mul-cut-2 c = search needs
 
-array-write-piece : tie.Need-array-write-piece Inv-loop μ-loop
-array-write-piece c = search needs
+array-write-cut : tie.Need-array-write-cut Inv-loop μ-loop
+array-write-cut c = search needs
 
 add-i : tie.Need-add-i Inv-loop μ-loop
 add-i c = search needs
@@ -70,8 +72,8 @@ joined-spec =
     Inv-loop
     μ-loop
     loop-holds
-    mul-piece
-    array-read-piece
+    mul-cut
+    array-read-cut
     mul-kept
     array-read-kept
     sub-kept
@@ -79,8 +81,8 @@ joined-spec =
     mul-kept-2
     shared-slice-read-kept
     kept-requires
-    mul-piece-2
-    array-write-piece
+    mul-cut-2
+    array-write-cut
     add-i
     loop-less
     loop-again
