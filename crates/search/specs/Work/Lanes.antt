@@ -87,8 +87,3 @@ pub record Rows (n d : ℕ) (tables : List ℕ) (rows : List (List ℕ)) : Type 
   pub long : length rows ≡ 512
   pub each : (V′ v : ℕ) → V′ < n → v < d
       → (getD (getD rows (V′ * 16 + v) []) V′ 0 ≡ 0) ⊎ RowOf n (tableOf n d tables) V′ v (getD rows (V′ * 16 + v) [])
-
--- The row of v of V among them.
-pub record RowKept (n d : ℕ) (tables : List ℕ) (V′ v : ℕ) (rows : List (List ℕ)) : Type 0 where
-  pub all : Rows n d tables rows
-  pub row : RowOf n (tableOf n d tables) V′ v (getD rows (V′ * 16 + v) [])

@@ -20,28 +20,28 @@ loop-holds : tie.Need-loop-holds Inv-loop μ-loop
 loop-holds c = search needs
 
 mul-slot : tie.Need-mul-slot Inv-loop μ-loop
-mul-slot c = search needs
+mul-slot c = omega arith
 
 array-read-slot : tie.Need-array-read-slot Inv-loop μ-loop
-array-read-slot c = search needs
+array-read-slot c = omega arith
 
 mul-slot-2 : tie.Need-mul-slot-2 Inv-loop μ-loop
-mul-slot-2 c = search needs
+mul-slot-2 c = omega arith
 
 slice-write-slot : tie.Need-slice-write-slot Inv-loop μ-loop
-slice-write-slot c = search needs
+slice-write-slot c = omega arith
 
 add-i : tie.Need-add-i Inv-loop μ-loop
-add-i c = search needs
+add-i c = omega arith
 
 loop-less : tie.Need-loop-less Inv-loop μ-loop
-loop-less c = search needs
+loop-less c = omega arith
 
 loop-again : tie.Need-loop-again Inv-loop μ-loop
 loop-again c = let inv = c .before .loop .inv in let long : length (c .before .before .args .t3) ≡ 32 = search needs in (omega arith, (simp length-set (inv .1 .0), copy-more _ _ _ _ _ (inv .1 .1) refl (omega arith) (omega arith)))
 
 same-length : tie.Need-same-length Inv-loop μ-loop
-same-length c = search needs
+same-length c = omega arith
 
 returns : tie.Need-returns Inv-loop μ-loop
 returns c = let end : c .before .loop .i ≡ c .before .before .args .n = omega arith in rw (← end) (c .before .loop .inv .1 .1)

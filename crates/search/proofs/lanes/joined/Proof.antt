@@ -18,46 +18,46 @@ abbrev μ-loop : tie.MeasureT-loop
 
 loop-holds : tie.Need-loop-holds Inv-loop μ-loop
 unfolding joinedTo changed
-loop-holds c = (search needs, refl)
+loop-holds c = (omega arith, refl)
 
 mul-cut : tie.Need-mul-cut Inv-loop μ-loop
-mul-cut c = search needs
+mul-cut c = omega arith
 
 array-read-cut : tie.Need-array-read-cut Inv-loop μ-loop
-array-read-cut c = search needs
+array-read-cut c = omega arith
 
 mul-kept : tie.Need-mul-kept Inv-loop μ-loop
-mul-kept c = search needs
+mul-kept c = omega arith
 
 array-read-kept : tie.Need-array-read-kept Inv-loop μ-loop
-array-read-kept c = search needs
+array-read-kept c = omega arith
 
 sub-kept : tie.Need-sub-kept Inv-loop μ-loop
-sub-kept c = search needs
+sub-kept c = omega arith
 
 add-kept : tie.Need-add-kept Inv-loop μ-loop
-add-kept c = search needs
+add-kept c = omega arith
 
 mul-kept-2 : tie.Need-mul-kept-2 Inv-loop μ-loop
-mul-kept-2 c = search needs
+mul-kept-2 c = omega arith
 
 shared-slice-read-kept : tie.Need-shared-slice-read-kept Inv-loop μ-loop
 shared-slice-read-kept c = let long = c .before .before .before .before .pre .1 .long in search needs
 
 kept-requires : tie.Need-kept-requires Inv-loop μ-loop
-kept-requires c κs = search needs
+kept-requires c κs = tt
 
 mul-cut-2 : tie.Need-mul-cut-2 Inv-loop μ-loop
-mul-cut-2 c = search needs
+mul-cut-2 c = omega arith
 
 array-write-cut : tie.Need-array-write-cut Inv-loop μ-loop
-array-write-cut c = search needs
+array-write-cut c = omega arith
 
 add-i : tie.Need-add-i Inv-loop μ-loop
-add-i c = search needs
+add-i c = omega arith
 
 loop-less : tie.Need-loop-less Inv-loop μ-loop
-loop-less c = search needs
+loop-less c = omega arith
 
 loop-again : tie.Need-loop-again Inv-loop μ-loop
 loop-again c = (omega arith, joined-more _ _ _ _ _ _ _ (c .before .before .before .loop .inv .1) (c .before .before .before .before .before .pre .1) (c .before .before .loop-test .taken) (c .before .before .before .before .before .pre .0) (c .kept .ensures))
