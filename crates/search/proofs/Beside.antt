@@ -10,7 +10,7 @@ use lib.ListN.{length, getD, set, replicate, length-set, length-replicate, getD-
 use lib.Seq.{getD-set-same, getD-set-other}
 use Rattle.splits.specs.Masks.{single}
 use Rattle.splits.specs.Problem.{Table, tableOf}
-use Rattle.search.specs.Work.Lanes.{RowOf, Rows, RowKept}
+use Rattle.search.specs.Work.Lanes.{RowOf, Rows}
 
 -- A row of which the first j masks are made.
 pub record Begun (allowed : Table) (V′ v j : ℕ) (row : List ℕ) : Type 0 where
@@ -39,6 +39,11 @@ module _ (allowed : Table) (V′ v : ℕ) where
     own = getD-set-same row V′ x 0 (omega (arith, b .long)) ∙ e;
     other = λ i k s. getD-set-other row V′ i x 0 s ∙ b .each i (omega arith);
   }
+
+-- The row of v of V among them.
+pub record RowKept (n d : ℕ) (tables : List ℕ) (V′ v : ℕ) (rows : List (List ℕ)) : Type 0 where
+  pub all : Rows n d tables rows
+  pub row : RowOf n (tableOf n d tables) V′ v (getD rows (V′ * 16 + v) [])
 
 module _ (n d : ℕ) (t : List ℕ) (rows : List (List ℕ)) (V′ v : ℕ) (all : Rows n d t rows) (a-variable : V′ < n) (a-value : v < d) where
   -- A row that has something for its variable is the row.

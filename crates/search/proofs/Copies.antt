@@ -20,10 +20,6 @@ copy-more src d m i x e s h k =
     (set-at (take i src) (getD d i 0) (drop (suc i) d) (getD src i 0) i (length-take-le i src (omega arith))
     ∙ sym (append-snoc (take i src) (getD src i 0) (drop (suc i) d)) ∙ rw (take-suc src i 0) refl)
 
--- At its end the copy is what was copied.
-pub copy-end : (src d m : List ℕ) (i : ℕ) → m ≡ take i src ++ drop i d → i ≡ length d → m ≡ take (length d) src
-copy-end src d m i e h = rw (e, h, drop-length, append-nil) refl
-
 -- What is left of zeros is zeros.
 pub drop-zeros : (k i : ℕ) → drop {A = ℕ} i (replicate k 0) ≡ replicate (k - i) 0
 drop-zeros zero zero = refl

@@ -24,10 +24,10 @@ holding-made n marked words D i e s =
     λ t. record { domains = same t; marked = marked }
 
 -- The subproblem of a slot's words.
-pub slot-held : (n high low m : ℕ) (words : List ℕ) (r : Subproblem) → high ≡ getD words n 0 → low ≡ getD words (n + 1) 0
-    → m ≡ high * 65536 + low → r ≡ holding n words m → r ≡ subproblemOf n words
+pub slot-held : (n m : ℕ) (words : List ℕ) (r : Subproblem) → m ≡ getD words n 0 * 65536 + getD words (n + 1) 0 → r ≡ holding n words m
+    → r ≡ subproblemOf n words
 unfolding subproblemOf
-slot-held n high low m words r a b s e = e ∙ ap (holding n words) (s ∙ rw (a, b) refl)
+slot-held n m words r s e = e ∙ ap (holding n words) s
 
 -- A slot of a subproblem of nothing is zeros.
 pub slot-none : (n : ℕ) → n ≤ 32 → slotWords n (record { domains = replicate 32 0; marked = 0 }) ≡ replicate (n + 2) 0
@@ -79,10 +79,6 @@ slot-made n P slot ys e s h =
     rw (front, two, set-at (take n (P .domains)) (getD slot n 0) (getD slot (suc n) 0 ∷ []) (P .marked / 65536) n long)
     (rw (← append-snoc (take n (P .domains)) (P .marked / 65536) (getD slot (suc n) 0 ∷ []))
     (set-at high (getD slot (suc n) 0) [] (P .marked % 65536) (n + 1) longer ∙ append-snoc (take n (P .domains)) (P .marked / 65536) ((P .marked % 65536) ∷ [])))
-
--- The domains in front of what stood there.
-pub front-made : (n m : ℕ) (D slot ys : List ℕ) → n ≡ m → ys ≡ take (length (take m slot)) D → m ≤ length slot → ys ++ drop m slot ≡ take n D ++ drop n slot
-front-made n m D slot ys s e h = rw (s, e, length-take-le m slot h) refl
 
 -- The words of a slot, its front written.
 pub slot-filled : (n : ℕ) (P : Subproblem) (slot front : List ℕ) → front ≡ take n (P .domains) ++ drop n slot → length slot ≡ n + 2

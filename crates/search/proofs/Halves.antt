@@ -6,6 +6,7 @@ use mathlib.Core.List.{List, _++_}
 use Prim.Native.Nat.{ℕ, zero, suc, _+_, _-_, _*_, _/_, _%_, _^_, _≤_, _<_}
 use native.Mathlib.Omega.{arith}
 use native.Mathlib.Decide.{decLt, ℕ-discrete}
+use native.Mathlib.Numerals.{add-one}
 use native.Mathlib.Nat.{one-mul, mod-eq-of-lt}
 use lib.ListN.{length, getD, set, take, drop, replicate, length-set, length-append, length-take, length-drop, length-replicate, List·getD-append}
 use lib.Seq.{length-take-le, getD-set-same, getD-set-other, getD-take, getD-drop, getD-append-add, take-take, ext-getD}
@@ -17,9 +18,10 @@ use Rattle.splits.specs.Masks.{bit, common, minus, size}
 use Rattle.splits.specs.Subproblems.{every}
 use Rattle.splits.proofs.Masks.{common-none, not-minus, single-lt}
 use Rattle.splits.proofs.Tests.{every-at}
+use Rattle.splits.proofs.Loops.{changed-more, changed-next}
 use Rattle.search.specs.Agenda.{holding, subproblemOf, slotAt}
 use Rattle.search.specs.Work.Slots.{SlotIn}
-use Rattle.search.specs.Work.Lanes.{Half, Beyond, Below, Kept, KeptTo, keyOf, Sides, joinedAt, JoinedTo}
+use Rattle.search.specs.Work.Lanes.{Half, Beyond, Below, Kept, KeptTo, keyOf, Sides, joinedTo}
 use Rattle.search.proofs.Joining.{bit-shr}
 use Rattle.search.proofs.Turning.{bit-low}
 
@@ -126,19 +128,19 @@ kept-holding n marked lanes words D few h b k = λ t. record { domains = same t;
     same = ext-getD 0 _ _ both at
 
 -- So they are of the words of slot k and those after it.
-pub slot-lanes : (n k : ℕ) (agenda lanes D : List ℕ) (high low m : ℕ) → SlotIn n k (length agenda) → k * (n + 2) + 32 ≤ length agenda → Below n lanes
-    → KeptTo lanes (take ((k * (n + 2) + 32) - k * (n + 2)) (drop (k * (n + 2)) agenda)) 32 D → high ≡ getD agenda (k * (n + 2) + n) 0
-    → low ≡ getD agenda (k * (n + 2) + n + 1) 0 → m ≡ high * 65536 + low → record { domains = D; marked = m } ≡ subproblemOf n (slotAt n agenda k)
+pub slot-lanes : (n k : ℕ) (agenda lanes D : List ℕ) (m : ℕ) → SlotIn n k (length agenda) → k * (n + 2) + 32 ≤ length agenda → Below n lanes
+    → KeptTo lanes (take ((k * (n + 2) + 32) - k * (n + 2)) (drop (k * (n + 2)) agenda)) 32 D
+    → m ≡ getD agenda (k * (n + 2) + n) 0 * 65536 + getD agenda (k * (n + 2) + n + 1) 0 → record { domains = D; marked = m } ≡ subproblemOf n (slotAt n agenda k)
 unfolding subproblemOf slotAt holding
-slot-lanes n k agenda lanes D high low m slot fits b kept hi lo e =
+slot-lanes n k agenda lanes D m slot fits b kept e =
     let long : (k * (n + 2) + 32) - k * (n + 2) ≡ 32 = omega arith in
     let inside : n ≤ length (take ((k * (n + 2) + 32) - k * (n + 2)) (drop (k * (n + 2)) agenda)) = rw (long, length-take, length-drop) (omega (arith, slot .few)) in
     let front : take n (take ((k * (n + 2) + 32) - k * (n + 2)) (drop (k * (n + 2)) agenda)) ≡ take n (take (n + 2) (drop (k * (n + 2)) agenda)) =
     rw long (take-take n 32 (drop (k * (n + 2)) agenda) (slot .few)) ∙ sym (take-take n (n + 2) (drop (k * (n + 2)) agenda) (omega arith)) in
-    let one : getD (take (n + 2) (drop (k * (n + 2)) agenda)) n 0 ≡ high =
-    getD-take (n + 2) (drop (k * (n + 2)) agenda) n 0 (omega arith) ∙ getD-drop (k * (n + 2)) agenda n 0 ∙ sym hi in
-    let two : getD (take (n + 2) (drop (k * (n + 2)) agenda)) (n + 1) 0 ≡ low =
-    getD-take (n + 2) (drop (k * (n + 2)) agenda) (n + 1) 0 (omega arith) ∙ getD-drop (k * (n + 2)) agenda (n + 1) 0 ∙ (let up : k * (n + 2) + (n + 1) ≡ k * (n + 2) + n + 1 = omega arith in ap (λ (x : ℕ). getD agenda x 0) up) ∙ sym lo in
+    let one : getD (take (n + 2) (drop (k * (n + 2)) agenda)) n 0 ≡ getD agenda (k * (n + 2) + n) 0 =
+    getD-take (n + 2) (drop (k * (n + 2)) agenda) n 0 (omega arith) ∙ getD-drop (k * (n + 2)) agenda n 0 in
+    let two : getD (take (n + 2) (drop (k * (n + 2)) agenda)) (n + 1) 0 ≡ getD agenda (k * (n + 2) + n + 1) 0 =
+    getD-take (n + 2) (drop (k * (n + 2)) agenda) (n + 1) 0 (omega arith) ∙ getD-drop (k * (n + 2)) agenda (n + 1) 0 ∙ (let up : k * (n + 2) + (n + 1) ≡ k * (n + 2) + n + 1 = omega arith in ap (λ (x : ℕ). getD agenda x 0) up) in
     let marks : m ≡ getD (take (n + 2) (drop (k * (n + 2)) agenda)) n 0 * 65536 + getD (take (n + 2) (drop (k * (n + 2)) agenda)) (n + 1) 0 = e ∙ rw (one, two) refl in
     kept-holding n m lanes _ D (slot .few) inside b kept ∙ (λ i. record { domains = front i ++ replicate (32 - n) 0; marked = marks i })
 
@@ -158,20 +160,12 @@ sides-more l i s h k = record {
   ];
 }
 
--- No mask joined yet, and one more.
-pub joined-none : (cut out : List ℕ) (j : ℕ) → length cut ≡ 32 → JoinedTo cut out j 0 cut
-joined-none cut out j e = record { long = e; each = λ k h. absurd (omega arith) }
-
-pub joined-more : (cut out sides : List ℕ) (j i x : ℕ) (r : List ℕ) → JoinedTo cut out j i r → Sides 64 sides → i < 32 → j ≤ 32 → Kept (getD out i 0) (getD sides (32 - j + i) 0) x
-    → JoinedTo cut out j (i + 1) (set r i (bitOr (getD cut i 0) x))
-unfolding joinedAt
-joined-more cut out sides j i x r so-far s h l w = record {
-  long = length-set r i _ ∙ so-far .long;
-  each = λ k q. elim (ℕ-discrete k i) [
-    | yes e ↦ rw e (getD-set-same r i _ 0 (omega (arith, so-far .long)) ∙ ap (bitOr (getD cut i 0)) its-side)
-    | no e ↦ getD-set-other r i k _ 0 e ∙ so-far .each k (omega arith)
-  ];
-}
+-- One mask more joined.
+pub joined-more : (cut out sides m : List ℕ) (j i x : ℕ) → m ≡ joinedTo cut out j i → Sides 64 sides → i < 32 → j ≤ 32 → Kept (getD out i 0) (getD sides (32 - j + i) 0) x
+    → set m i (bitOr (getD m i 0) x) ≡ joinedTo cut out j (i + 1)
+unfolding joinedTo
+joined-more cut out sides m j i x e s h l w =
+    rw (its-side, e, add-one, changed-next i (λ k m. bitOr m (cond (ltb k j) 0 (getD out k 0))) cut) (changed-more i (λ k m. bitOr m (cond (ltb k j) 0 (getD out k 0))) cut)
   where
     its-side : x ≡ cond (ltb i j) 0 (getD out i 0)
     its-side = elim (decLt i j) [

@@ -11,7 +11,7 @@ use native.Mathlib.Decide.{decLt, ℕ-discrete}
 use lib.ListN.{length, getD, set, length-set, length-append}
 use lib.Seq.{getD-set-same, getD-set-other, ext-getD}
 use lib.Bits.{bitOr}
-use lib.Dec.{eqb}
+use lib.Dec.{eqb, ltb}
 use borrow.Author.Tests.{eq-eqb, ne-eqb, le-leb, lt-ltb, le-ltb}
 use Rattle.splits.specs.Masks.{single, common, minus}
 use Rattle.splits.specs.Problem.{tableOf, total}
@@ -29,7 +29,7 @@ use Rattle.search.specs.Agenda.{slotWords}
 use Rattle.search.specs.Chooser.{request}
 use Rattle.search.specs.Work.Slots.{splice, SlotIn}
 use Rattle.search.specs.Work.Steps.{Replaced}
-use Rattle.search.specs.Work.Lanes.{cutTo, outsideTo, joinedAt, JoinedTo, filled}
+use Rattle.search.specs.Work.Lanes.{cutTo, outsideTo, joinedTo, filled}
 use Rattle.search.specs.Work.Found.{AtTop, RoomFor, innerBy, outerBy, Spread, precludedBy, several}
 use Rattle.search.specs.declared.choice.Choice.{Choice}
 use Rattle.search.proofs.Candidates.{firsts, firsts-start, firsts-drop, firsts-keep, pieces-are}
@@ -229,15 +229,28 @@ module _ (n d : ℕ) (t : List ℕ) (P : Subproblem) (c : Choice) (below words :
           ]
 
       -- The piece that the code makes is the candidate.
-      module _ (D : List ℕ) (f : JoinedTo cut′ out (j - 1) 32 D) (k : rest ≡ 0 → ⊥) where
+      module _ (D : List ℕ) (f : D ≡ joinedTo cut′ out (j - 1) 32) (k : rest ≡ 0 → ⊥) where
         abbrev made : List ℕ
         made = set D (j - 1) rest
 
+        made-long : length D ≡ 32
+        unfolding joinedTo innerBy cutTo
+        made-long =
+            ap length f ∙ length-changed 32 (λ k m. bitOr m (cond (ltb k (j - 1)) 0 (getD out k 0))) cut′
+            ∙ ap length (its .inner) ∙ length-set (cutTo (P .domains) (c .row) 32) (c .variable) _
+            ∙ length-changed 32 (λ j m. common m (getD (c .row) j 0)) (P .domains) ∙ h .regular .shape .long
+
+        each : (i : ℕ) → i < 32 → getD D i 0 ≡ bitOr (getD cut′ i 0) (cond (ltb i (j - 1)) 0 (getD out i 0))
+        unfolding joinedTo
+        each i l =
+            ap (λ (m : List ℕ). getD m i 0) f ∙ changed-before 32 (λ k m. bitOr m (cond (ltb k (j - 1)) 0 (getD out k 0))) cut′ i l
+            (omega (arith, sym (length-changed 32 (λ k m. bitOr m (cond (ltb k (j - 1)) 0 (getD out k 0))) cut′), ap length f, made-long))
+
         made-at : (i : ℕ) → i < 32 → getD made i 0 ≡ domain (disjunct (tableOf n d t) P (c .variable) (c .value) (j - 1)) i
-        unfolding joinedAt besides
+        unfolding besides
         made-at i h = elim (ℕ-discrete i (j - 1)) [
-          | yes e ↦ rw e (getD-set-same D (j - 1) rest 0 (omega (arith, f .long, few)) ∙ other-rest (rest-other k) ∙ sym here)
-          | no w ↦ getD-set-other D (j - 1) i rest 0 w ∙ f .each i h ∙ elim (decLt i (j - 1)) [
+          | yes e ↦ rw e (getD-set-same D (j - 1) rest 0 (omega (arith, made-long, few)) ∙ other-rest (rest-other k) ∙ sym here)
+          | no w ↦ getD-set-other D (j - 1) i rest 0 w ∙ each i h ∙ elim (decLt i (j - 1)) [
             | yes b ↦
                 rw (lt-ltb i (j - 1) b) (or-none (getD cut′ i 0) ∙ cut-at i b) ∙ sym (changed-before (j - 1) besides less i b (omega (arith, long)))
                 ∙ sym (elsewhere i w)
@@ -255,7 +268,7 @@ module _ (n d : ℕ) (t : List ℕ) (P : Subproblem) (c : Choice) (below words :
         unfolding disjunct without cutBeside
         made-is =
             let all : made ≡ disjunct (tableOf n d t) P (c .variable) (c .value) (j - 1) .domains =
-            ext-getD 0 _ _ (length-set D (j - 1) rest ∙ f .long ∙ sym (length-set (cutDown (j - 1)) (j - 1) _ ∙ rw (cut-is (j - 1), length-changed (j - 1) besides less) long)) (λ i h. made-at i (omega (arith, length-set D (j - 1) rest, f .long))) in
+            ext-getD 0 _ _ (length-set D (j - 1) rest ∙ made-long ∙ sym (length-set (cutDown (j - 1)) (j - 1) _ ∙ rw (cut-is (j - 1), length-changed (j - 1) besides less) long)) (λ i h. made-at i (omega (arith, length-set D (j - 1) rest, made-long))) in
             let same : record { domains = made; marked = P .marked } ≡ disjunct (tableOf n d t) P (c .variable) (c .value) (j - 1) =
             λ i. record { domains = all i; marked = P .marked } in
             same ∙ sym (candidate-other (rest-other k))
@@ -275,7 +288,7 @@ module _ (n d : ℕ) (t : List ℕ) (P : Subproblem) (c : Choice) (below words :
             (candidate n (tableOf n d t) P r j) (subst (λ (k : ℕ). Piece P n d t r k (candidate n (tableOf n d t) P r j)) (sym back) (piece-of j _ (omega arith) refl))
             true (sym (none-left z)) refl)
 
-        module _ (D : List ℕ) (k : rest ≡ 0 → ⊥) (f : JoinedTo cut′ out (j - 1) 32 D) where
+        module _ (D : List ℕ) (k : rest ≡ 0 → ⊥) (f : D ≡ joinedTo cut′ out (j - 1) 32) where
           abbrev Q : Subproblem
           Q = record { domains = set D (j - 1) rest; marked = P .marked }
 
@@ -295,7 +308,7 @@ module _ (n d : ℕ) (t : List ℕ) (P : Subproblem) (c : Choice) (below words :
           spread-keep after w m =
               subst (λ (i : ℕ). Gathered n d t P r before below after (at + 1) i) down
               (gather-keep n d t P r reads before below agenda at (j + 1) so-far (n + 1) its-named (omega arith) (omega arith) Q its-piece false its-filled refl after few
-              (rw whole room) (length-set D (j - 1) rest ∙ f .long) w m)
+              (rw whole room) (length-set D (j - 1) rest ∙ made-long D f k) w m)
 
   -- ---- the start and the end
   module _ (before : List ℕ) (whole : length before ≡ words) (room : RoomFor n d t P c 3 below words) where

@@ -4,7 +4,7 @@ use splits::subproblem::Subproblem;
 ghost use mathlib.Core.Path.{_≡_};
 ghost use Prim.Native.Nat.{ℕ, _+_, _*_, _≤_, _<_};
 ghost use mathlib.Core.List.{_++_};
-ghost use lib.ListN.{length, take, drop, set, replicate};
+ghost use lib.ListN.{length, getD, take, drop, set, replicate};
 ghost use Rattle.search.specs.Agenda.{holding, slotWords, subproblemOf, slotAt, slotsIn};
 ghost use Rattle.search.specs.Work.Slots.{splice, SlotIn};
 ghost use Rattle.search.specs.Work.Lanes.{Below, KeptTo};
@@ -30,12 +30,20 @@ fn marked_of(high: u16, low: u16) -> u32
     (high as u32) * 65536 + (low as u32)
 }
 
+// The same of the two words from `at` on.
+fn marked_at(words: &[u16], at: usize) -> u32
+    requires { ⌜ at + 2 ≤ length (now words) ⌝ }
+    ensures { λ r. ⌜ r ≡ getD (now (words .entry)) at 0 * 65536 + getD (now (words .entry)) (at + 1) 0 ⌝ }
+{
+    marked_of(words[at], words[at + 1])
+}
+
 // The subproblem that the words of a slot hold.
 fn subproblem_of(n: usize, slot: &[u16]) -> Subproblem
     requires { ⌜ (n ≤ 32) × (length (now slot) ≡ n + 2) ⌝ }
     ensures { λ r. ⌜ r ≡ subproblemOf n (now (slot .entry)) ⌝ }
 {
-    holding(n, slot, marked_of(slot[n], slot[n + 1]))
+    holding(n, slot, marked_at(slot, n))
 }
 
 // The subproblem in slot `k`.
@@ -74,28 +82,20 @@ pub(crate) fn read_lanes(lanes: [u16; 32], n: usize, agenda: &[u16], k: usize) -
     }
     Subproblem {
         domains: kept_words(lanes, &agenda[at..end]),
-        marked: marked_of(agenda[at + n], agenda[at + n + 1]),
-    }
-}
-
-// A domain for each word.
-fn put_domains(words: &mut [u16], domains: [u16; 32])
-    requires { ⌜ length (now words) ≤ 32 ⌝ }
-    ensures { λ r. ⌜ now (words .exit) ≡ take (length (now (words .entry))) domains ⌝ }
-{
-    let mut i = 0;
-    while i < words.len() {
-        words[i] = domains[i];
-        i += 1;
+        marked: marked_at(agenda, at + n),
     }
 }
 
 // The first `n` words are the domains.
-fn put_front(n: usize, slot: &mut [u16], domains: [u16; 32])
+fn put_domains(n: usize, slot: &mut [u16], domains: [u16; 32])
     requires { ⌜ (n ≤ 32) × (n ≤ length (now slot)) ⌝ }
     ensures { λ r. ⌜ now (slot .exit) ≡ take n domains ++ drop n (now (slot .entry)) ⌝ }
 {
-    put_domains(&mut slot[..n], domains);
+    let mut i = 0;
+    while i < n {
+        slot[i] = domains[i];
+        i += 1;
+    }
 }
 
 // The words of a slot, one by one.
@@ -104,7 +104,7 @@ fn put_each(n: usize, slot: &mut [u16], p: Subproblem)
     ensures { λ r. ⌜ now (slot .exit) ≡ slotWords n p ⌝ }
 {
     let domains = p.domains;
-    put_front(n, slot, domains);
+    put_domains(n, slot, domains);
     slot[n] = (p.marked / 65536) as u16;
     slot[n + 1] = (p.marked % 65536) as u16;
 }

@@ -6,7 +6,7 @@ ghost use lib.ListN.{getD};
 ghost use lib.Dec.{eqb};
 ghost use Rattle.splits.specs.Masks.{bit, minus, size};
 ghost use Rattle.splits.specs.Problem.{total};
-ghost use Rattle.search.specs.Work.Lanes.{Half, Beyond, Below, Kept, LeastKey, lost, loses, cutTo, outsideTo, Sides, JoinedTo, filled};
+ghost use Rattle.search.specs.Work.Lanes.{Half, Beyond, Below, Kept, LeastKey, lost, loses, cutTo, outsideTo, Sides, joinedTo, filled};
 
 fn least(a: u16, b: u16) -> u16
     ensures { λ r. ⌜ r ≡ min a b ⌝ }
@@ -176,17 +176,16 @@ pub(crate) fn sides() -> [u16; 64]
 }
 
 // Each mask as it is cut, from variable `j` on joined with what is outside.
-pub(crate) fn joined(cut: [u16; 32], out: [u16; 32], sides: &[u16], j: usize) -> [u16; 32]
+pub(crate) fn joined(mut cut: [u16; 32], out: [u16; 32], sides: &[u16], j: usize) -> [u16; 32]
     requires { ⌜ (j ≤ 32) × Sides 64 (now sides) ⌝ }
-    ensures { λ r. ⌜ JoinedTo cut out j 32 r ⌝ }
+    ensures { λ r. ⌜ r ≡ joinedTo cut out j 32 ⌝ }
 {
-    let mut piece = cut;
     let mut i = 0;
     while i < 32 {
-        piece[i] = cut[i] | kept(out[i], sides[32 - j + i]);
+        cut[i] = cut[i] | kept(out[i], sides[32 - j + i]);
         i += 1;
     }
-    piece
+    cut
 }
 
 // Whether there are values: 1 if so, else 0.

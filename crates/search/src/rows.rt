@@ -2,7 +2,7 @@
 use crate::first;
 ghost use Rattle.splits.specs.Problem.{tableOf};
 ghost use Rattle.splits.specs.Work.Ranges.{Inside};
-ghost use Rattle.search.specs.Work.Lanes.{RowOf, Rows, RowKept};
+ghost use Rattle.search.specs.Work.Lanes.{RowOf, Rows};
 
 // The row of a value of a variable.
 fn made(n: usize, d: usize, tables: &[u16], variable: usize, value: usize) -> [u16; 32]
@@ -19,19 +19,7 @@ fn made(n: usize, d: usize, tables: &[u16], variable: usize, value: usize) -> [u
     row
 }
 
-// The same made among the rows, unless it is there.
-fn keep(n: usize, d: usize, tables: &[u16], rows: &mut [[u16; 32]], variable: usize, value: usize)
-    requires { ⌜ Inside n d (now tables) variable value × Rows n d (now tables) (now rows) ⌝ }
-    ensures { λ r. ⌜ RowKept n d (now (tables .entry)) variable value (now (rows .exit)) ⌝ }
-{
-    let at = variable * 16 + value;
-    if rows[at][variable] != 0 {
-        return;
-    }
-    rows[at] = made(n, d, tables, variable, value);
-}
-
-// The same out of the rows.
+// The same out of the rows, made among them unless it is there.
 pub(crate) fn row(
     n: usize,
     d: usize,
@@ -43,6 +31,9 @@ pub(crate) fn row(
     requires { ⌜ Inside n d (now tables) variable value × Rows n d (now tables) (now rows) ⌝ }
     ensures { λ r. ⌜ RowOf n (tableOf n d (now (tables .entry))) variable value r × Rows n d (now (tables .entry)) (now (rows .exit)) ⌝ }
 {
-    keep(n, d, tables, rows, variable, value);
-    rows[variable * 16 + value]
+    let at = variable * 16 + value;
+    if rows[at][variable] == 0 {
+        rows[at] = made(n, d, tables, variable, value);
+    }
+    rows[at]
 }

@@ -20,7 +20,7 @@ below-requires : tie.Need-below-requires Inv-loop μ-loop
 below-requires c κs = c .before .before .pre .fitting .few
 
 loop-holds : tie.Need-loop-holds Inv-loop μ-loop
-loop-holds c = (search needs, (choosing-none _ _ _ _ _ _ (c .before .before .before .pre), rows-none _ _ _ (c .before .before .before .pre .fitting .few) (c .before .before .before .pre .fitting .small)))
+loop-holds c = (omega arith, (choosing-none _ _ _ _ _ _ (c .before .before .before .pre), rows-none _ _ _ (c .before .before .before .pre .fitting .few) (c .before .before .before .pre .fitting .small)))
 
 slice-aggregate-step-chosen : tie.Need-slice-aggregate-step-chosen Inv-loop μ-loop
 slice-aggregate-step-chosen c = search needs
@@ -35,10 +35,10 @@ returns : tie.Need-returns Inv-loop μ-loop
 returns c = choosing-stops _ _ _ _ _ _ _ _ _ (c .before .before .before .before .before .before .before .before .before .before .loop .inv .1 .0) (c .before .before .before .before .before .before .before .before .before .loop-test .taken) _ _ (c .before .before .before .before .before .before .step-chosen .ensures .0) (c .if1 .taken)
 
 add-taken : tie.Need-add-taken Inv-loop μ-loop
-add-taken c = search needs
+add-taken c = omega arith
 
 loop-less : tie.Need-loop-less Inv-loop μ-loop
-loop-less c = search needs
+loop-less c = omega arith
 
 loop-again : tie.Need-loop-again Inv-loop μ-loop
 loop-again c = (omega arith, (choosing-on _ _ _ _ _ _ _ _ _ (c .before .before .before .before .before .before .before .before .before .before .loop .inv .1 .0) (c .before .before .before .before .before .before .before .before .before .loop-test .taken) _ _ (c .before .before .before .before .before .before .step-chosen .ensures .0) (c .if1 .left), c .before .before .before .before .before .before .step-chosen .ensures .1))

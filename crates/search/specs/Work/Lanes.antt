@@ -68,14 +68,9 @@ pub record Sides (i : ℕ) (lanes : List ℕ) : Type 0 where
   pub none : (j : ℕ) → j < 32 → getD lanes j 0 ≡ 0
   pub all : (j : ℕ) → 32 ≤ j → j < i → getD lanes j 0 ≡ 65535
 
--- Mask i as it is cut, from variable j on joined with what is outside.
-unfoldable pub joinedAt : List ℕ → List ℕ → ℕ → ℕ → ℕ
-joinedAt cut out j i = bitOr (getD cut i 0) (cond (ltb i j) 0 (getD out i 0))
-
--- The first i masks so.
-pub record JoinedTo (cut out : List ℕ) (j i : ℕ) (r : List ℕ) : Type 0 where
-  pub long : length r ≡ 32
-  pub each : (k : ℕ) → k < i → getD r k 0 ≡ joinedAt cut out j k
+-- The first i masks as they are cut, those from variable j on joined with what is outside.
+unfoldable pub joinedTo : List ℕ → List ℕ → ℕ → ℕ → List ℕ
+joinedTo cut out j i = changed i (λ k m. bitOr m (cond (ltb k j) 0 (getD out k 0))) cut
 
 -- How many of the first i masks have values.
 unfoldable pub filled : List ℕ → ℕ → ℕ
@@ -92,8 +87,3 @@ pub record Rows (n d : ℕ) (tables : List ℕ) (rows : List (List ℕ)) : Type 
   pub long : length rows ≡ 512
   pub each : (V′ v : ℕ) → V′ < n → v < d
       → (getD (getD rows (V′ * 16 + v) []) V′ 0 ≡ 0) ⊎ RowOf n (tableOf n d tables) V′ v (getD rows (V′ * 16 + v) [])
-
--- The row of v of V among them.
-pub record RowKept (n d : ℕ) (tables : List ℕ) (V′ v : ℕ) (rows : List (List ℕ)) : Type 0 where
-  pub all : Rows n d tables rows
-  pub row : RowOf n (tableOf n d tables) V′ v (getD rows (V′ * 16 + v) [])

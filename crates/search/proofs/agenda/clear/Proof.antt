@@ -5,7 +5,6 @@ use mathlib.Core.List.{_++_}
 use Prim.Native.Nat.{_≤_, _-_, _+_, _*_, _/_}
 use native.Mathlib.Omega.{arith}
 use lib.ListN.{length, drop, replicate}
-use borrow.Author.Needs.{needs}
 use Rattle.search.proofs.Copies.{zeros-end, clear-none, clear-more, slot-below}
 use Rattle.search.proofs.agenda.clear.Statement.{statement}
 use Rattle.search.proofs.agenda.clear.Tie as tie
@@ -17,22 +16,22 @@ abbrev μ-loop : tie.MeasureT-loop
 μ-loop n agenda₀ slots k₀ agenda k = slots - k
 
 add-slots : tie.Need-add-slots Inv-loop μ-loop
-add-slots c = search needs
+add-slots c = omega arith
 
 div-slots : tie.Need-div-slots Inv-loop μ-loop
-div-slots c = search needs
+div-slots c = omega arith
 
 loop-holds : tie.Need-loop-holds Inv-loop μ-loop
-loop-holds c = (search needs, (refl, clear-none _ (c .before .args .n + 2)))
+loop-holds c = (omega arith, (refl, clear-none _ (c .before .args .n + 2)))
 
 clear-slot-requires : tie.Need-clear-slot-requires Inv-loop μ-loop
 clear-slot-requires c κs = slot-below _ _ _ _ (c .before .before .before .before .pre .0) (c .before .loop-test .taken) (omega arith)
 
 add-k : tie.Need-add-k Inv-loop μ-loop
-add-k c = search needs
+add-k c = omega arith
 
 loop-less : tie.Need-loop-less Inv-loop μ-loop
-loop-less c = search needs
+loop-less c = omega arith
 
 loop-again : tie.Need-loop-again Inv-loop μ-loop
 loop-again c =
@@ -43,7 +42,7 @@ loop-again c =
     (omega arith, (omega arith, c .before .before .clear-slot .ensures ∙ next))
 
 same-length : tie.Need-same-length Inv-loop μ-loop
-same-length c = search needs
+same-length c = omega arith
 
 returns : tie.Need-returns Inv-loop μ-loop
 returns c = let end : c .before .loop .k * (c .before .before .before .args .n + 2) ≡ length (c .before .before .before .args .agenda .now) = (let e : c .before .loop .k ≡ length (c .before .before .before .args .agenda .now) / (c .before .before .before .args .n + 2) = omega arith in rw e (sym (c .before .before .before .pre .1))) in zeros-end _ _ _ (c .before .loop .inv .1 .1) end

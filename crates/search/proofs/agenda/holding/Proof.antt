@@ -21,22 +21,22 @@ loop-holds : tie.Need-loop-holds Inv-loop μ-loop
 loop-holds c = search needs
 
 mul-domains : tie.Need-mul-domains Inv-loop μ-loop
-mul-domains c = search needs
+mul-domains c = omega arith
 
 shared-slice-read-domains : tie.Need-shared-slice-read-domains Inv-loop μ-loop
-shared-slice-read-domains c = search needs
+shared-slice-read-domains c = omega arith
 
 mul-domains-2 : tie.Need-mul-domains-2 Inv-loop μ-loop
-mul-domains-2 c = search needs
+mul-domains-2 c = omega arith
 
 array-write-domains : tie.Need-array-write-domains Inv-loop μ-loop
-array-write-domains c = search needs
+array-write-domains c = omega arith
 
 add-i : tie.Need-add-i Inv-loop μ-loop
-add-i c = search needs
+add-i c = omega arith
 
 loop-less : tie.Need-loop-less Inv-loop μ-loop
-loop-less c = search needs
+loop-less c = omega arith
 
 loop-again : tie.Need-loop-again Inv-loop μ-loop
 loop-again c =

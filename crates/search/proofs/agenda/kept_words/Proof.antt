@@ -16,34 +16,34 @@ abbrev μ-loop : tie.MeasureT-loop
 μ-loop words lanes domains₀ i₀ domains i = 32 - i
 
 loop-holds : tie.Need-loop-holds Inv-loop μ-loop
-loop-holds c = (search needs, record { long = search needs; each = λ j l. absurd (omega arith) })
+loop-holds c = (omega arith, record { long = search needs; each = λ j l. absurd (omega arith) })
 
 mul-kept : tie.Need-mul-kept Inv-loop μ-loop
-mul-kept c = search needs
+mul-kept c = omega arith
 
 shared-slice-read-kept : tie.Need-shared-slice-read-kept Inv-loop μ-loop
-shared-slice-read-kept c = search needs
+shared-slice-read-kept c = omega arith
 
 mul-kept-2 : tie.Need-mul-kept-2 Inv-loop μ-loop
-mul-kept-2 c = search needs
+mul-kept-2 c = omega arith
 
 array-read-kept : tie.Need-array-read-kept Inv-loop μ-loop
-array-read-kept c = search needs
+array-read-kept c = omega arith
 
 kept-requires : tie.Need-kept-requires Inv-loop μ-loop
-kept-requires c κs = search needs
+kept-requires c κs = tt
 
 mul-domains : tie.Need-mul-domains Inv-loop μ-loop
-mul-domains c = search needs
+mul-domains c = omega arith
 
 array-write-domains : tie.Need-array-write-domains Inv-loop μ-loop
-array-write-domains c = search needs
+array-write-domains c = omega arith
 
 add-i : tie.Need-add-i Inv-loop μ-loop
-add-i c = search needs
+add-i c = omega arith
 
 loop-less : tie.Need-loop-less Inv-loop μ-loop
-loop-less c = search needs
+loop-less c = omega arith
 
 loop-again : tie.Need-loop-again Inv-loop μ-loop
 loop-again c = (omega arith, kept-more _ _ _ _ _ (c .before .before .before .loop .inv .1) (omega arith) (c .kept .ensures))

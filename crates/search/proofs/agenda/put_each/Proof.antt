@@ -8,26 +8,26 @@ use borrow.Author.Needs.{needs}
 use Rattle.search.proofs.agenda.put_each.Statement.{statement}
 use Rattle.search.proofs.agenda.put_each.Tie as tie
 
-put-front-requires : tie.Need-put-front-requires
-put-front-requires c κs = search needs
+put-domains-requires : tie.Need-put-domains-requires
+put-domains-requires c κs = (c .before .before .before .pre .0, omega arith)
 
 cast-slot : tie.Need-cast-slot
-cast-slot c = search needs
+cast-slot c = omega arith
 
 mul-slot : tie.Need-mul-slot
-mul-slot c = search needs
+mul-slot c = omega arith
 
 slice-write-slot : tie.Need-slice-write-slot
-slice-write-slot c = search needs
+slice-write-slot c = omega arith
 
 cast-slot-2 : tie.Need-cast-slot-2
-cast-slot-2 c = search needs
+cast-slot-2 c = omega arith
 
 add-slot : tie.Need-add-slot
-add-slot c = search needs
+add-slot c = omega arith
 
 mul-slot-2 : tie.Need-mul-slot-2
-mul-slot-2 c = search needs
+mul-slot-2 c = omega arith
 
 slice-write-slot-2 : tie.Need-slice-write-slot-2
 slice-write-slot-2 c = simp length-set (omega arith)
@@ -36,13 +36,13 @@ same-length : tie.Need-same-length
 same-length c = search needs
 
 returns : tie.Need-returns
-returns c = let long : length (c .before .before .before .before .before .before .before .before .args .p .domains) ≡ 32 = search needs in slot-filled (c .before .before .before .before .before .before .before .before .args .n) (c .before .before .before .before .before .before .before .before .args .p) _ _ (c .before .before .before .before .put-front .ensures) (omega arith) (omega arith)
+returns c = let long : length (c .before .before .before .before .before .before .before .before .args .p .domains) ≡ 32 = search needs in slot-filled (c .before .before .before .before .before .before .before .before .args .n) (c .before .before .before .before .before .before .before .before .args .p) _ _ (c .before .before .before .before .put-domains .ensures) (omega arith) (omega arith)
 
 pub put-each-spec : {M : Type 1} → statement M
 put-each-spec =
     tie.close
     (tie.spec
-    put-front-requires
+    put-domains-requires
     cast-slot
     mul-slot
     slice-write-slot

@@ -1,68 +1,49 @@
 -- `search::agenda::read_lanes` meets its contract.
 -- Assumes nothing.
 use native.Mathlib.Omega.{arith}
-use mathlib.Core.Path.{refl}
 use Rattle.search.proofs.Halves.{slot-lanes}
 use borrow.Author.Needs.{needs}
 use Rattle.search.proofs.agenda.read_lanes.Statement.{statement}
 use Rattle.search.proofs.agenda.read_lanes.Tie as tie
 
 add-at : tie.Need-add-at
-add-at c = search needs
+add-at c = omega arith
 
 mul-at : tie.Need-mul-at
-mul-at c = search needs
+mul-at c = omega arith
 
 add-end : tie.Need-add-end
-add-end c = search needs
+add-end c = omega arith
 
 read-slot-requires : tie.Need-read-slot-requires
-read-slot-requires c κs = search needs
+read-slot-requires c κs = c .before .before .pre .0
 
 returns : tie.Need-returns
-returns c = search needs
+returns c = c .read-slot .ensures
 
 mul-kept-words : tie.Need-mul-kept-words
-mul-kept-words c = search needs
+mul-kept-words c = omega arith
 
 sub-kept-words : tie.Need-sub-kept-words
-sub-kept-words c = search needs
+sub-kept-words c = omega arith
 
 part-kept-words-start : tie.Need-part-kept-words-start
-part-kept-words-start c = search needs
+part-kept-words-start c = omega arith
 
 part-kept-words-end : tie.Need-part-kept-words-end
-part-kept-words-end c = search needs
+part-kept-words-end c = omega arith
 
 kept-words-requires : tie.Need-kept-words-requires
 kept-words-requires c κs = search needs
 
-add-marked-of : tie.Need-add-marked-of
-add-marked-of c = search needs
+add-marked-at : tie.Need-add-marked-at
+add-marked-at c = omega arith
 
-mul-marked-of : tie.Need-mul-marked-of
-mul-marked-of c = search needs
-
-shared-slice-read-marked-of : tie.Need-shared-slice-read-marked-of
-shared-slice-read-marked-of c = search needs
-
-add-marked-of-2 : tie.Need-add-marked-of-2
-add-marked-of-2 c = search needs
-
-add-marked-of-3 : tie.Need-add-marked-of-3
-add-marked-of-3 c = search needs
-
-mul-marked-of-2 : tie.Need-mul-marked-of-2
-mul-marked-of-2 c = search needs
-
-shared-slice-read-marked-of-2 : tie.Need-shared-slice-read-marked-of-2
-shared-slice-read-marked-of-2 c = search needs
-
-marked-of-requires : tie.Need-marked-of-requires
-marked-of-requires c κs = search needs
+marked-at-requires : tie.Need-marked-at-requires
+marked-at-requires c κs = omega (arith, c .before .before .before .before .pre .0 .within)
 
 returns-2 : tie.Need-returns-2
-returns-2 c = slot-lanes _ _ _ _ _ _ _ _ (c .before .before .before .before .before .before .before .pre .0) (omega arith) (c .before .before .before .before .before .before .before .pre .1) (c .before .before .before .kept-words .ensures) refl refl (c .marked-of .ensures)
+returns-2 c = slot-lanes _ _ _ _ _ _ (c .before .before .before .before .before .pre .0) (omega arith) (c .before .before .before .before .before .pre .1) (c .before .kept-words .ensures) (c .marked-at .ensures)
 
 pub read-lanes-spec : {M : Type 1} → statement M
 read-lanes-spec =
@@ -78,12 +59,6 @@ read-lanes-spec =
     part-kept-words-start
     part-kept-words-end
     kept-words-requires
-    add-marked-of
-    mul-marked-of
-    shared-slice-read-marked-of
-    add-marked-of-2
-    add-marked-of-3
-    mul-marked-of-2
-    shared-slice-read-marked-of-2
-    marked-of-requires
+    add-marked-at
+    marked-at-requires
     returns-2)

@@ -1,33 +1,34 @@
 -- `search::agenda::read_slot` meets its contract.
 -- Assumes nothing.
+use native.Mathlib.Omega.{arith}
 use borrow.Author.Needs.{needs}
 use Rattle.search.proofs.Encoding.{slot-read}
 use Rattle.search.proofs.agenda.read_slot.Statement.{statement}
 use Rattle.search.proofs.agenda.read_slot.Tie as tie
 
 add-at : tie.Need-add-at
-add-at c = search needs
+add-at c = omega arith
 
 mul-at : tie.Need-mul-at
-mul-at c = search needs
+mul-at c = omega arith
 
 add-end : tie.Need-add-end
-add-end c = search needs
+add-end c = omega arith
 
 add-end-2 : tie.Need-add-end-2
-add-end-2 c = search needs
+add-end-2 c = omega arith
 
 mul-subproblem-of : tie.Need-mul-subproblem-of
-mul-subproblem-of c = search needs
+mul-subproblem-of c = omega arith
 
 sub-subproblem-of : tie.Need-sub-subproblem-of
-sub-subproblem-of c = search needs
+sub-subproblem-of c = omega arith
 
 part-subproblem-of-start : tie.Need-part-subproblem-of-start
-part-subproblem-of-start c = search needs
+part-subproblem-of-start c = omega arith
 
 part-subproblem-of-end : tie.Need-part-subproblem-of-end
-part-subproblem-of-end c = search needs
+part-subproblem-of-end c = omega arith
 
 subproblem-of-requires : tie.Need-subproblem-of-requires
 subproblem-of-requires c κs = search needs

@@ -1,5 +1,6 @@
 -- `search::agenda::write_but` meets its contract.
 -- Assumes nothing.
+use native.Mathlib.Omega.{arith}
 use mathlib.Core.Path.{_≡_}
 use lib.ListN.{length}
 use Rattle.search.proofs.Encoding.{slot-but}
@@ -8,22 +9,22 @@ use Rattle.search.proofs.agenda.write_but.Statement.{statement}
 use Rattle.search.proofs.agenda.write_but.Tie as tie
 
 write-slot-requires : tie.Need-write-slot-requires
-write-slot-requires c κs = search needs
+write-slot-requires c κs = c .before .before .pre .0
 
 add-at : tie.Need-add-at
-add-at c = search needs
+add-at c = omega arith
 
 mul-at : tie.Need-mul-at
-mul-at c = search needs
+mul-at c = omega arith
 
 add-at-2 : tie.Need-add-at-2
-add-at-2 c = search needs
+add-at-2 c = omega arith
 
 mul-agenda : tie.Need-mul-agenda
-mul-agenda c = search needs
+mul-agenda c = omega arith
 
 slice-write-agenda : tie.Need-slice-write-agenda
-slice-write-agenda c = search needs
+slice-write-agenda c = omega arith
 
 same-length : tie.Need-same-length
 same-length c = search needs

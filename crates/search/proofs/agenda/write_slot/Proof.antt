@@ -10,34 +10,34 @@ use Rattle.search.proofs.agenda.write_slot.Statement.{statement}
 use Rattle.search.proofs.agenda.write_slot.Tie as tie
 
 add-at : tie.Need-add-at
-add-at c = search needs
+add-at c = omega arith
 
 mul-at : tie.Need-mul-at
-mul-at c = search needs
+mul-at c = omega arith
 
 add-end : tie.Need-add-end
-add-end c = search needs
+add-end c = omega arith
 
 add-end-2 : tie.Need-add-end-2
-add-end-2 c = search needs
+add-end-2 c = omega arith
 
 mul-put-words : tie.Need-mul-put-words
-mul-put-words c = search needs
+mul-put-words c = omega arith
 
 sub-put-words : tie.Need-sub-put-words
-sub-put-words c = search needs
+sub-put-words c = omega arith
 
 part-put-words-start : tie.Need-part-put-words-start
-part-put-words-start c = search needs
+part-put-words-start c = omega arith
 
 part-put-words-end : tie.Need-part-put-words-end
-part-put-words-end c = search needs
+part-put-words-end c = omega arith
 
 put-words-requires : tie.Need-put-words-requires
 put-words-requires c κs = search needs
 
 same-length : tie.Need-same-length
-same-length c = search needs
+same-length c = omega arith
 
 returns : tie.Need-returns
 returns c =

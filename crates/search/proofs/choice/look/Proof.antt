@@ -1,8 +1,8 @@
 -- `search::choice::look` meets its contract.
 -- Assumes nothing.
+use native.Mathlib.Omega.{arith}
 use mathlib.Core.Path.{refl}
 use Rattle.search.proofs.Settling.{found-inside, found-is}
-use borrow.Author.Needs.{needs}
 use Rattle.search.proofs.choice.look.Statement.{statement}
 use Rattle.search.proofs.choice.look.Tie as tie
 
@@ -10,25 +10,25 @@ beyond-requires : tie.Need-beyond-requires
 beyond-requires c κs = c .before .before .pre .0 .few
 
 least-key-requires : tie.Need-least-key-requires
-least-key-requires c κs = search needs
+least-key-requires c κs = tt
 
 cast-variable : tie.Need-cast-variable
-cast-variable c = search needs
+cast-variable c = omega arith
 
 domain-requires : tie.Need-domain-requires
-domain-requires c κs = search needs
+domain-requires c κs = tt
 
 first-requires : tie.Need-first-requires
-first-requires c κs = search needs
+first-requires c κs = tt
 
 row-requires : tie.Need-row-requires
 row-requires c κs = let k = c .before .before .before .before .before .before .before .before .pre in (found-inside _ _ _ _ (k .0) (k .1 .0) (k .1 .1 .0) _ _ _ _ _ (c .before .before .before .before .before .beyond .ensures) (c .before .before .before .least-key .ensures) refl (c .before .before .domain .ensures) (c .before .first .ensures), k .1 .1 .1)
 
 loses-requires : tie.Need-loses-requires
-loses-requires c κs = search needs
+loses-requires c κs = tt
 
 same-length : tie.Need-same-length
-same-length c = search needs
+same-length c = omega arith
 
 returns : tie.Need-returns
 returns c = let k = c .before .before .before .before .before .before .before .before .before .before .before .pre in (found-is _ _ _ _ (k .0) (k .1 .0) (k .1 .1 .0) _ _ _ _ _ (c .before .before .before .before .before .before .before .before .beyond .ensures) (c .before .before .before .before .before .before .least-key .ensures) refl (c .before .before .before .before .before .domain .ensures) (c .before .before .before .before .first .ensures) _ _ (c .before .before .row .ensures .0) (c .loses .ensures), c .before .before .row .ensures .1)

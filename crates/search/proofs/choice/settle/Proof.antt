@@ -1,5 +1,6 @@
 -- `search::choice::settle` meets its contract.
 -- Assumes nothing.
+use native.Mathlib.Omega.{arith}
 use mathlib.Core.Path.{_≡_}
 use lib.ListN.{length}
 use Rattle.search.proofs.Settling.{settle-kept, settle-none, settle-rest}
@@ -8,46 +9,46 @@ use Rattle.search.proofs.choice.settle.Statement.{statement}
 use Rattle.search.proofs.choice.settle.Tie as tie
 
 precluded-requires : tie.Need-precluded-requires
-precluded-requires c κs = search needs
+precluded-requires c κs = c .before .before .before .before .pre .0
 
 write-slot-requires : tie.Need-write-slot-requires
-write-slot-requires c κs = search needs
+write-slot-requires c κs = c .before .before .before .before .before .pre .1
 
 add-result : tie.Need-add-result
-add-result c = search needs
+add-result c = omega arith
 
 same-length : tie.Need-same-length
-same-length c = search needs
+same-length c = omega arith
 
 returns : tie.Need-returns
 returns c = let long : length (c .before .before .before .precluded .result .domains) ≡ 32 = search needs in settle-kept _ _ _ _ _ _ (c .before .before .before .before .before .before .before .before .pre .1) (c .before .before .before .before .before .if1 .taken) _ (c .before .before .before .precluded .ensures) long (c .before .before .write-slot .ensures)
 
 clear-slot-requires : tie.Need-clear-slot-requires
-clear-slot-requires c κs = search needs
+clear-slot-requires c κs = c .before .before .before .before .before .before .pre .1
 
 same-length-2 : tie.Need-same-length-2
-same-length-2 c = search needs
+same-length-2 c = omega arith
 
 returns-2 : tie.Need-returns-2
 returns-2 c = settle-none _ _ _ _ _ _ (c .before .before .before .before .before .before .before .before .before .pre .1) (c .before .before .before .before .before .before .if1 .left) (c .before .before .before .before .if2 .taken) (c .before .before .clear-slot .ensures)
 
 mul-without : tie.Need-mul-without
-mul-without c = search needs
+mul-without c = omega arith
 
 array-read-without : tie.Need-array-read-without
-array-read-without c = search needs
+array-read-without c = omega arith
 
 without-requires : tie.Need-without-requires
-without-requires c κs = search needs
+without-requires c κs = tt
 
 write-slot-requires-2 : tie.Need-write-slot-requires-2
-write-slot-requires-2 c κs = search needs
+write-slot-requires-2 c κs = c .before .before .before .before .before .before .before .before .pre .1
 
 add-result-2 : tie.Need-add-result-2
-add-result-2 c = search needs
+add-result-2 c = omega arith
 
 same-length-3 : tie.Need-same-length-3
-same-length-3 c = search needs
+same-length-3 c = omega arith
 
 returns-3 : tie.Need-returns-3
 returns-3 c = let long : length (c .before .before .before .without .result .domains) ≡ 32 = search needs in settle-rest _ _ _ _ _ _ (c .before .before .before .before .before .before .before .before .before .before .before .pre .1) (c .before .before .before .before .before .before .before .before .if1 .left) (c .before .before .before .before .before .before .if2 .left) _ (c .before .before .before .without .ensures) long (c .before .before .write-slot2 .ensures)

@@ -20,46 +20,46 @@ abbrev μ-loop : tie.MeasureT-loop
 μ-loop top n d tables agenda₀ choice cut below out marked sides at₀ j₀ agenda at j = j
 
 sides-requires : tie.Need-sides-requires Inv-loop μ-loop
-sides-requires c κs = search needs
+sides-requires c κs = tt
 
 loop-holds : tie.Need-loop-holds Inv-loop μ-loop
-loop-holds c = let k = c .before .before .before .pre in (search needs, spread-none _ _ _ _ _ _ _ (k .0) (k .1 .1 .several) _ (omega arith) (k .1 .0))
+loop-holds c = let k = c .before .before .before .pre in (omega arith, spread-none _ _ _ _ _ _ _ (k .0) (k .1 .1 .several) _ (omega arith) (k .1 .0))
 
 sub-j : tie.Need-sub-j Inv-loop μ-loop
-sub-j c = search needs
+sub-j c = omega arith
 
 mul-if1 : tie.Need-mul-if1 Inv-loop μ-loop
-mul-if1 c = search needs
+mul-if1 c = omega arith
 
 array-read-if1 : tie.Need-array-read-if1 Inv-loop μ-loop
-array-read-if1 c = let k = c .before .before .before .before .before .pre .0 .fitting .few in search needs
+array-read-if1 c = let k = c .before .before .before .before .before .pre .0 .fitting .few in omega arith
 
 slice-aggregate-joined : tie.Need-slice-aggregate-joined Inv-loop μ-loop
-slice-aggregate-joined c = search needs
+slice-aggregate-joined c = omega arith
 
 joined-requires : tie.Need-joined-requires Inv-loop μ-loop
 joined-requires c κs = let k = c .before .before .before .before .before .before .before .pre .0 .fitting .few in (omega arith, c .before .before .before .before .sides .ensures)
 
 mul-write-but : tie.Need-mul-write-but Inv-loop μ-loop
-mul-write-but c = search needs
+mul-write-but c = omega arith
 
 array-read-write-but : tie.Need-array-read-write-but Inv-loop μ-loop
-array-read-write-but c = let k = c .before .before .before .before .before .before .before .before .before .pre .0 .fitting .few in search needs
+array-read-write-but c = let k = c .before .before .before .before .before .before .before .before .before .pre .0 .fitting .few in omega arith
 
 write-but-requires : tie.Need-write-but-requires Inv-loop μ-loop
 write-but-requires c κs = let k = c .before .before .before .before .before .before .before .before .before .pre in let inv = c .before .before .before .before .before .loop .inv in (spread-slot _ _ _ _ _ _ _ (k .0) (k .1 .1 .several) _ _ (k .1 .1) _ (c .before .before .before .before .loop-test .taken) (inv .0) _ _ _ (omega arith) (k .1 .0) (inv .1) _ (c .before .before .before .if1 .taken) (c .before .joined .ensures), omega arith)
 
 add-at : tie.Need-add-at Inv-loop μ-loop
-add-at c = let k = c .before .before .before .before .before .before .before .before .before .before .before .before .pre in let inv = c .before .before .before .before .before .before .before .before .loop .inv in let slot = spread-slot _ _ _ _ _ _ _ (k .0) (k .1 .1 .several) _ _ (k .1 .1) _ (c .before .before .before .before .before .before .before .loop-test .taken) (inv .0) _ _ _ (omega arith) (k .1 .0) (inv .1) _ (c .before .before .before .before .before .before .if1 .taken) (c .before .before .before .before .joined .ensures) in let inside : c .before .before .before .before .before .before .before .before .loop .at + 1 ≤ length (c .before .before .before .before .before .before .before .before .before .before .before .before .args .agenda .now) = omega (arith, slot-end _ _ _ slot, inv .1 .same) in let good = c .before .before .before .before .before .before .before .before .before .before .before .before .good in let blocks = c .before .before .before .before .before .before .before .before .before .before .before .before .blocks in search needs
+add-at c = let k = c .before .before .before .before .before .before .before .before .before .before .before .before .pre in let inv = c .before .before .before .before .before .before .before .before .loop .inv in let slot = spread-slot _ _ _ _ _ _ _ (k .0) (k .1 .1 .several) _ _ (k .1 .1) _ (c .before .before .before .before .before .before .before .loop-test .taken) (inv .0) _ _ _ (omega arith) (k .1 .0) (inv .1) _ (c .before .before .before .before .before .before .if1 .taken) (c .before .before .before .before .joined .ensures) in omega (arith, slot-end _ _ _ slot, inv .1 .same)
 
 loop-less : tie.Need-loop-less Inv-loop μ-loop
-loop-less c = search needs
+loop-less c = omega arith
 
 loop-again : tie.Need-loop-again Inv-loop μ-loop
 loop-again c = let k = c .before .before .before .before .before .before .before .before .before .before .before .before .pre in let inv = c .before .before .before .before .before .before .before .before .loop .inv in (omega arith, spread-keep _ _ _ _ _ _ _ (k .0) (k .1 .1 .several) _ _ (k .1 .1) _ (c .before .before .before .before .before .before .before .loop-test .taken) (inv .0) _ _ _ (omega arith) (k .1 .0) (inv .1) _ (c .before .before .before .before .before .before .if1 .taken) (c .before .before .before .before .joined .ensures) _ (c .before .before .write-but .ensures) (search needs))
 
 loop-less-2 : tie.Need-loop-less-2 Inv-loop μ-loop
-loop-less-2 c = search needs
+loop-less-2 c = omega arith
 
 loop-again-2 : tie.Need-loop-again-2 Inv-loop μ-loop
 loop-again-2 c = let k = c .before .before .before .before .before .before .pre in let inv = c .before .before .loop .inv in (omega arith, spread-drop _ _ _ _ _ _ _ (k .0) (k .1 .1 .several) _ _ (k .1 .1) _ (c .before .loop-test .taken) (inv .0) _ _ _ (omega arith) (k .1 .0) (inv .1) (c .if1 .left))
@@ -71,10 +71,10 @@ write-slot-requires : tie.Need-write-slot-requires Inv-loop μ-loop
 write-slot-requires c κs = let k = c .before .before .before .before .before .before .before .pre in let inv = c .before .before .before .loop .inv in spread-last _ _ _ _ _ _ _ (k .0) (k .1 .1 .several) _ (omega arith) (k .1 .0) _ _ _ (inv .1) (omega arith) _ (c .precluded .ensures)
 
 add-result : tie.Need-add-result Inv-loop μ-loop
-add-result c = let k = c .before .before .before .before .before .before .before .before .before .before .pre in let inv = c .before .before .before .before .before .before .loop .inv in let slot = spread-last _ _ _ _ _ _ _ (k .0) (k .1 .1 .several) _ (omega arith) (k .1 .0) _ _ _ (inv .1) (omega arith) _ (c .before .before .before .precluded .ensures) in let inside : c .before .before .before .before .before .before .loop .at + 1 ≤ length (c .before .before .before .before .before .before .before .before .before .before .args .agenda .now) = omega (arith, slot-end _ _ _ slot, inv .1 .same) in let good = c .before .before .before .before .before .before .before .before .before .before .good in let blocks = c .before .before .before .before .before .before .before .before .before .before .blocks in search needs
+add-result c = let k = c .before .before .before .before .before .before .before .before .before .before .pre in let inv = c .before .before .before .before .before .before .loop .inv in let slot = spread-last _ _ _ _ _ _ _ (k .0) (k .1 .1 .several) _ (omega arith) (k .1 .0) _ _ _ (inv .1) (omega arith) _ (c .before .before .before .precluded .ensures) in omega (arith, slot-end _ _ _ slot, inv .1 .same)
 
 same-length : tie.Need-same-length Inv-loop μ-loop
-same-length c = search needs
+same-length c = omega arith
 
 returns : tie.Need-returns Inv-loop μ-loop
 returns c = let k = c .before .before .before .before .before .before .before .before .before .before .pre in let inv = c .before .before .before .before .before .before .loop .inv in let long : length (c .before .before .before .precluded .result .domains) ≡ 32 = search needs in spread-end _ _ _ _ _ _ _ (k .0) (k .1 .1 .several) _ (omega arith) (k .1 .0) _ _ _ (inv .1) (omega arith) _ (c .before .before .before .precluded .ensures) _ long (c .before .before .write-slot .ensures) (search needs)

@@ -2,7 +2,6 @@
 -- Assumes nothing.
 use native.Mathlib.Omega.{arith}
 use Rattle.search.proofs.Settling.{taking-regular, taking-top, counted, chosen-refused, chosen-full, chosen-steps, chosen-taken}
-use borrow.Author.Needs.{needs}
 use Rattle.search.proofs.choice.take_chosen.Statement.{statement}
 use Rattle.search.proofs.choice.take_chosen.Tie as tie
 
@@ -16,16 +15,16 @@ with-checks-requires : tie.Need-with-checks-requires
 with-checks-requires c κs = let k = c .before .before .before .before .before .before .pre .0 in (counted _ _ _ _ (k .ready .fitting) (taking-regular _ _ _ _ _ _ k) (k .runs) _ (c .before .look .ensures .0) .0, omega (arith, k .ready .counted, k .ready .stepped))
 
 sub-put : tie.Need-sub-put
-sub-put c = search needs
+sub-put c = omega arith
 
 put-requires : tie.Need-put-requires
 put-requires c κs = taking-top _ _ _ _ _ _ (c .before .before .before .before .before .before .before .before .before .pre .0) _ (c .before .before .before .before .look .ensures .0)
 
 same-length : tie.Need-same-length
-same-length c = search needs
+same-length c = omega arith
 
 same-length-2 : tie.Need-same-length-2
-same-length-2 c = search needs
+same-length-2 c = omega arith
 
 returns-2 : tie.Need-returns-2
 returns-2 c = (chosen-full _ _ _ _ _ _ (c .before .before .before .before .before .before .before .before .before .before .before .before .before .before .pre .0) _ (c .before .before .before .before .before .before .before .before .before .look .ensures .0) (c .before .before .before .before .before .before .before .before .before .before .before .if1 .left) _ _ (c .before .before .before .before .put .ensures) (c .if2 .taken), c .before .before .before .before .before .before .before .before .before .look .ensures .1)
@@ -34,10 +33,10 @@ add-t18 : tie.Need-add-t18
 add-t18 c = record { fits = chosen-steps _ _ _ _ _ _ (c .before .before .before .before .before .before .before .before .before .before .before .before .before .before .pre .0) _ (c .before .before .before .before .before .before .before .before .before .look .ensures .0) (c .before .before .before .before .before .before .before .before .before .before .before .if1 .left) _ _ (c .before .before .before .before .put .ensures) (c .if2 .left) }
 
 same-length-3 : tie.Need-same-length-3
-same-length-3 c = search needs
+same-length-3 c = omega arith
 
 same-length-4 : tie.Need-same-length-4
-same-length-4 c = search needs
+same-length-4 c = omega arith
 
 returns-3 : tie.Need-returns-3
 returns-3 c = (chosen-taken _ _ _ _ _ _ (c .before .before .before .before .before .before .before .before .before .before .before .before .before .before .pre .0) _ (c .before .before .before .before .before .before .before .before .before .look .ensures .0) (c .before .before .before .before .before .before .before .before .before .before .before .if1 .left) _ _ (c .before .before .before .before .put .ensures) (c .if2 .left) _ (c .before .before .before .before .before .before .before .with-checks .ensures), c .before .before .before .before .before .before .before .before .before .look .ensures .1)

@@ -5,7 +5,6 @@ use Prim.Native.Nat.{_≤_, _-_}
 use native.Mathlib.Omega.{arith}
 use Rattle.search.specs.Work.Lanes.{Below}
 use Rattle.search.proofs.Halves.{below-none, below-more}
-use borrow.Author.Needs.{needs}
 use Rattle.search.proofs.lanes.below.Statement.{statement}
 use Rattle.search.proofs.lanes.below.Tie as tie
 
@@ -16,19 +15,19 @@ abbrev μ-loop : tie.MeasureT-loop
 μ-loop n lanes₀ i₀ lanes i = n - i
 
 loop-holds : tie.Need-loop-holds Inv-loop μ-loop
-loop-holds c = (search needs, below-none)
+loop-holds c = (omega arith, below-none)
 
 mul-lanes : tie.Need-mul-lanes Inv-loop μ-loop
-mul-lanes c = search needs
+mul-lanes c = omega arith
 
 array-write-lanes : tie.Need-array-write-lanes Inv-loop μ-loop
-array-write-lanes c = search needs
+array-write-lanes c = omega arith
 
 add-i : tie.Need-add-i Inv-loop μ-loop
-add-i c = search needs
+add-i c = omega arith
 
 loop-less : tie.Need-loop-less Inv-loop μ-loop
-loop-less c = search needs
+loop-less c = omega arith
 
 loop-again : tie.Need-loop-again Inv-loop μ-loop
 loop-again c = let few = c .before .before .pre in (omega arith, below-more _ _ (c .before .loop .inv .1) (omega arith))

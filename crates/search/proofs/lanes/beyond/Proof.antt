@@ -10,7 +10,7 @@ use Rattle.search.proofs.lanes.beyond.Statement.{statement}
 use Rattle.search.proofs.lanes.beyond.Tie as tie
 
 shl-result : tie.Need-shl-result
-shl-result c = search needs
+shl-result c = omega arith
 
 sub-result : tie.Need-sub-result
 sub-result c = let s = shift-small _ (c .pre) in let low = s .0 in let high = s .1 in search needs

@@ -6,7 +6,6 @@ use native.Mathlib.Omega.{arith}
 use Rattle.splits.specs.Splits.{changed}
 use Rattle.search.specs.Work.Lanes.{cutTo}
 use Rattle.search.proofs.AtOnce.{cut-more}
-use borrow.Author.Needs.{needs}
 use Rattle.search.proofs.lanes.cut.Statement.{statement}
 use Rattle.search.proofs.lanes.cut.Tie as tie
 
@@ -18,31 +17,31 @@ abbrev μ-loop : tie.MeasureT-loop
 
 loop-holds : tie.Need-loop-holds Inv-loop μ-loop
 unfolding cutTo changed
-loop-holds c = (search needs, refl)
+loop-holds c = (omega arith, refl)
 
 mul-domains : tie.Need-mul-domains Inv-loop μ-loop
-mul-domains c = search needs
+mul-domains c = omega arith
 
 array-read-domains : tie.Need-array-read-domains Inv-loop μ-loop
-array-read-domains c = search needs
+array-read-domains c = omega arith
 
 mul-domains-2 : tie.Need-mul-domains-2 Inv-loop μ-loop
-mul-domains-2 c = search needs
+mul-domains-2 c = omega arith
 
 array-read-domains-2 : tie.Need-array-read-domains-2 Inv-loop μ-loop
-array-read-domains-2 c = search needs
+array-read-domains-2 c = omega arith
 
 mul-domains-3 : tie.Need-mul-domains-3 Inv-loop μ-loop
-mul-domains-3 c = search needs
+mul-domains-3 c = omega arith
 
 array-write-domains : tie.Need-array-write-domains Inv-loop μ-loop
-array-write-domains c = search needs
+array-write-domains c = omega arith
 
 add-i : tie.Need-add-i Inv-loop μ-loop
-add-i c = search needs
+add-i c = omega arith
 
 loop-less : tie.Need-loop-less Inv-loop μ-loop
-loop-less c = search needs
+loop-less c = omega arith
 
 loop-again : tie.Need-loop-again Inv-loop μ-loop
 loop-again c = (omega arith, cut-more _ _ _ _ (c .before .loop .inv .1))

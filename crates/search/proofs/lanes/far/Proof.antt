@@ -1,15 +1,16 @@
 -- `search::lanes::far` meets its contract.
 -- Assumes nothing.
+use native.Mathlib.Omega.{arith}
 use Rattle.splits.specs.Masks.{bit}
 use borrow.Author.Needs.{needs}
 use Rattle.search.proofs.lanes.far.Statement.{statement}
 use Rattle.search.proofs.lanes.far.Tie as tie
 
 cast-if1 : tie.Need-cast-if1
-cast-if1 c = search needs
+cast-if1 c = omega arith
 
 shr-if1 : tie.Need-shr-if1
-shr-if1 c = search needs
+shr-if1 c = omega arith
 
 returns : tie.Need-returns
 unfolding bit

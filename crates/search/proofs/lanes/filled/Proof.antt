@@ -6,7 +6,6 @@ use native.Mathlib.Omega.{arith}
 use Rattle.splits.specs.Problem.{total}
 use Rattle.search.specs.Work.Lanes.{filled}
 use Rattle.search.proofs.AtOnce.{total-turn}
-use borrow.Author.Needs.{needs}
 use Rattle.search.proofs.lanes.filled.Statement.{statement}
 use Rattle.search.proofs.lanes.filled.Tie as tie
 
@@ -18,25 +17,25 @@ abbrev μ-loop : tie.MeasureT-loop
 
 loop-holds : tie.Need-loop-holds Inv-loop μ-loop
 unfolding filled total
-loop-holds c = (search needs, (search needs, refl))
+loop-holds c = (omega arith, (omega arith, refl))
 
 mul-one-if : tie.Need-mul-one-if Inv-loop μ-loop
-mul-one-if c = search needs
+mul-one-if c = omega arith
 
 array-read-one-if : tie.Need-array-read-one-if Inv-loop μ-loop
-array-read-one-if c = search needs
+array-read-one-if c = omega arith
 
 one-if-requires : tie.Need-one-if-requires Inv-loop μ-loop
-one-if-requires c κs = search needs
+one-if-requires c κs = tt
 
 add-sum : tie.Need-add-sum Inv-loop μ-loop
-add-sum c = search needs
+add-sum c = omega arith
 
 add-i : tie.Need-add-i Inv-loop μ-loop
-add-i c = search needs
+add-i c = omega arith
 
 loop-less : tie.Need-loop-less Inv-loop μ-loop
-loop-less c = search needs
+loop-less c = omega arith
 
 loop-again : tie.Need-loop-again Inv-loop μ-loop
 unfolding filled

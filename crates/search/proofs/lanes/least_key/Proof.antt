@@ -1,13 +1,11 @@
 -- `search::lanes::least_key` meets its contract. The invariant: the best is the least of the keys of the first i and of the i from 16 on.
 -- Assumes nothing.
-use mathlib.Core.Path.{_≡_, ap, _∙_}
-use Prim.Native.Nat.{_≤_, _-_, _+_, _*_}
+use mathlib.Core.Path.{_≡_}
+use Prim.Native.Nat.{_≤_, _-_}
 use native.Mathlib.Omega.{arith}
-use Rattle.splits.specs.Masks.{bit, size}
-use Rattle.search.specs.Work.Lanes.{LeastKey, keyOf}
+use Rattle.search.specs.Work.Lanes.{LeastKey}
 use Rattle.search.proofs.AtOnce.{least-none, least-more}
 use Rattle.search.proofs.Halves.{key-in}
-use borrow.Author.Needs.{needs}
 use Rattle.search.proofs.lanes.least_key.Statement.{statement}
 use Rattle.search.proofs.lanes.least_key.Tie as tie
 
@@ -18,49 +16,49 @@ abbrev μ-loop : tie.MeasureT-loop
 μ-loop marked domains low high best₀ i₀ best i = 16 - i
 
 low-of-requires : tie.Need-low-of-requires Inv-loop μ-loop
-low-of-requires c κs = search needs
+low-of-requires c κs = tt
 
 high-of-requires : tie.Need-high-of-requires Inv-loop μ-loop
-high-of-requires c κs = search needs
+high-of-requires c κs = tt
 
 loop-holds : tie.Need-loop-holds Inv-loop μ-loop
-loop-holds c = (search needs, least-none _ _)
+loop-holds c = (omega arith, least-none _ _)
 
 mul-key : tie.Need-mul-key Inv-loop μ-loop
-mul-key c = search needs
+mul-key c = omega arith
 
 array-read-key : tie.Need-array-read-key Inv-loop μ-loop
-array-read-key c = search needs
+array-read-key c = omega arith
 
 key-requires : tie.Need-key-requires Inv-loop μ-loop
-key-requires c κs = search needs
+key-requires c κs = (omega arith, omega arith)
 
 least-requires : tie.Need-least-requires Inv-loop μ-loop
-least-requires c κs = search needs
+least-requires c κs = tt
 
 add-key : tie.Need-add-key Inv-loop μ-loop
-add-key c = search needs
+add-key c = omega arith
 
 mul-key-2 : tie.Need-mul-key-2 Inv-loop μ-loop
-mul-key-2 c = search needs
+mul-key-2 c = omega arith
 
 array-read-key-2 : tie.Need-array-read-key-2 Inv-loop μ-loop
-array-read-key-2 c = search needs
+array-read-key-2 c = omega arith
 
 add-key-2 : tie.Need-add-key-2 Inv-loop μ-loop
-add-key-2 c = search needs
+add-key-2 c = omega arith
 
 key-requires-2 : tie.Need-key-requires-2 Inv-loop μ-loop
-key-requires-2 c κs = search needs
+key-requires-2 c κs = (omega arith, omega arith)
 
 least-requires-2 : tie.Need-least-requires-2 Inv-loop μ-loop
-least-requires-2 c κs = search needs
+least-requires-2 c κs = tt
 
 add-i : tie.Need-add-i Inv-loop μ-loop
-add-i c = search needs
+add-i c = omega arith
 
 loop-less : tie.Need-loop-less Inv-loop μ-loop
-loop-less c = search needs
+loop-less c = omega arith
 
 loop-again : tie.Need-loop-again Inv-loop μ-loop
 loop-again c = (omega arith, least-more _ _ _ _ _ _ _ _ (c .before .before .before .before .loop-test .taken) (c .before .before .before .before .before .loop .inv .1) (key-in _ _ _ _ _ (c .before .before .before .before .before .before .before .low-of .ensures) (c .before .before .before .before .loop-test .taken) _ (omega arith) _ (c .before .before .before .key .ensures)) (key-in _ _ _ _ _ (c .before .before .before .before .before .before .high-of .ensures) (c .before .before .before .before .loop-test .taken) _ (omega arith) _ (c .before .key2 .ensures)) (c .before .before .least .ensures) (c .least2 .ensures))

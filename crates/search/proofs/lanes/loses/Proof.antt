@@ -9,7 +9,6 @@ use lib.Dec.{eqb}
 use Rattle.splits.specs.Subproblems.{some}
 use Rattle.search.specs.Work.Lanes.{lost, loses}
 use Rattle.search.proofs.AtOnce.{some-turn}
-use borrow.Author.Needs.{needs}
 use Rattle.search.proofs.lanes.loses.Statement.{statement}
 use Rattle.search.proofs.lanes.loses.Tie as tie
 
@@ -21,28 +20,28 @@ abbrev μ-loop : tie.MeasureT-loop
 
 loop-holds : tie.Need-loop-holds Inv-loop μ-loop
 unfolding some
-loop-holds c = (search needs, refl)
+loop-holds c = (omega arith, refl)
 
 mul-loss : tie.Need-mul-loss Inv-loop μ-loop
-mul-loss c = search needs
+mul-loss c = omega arith
 
 array-read-loss : tie.Need-array-read-loss Inv-loop μ-loop
-array-read-loss c = search needs
+array-read-loss c = omega arith
 
 mul-loss-2 : tie.Need-mul-loss-2 Inv-loop μ-loop
-mul-loss-2 c = search needs
+mul-loss-2 c = omega arith
 
 array-read-loss-2 : tie.Need-array-read-loss-2 Inv-loop μ-loop
-array-read-loss-2 c = search needs
+array-read-loss-2 c = omega arith
 
 loss-requires : tie.Need-loss-requires Inv-loop μ-loop
-loss-requires c κs = search needs
+loss-requires c κs = tt
 
 add-i : tie.Need-add-i Inv-loop μ-loop
-add-i c = search needs
+add-i c = omega arith
 
 loop-less : tie.Need-loop-less Inv-loop μ-loop
-loop-less c = search needs
+loop-less c = omega arith
 
 loop-again : tie.Need-loop-again Inv-loop μ-loop
 loop-again c = (omega arith, some-turn _ (c .before .before .loop .i) (c .before .before .loop .lost) _ (c .before .before .loop .inv .1) (c .loss .ensures))

@@ -1,12 +1,12 @@
 -- `search::lanes::low_of` meets its contract.
 -- Assumes nothing.
+use native.Mathlib.Omega.{arith}
 use Rattle.search.proofs.Halves.{half-low}
-use borrow.Author.Needs.{needs}
 use Rattle.search.proofs.lanes.low_of.Statement.{statement}
 use Rattle.search.proofs.lanes.low_of.Tie as tie
 
 cast-result : tie.Need-cast-result
-cast-result c = search needs
+cast-result c = omega arith
 
 returns : tie.Need-returns
 returns c = half-low _

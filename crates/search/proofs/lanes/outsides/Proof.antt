@@ -6,7 +6,6 @@ use native.Mathlib.Omega.{arith}
 use Rattle.splits.specs.Splits.{changed}
 use Rattle.search.specs.Work.Lanes.{outsideTo}
 use Rattle.search.proofs.AtOnce.{outside-more}
-use borrow.Author.Needs.{needs}
 use Rattle.search.proofs.lanes.outsides.Statement.{statement}
 use Rattle.search.proofs.lanes.outsides.Tie as tie
 
@@ -18,34 +17,34 @@ abbrev μ-loop : tie.MeasureT-loop
 
 loop-holds : tie.Need-loop-holds Inv-loop μ-loop
 unfolding outsideTo changed
-loop-holds c = (search needs, refl)
+loop-holds c = (omega arith, refl)
 
 mul-outside : tie.Need-mul-outside Inv-loop μ-loop
-mul-outside c = search needs
+mul-outside c = omega arith
 
 array-read-outside : tie.Need-array-read-outside Inv-loop μ-loop
-array-read-outside c = search needs
+array-read-outside c = omega arith
 
 mul-outside-2 : tie.Need-mul-outside-2 Inv-loop μ-loop
-mul-outside-2 c = search needs
+mul-outside-2 c = omega arith
 
 array-read-outside-2 : tie.Need-array-read-outside-2 Inv-loop μ-loop
-array-read-outside-2 c = search needs
+array-read-outside-2 c = omega arith
 
 outside-requires : tie.Need-outside-requires Inv-loop μ-loop
-outside-requires c κs = search needs
+outside-requires c κs = tt
 
 mul-domains : tie.Need-mul-domains Inv-loop μ-loop
-mul-domains c = search needs
+mul-domains c = omega arith
 
 array-write-domains : tie.Need-array-write-domains Inv-loop μ-loop
-array-write-domains c = search needs
+array-write-domains c = omega arith
 
 add-i : tie.Need-add-i Inv-loop μ-loop
-add-i c = search needs
+add-i c = omega arith
 
 loop-less : tie.Need-loop-less Inv-loop μ-loop
-loop-less c = search needs
+loop-less c = omega arith
 
 loop-again : tie.Need-loop-again Inv-loop μ-loop
 loop-again c = (omega arith, outside-more _ _ _ _ _ (c .before .before .loop .inv .1) (c .outside .ensures))

@@ -5,7 +5,6 @@ use Prim.Native.Nat.{_≤_, _-_}
 use native.Mathlib.Omega.{arith}
 use Rattle.search.specs.Work.Lanes.{Sides}
 use Rattle.search.proofs.Halves.{sides-none, sides-more}
-use borrow.Author.Needs.{needs}
 use Rattle.search.proofs.lanes.sides.Statement.{statement}
 use Rattle.search.proofs.lanes.sides.Tie as tie
 
@@ -16,19 +15,19 @@ abbrev μ-loop : tie.MeasureT-loop
 μ-loop lanes₀ i₀ lanes i = 64 - i
 
 loop-holds : tie.Need-loop-holds Inv-loop μ-loop
-loop-holds c = (search needs, (search needs, sides-none))
+loop-holds c = (omega arith, (omega arith, sides-none))
 
 mul-lanes : tie.Need-mul-lanes Inv-loop μ-loop
-mul-lanes c = search needs
+mul-lanes c = omega arith
 
 array-write-lanes : tie.Need-array-write-lanes Inv-loop μ-loop
-array-write-lanes c = search needs
+array-write-lanes c = omega arith
 
 add-i : tie.Need-add-i Inv-loop μ-loop
-add-i c = search needs
+add-i c = omega arith
 
 loop-less : tie.Need-loop-less Inv-loop μ-loop
-loop-less c = search needs
+loop-less c = omega arith
 
 loop-again : tie.Need-loop-again Inv-loop μ-loop
 loop-again c = (omega arith, (omega arith, sides-more _ _ (c .before .loop .inv .1 .1) (omega arith) (omega arith)))

@@ -7,7 +7,6 @@ use lib.ListN.{getD}
 use Rattle.splits.specs.Masks.{size}
 use Rattle.splits.specs.Problem.{total}
 use Rattle.search.proofs.AtOnce.{total-turn}
-use borrow.Author.Needs.{needs}
 use Rattle.search.proofs.lanes.values.Statement.{statement}
 use Rattle.search.proofs.lanes.values.Tie as tie
 
@@ -19,25 +18,25 @@ abbrev μ-loop : tie.MeasureT-loop
 
 loop-holds : tie.Need-loop-holds Inv-loop μ-loop
 unfolding total
-loop-holds c = (search needs, (refl, search needs))
+loop-holds c = (omega arith, (refl, omega arith))
 
 mul-count : tie.Need-mul-count Inv-loop μ-loop
-mul-count c = search needs
+mul-count c = omega arith
 
 array-read-count : tie.Need-array-read-count Inv-loop μ-loop
-array-read-count c = search needs
+array-read-count c = omega arith
 
 count-requires : tie.Need-count-requires Inv-loop μ-loop
-count-requires c κs = search needs
+count-requires c κs = tt
 
 add-sum : tie.Need-add-sum Inv-loop μ-loop
-add-sum c = search needs
+add-sum c = omega arith
 
 add-i : tie.Need-add-i Inv-loop μ-loop
-add-i c = search needs
+add-i c = omega arith
 
 loop-less : tie.Need-loop-less Inv-loop μ-loop
-loop-less c = search needs
+loop-less c = omega arith
 
 loop-again : tie.Need-loop-again Inv-loop μ-loop
 loop-again c = (omega arith, (total-turn _ _ _ _ (c .before .before .loop .inv .1 .0) (c .count .ensures .0), omega arith))

@@ -7,7 +7,6 @@ use native.Mathlib.Nat.{one-mul, mod-eq-of-lt}
 use Rattle.splits.specs.Problem.{tableOf}
 use Rattle.splits.proofs.Masks.{single-lt}
 use Rattle.search.proofs.Beside.{Begun, begun-none, begun-more, row-made}
-use borrow.Author.Needs.{needs}
 use Rattle.search.proofs.rows.made.Statement.{statement}
 use Rattle.search.proofs.rows.made.Tie as tie
 
@@ -18,37 +17,37 @@ abbrev μ-loop : tie.MeasureT-loop
 μ-loop n d tables variable value row₀ j₀ row j = n - j
 
 loop-holds : tie.Need-loop-holds Inv-loop μ-loop
-loop-holds c = (search needs, begun-none _ _ _ _ refl)
+loop-holds c = (omega arith, begun-none _ _ _ _ refl)
 
 allowed-requires : tie.Need-allowed-requires Inv-loop μ-loop
 allowed-requires c κs = let k = c .before .before .before .pre in (k .fit, record { first = k .a-variable; second = omega arith; third = k .a-value })
 
 mul-row : tie.Need-mul-row Inv-loop μ-loop
-mul-row c = search needs
+mul-row c = omega arith
 
 array-write-row : tie.Need-array-write-row Inv-loop μ-loop
-array-write-row c = search needs
+array-write-row c = omega arith
 
 add-j : tie.Need-add-j Inv-loop μ-loop
-add-j c = search needs
+add-j c = omega arith
 
 loop-less : tie.Need-loop-less Inv-loop μ-loop
-loop-less c = search needs
+loop-less c = omega arith
 
 loop-again : tie.Need-loop-again Inv-loop μ-loop
 loop-again c = (omega arith, begun-more _ _ _ _ _ _ (c .before .before .loop .inv .1) (omega arith) (c .allowed .ensures))
 
 cast-row : tie.Need-cast-row Inv-loop μ-loop
-cast-row c = search needs
+cast-row c = omega arith
 
 shl-row : tie.Need-shl-row Inv-loop μ-loop
-shl-row c = search needs
+shl-row c = omega arith
 
 mul-row-2 : tie.Need-mul-row-2 Inv-loop μ-loop
-mul-row-2 c = search needs
+mul-row-2 c = omega arith
 
 array-write-row-2 : tie.Need-array-write-row-2 Inv-loop μ-loop
-array-write-row-2 c = search needs
+array-write-row-2 c = omega arith
 
 returns : tie.Need-returns Inv-loop μ-loop
 returns c = let k = c .before .before .before .pre in row-made _ _ _ _ _ _ _ (c .before .loop .inv .1) (c .loop-test .left) (omega (arith, k .a-variable, k .fit .few)) (simp one-mul (mod-eq-of-lt (single-lt 16 (c .before .before .before .args .value) (omega (arith, k .a-value, k .fit .small)))))
