@@ -1,9 +1,9 @@
 -- `load_content` meets its contract.
 -- Assumes nothing.
 use borrow.Author.Needs.{needs}
-use mathlib.Core.Path.{refl}
+use mathlib.Core.Path.{refl, sym}
 use native.Mathlib.Omega.{arith}
-use lib.ListN.{length-take}
+use lib.Seq.{length-take-le}
 use Rattle.files.proofs.Refused.{sized-found, sized-refused, sized-numbers, refused-15}
 use Rattle.files.proofs.Filled.{tables-few, made-fits, made-count}
 use Rattle.files.proofs.LoadOutcomes.{load-refused, made-ready}
@@ -38,10 +38,10 @@ array-borrow-prefix-all : tie.Need-array-borrow-prefix-all
 array-borrow-prefix-all c = let s = sized-numbers (c .before .before .before .before .before .before .before .before .before .before .args .file .now) _ _ _ (c .before .before .n .ensures) (c .before .d .ensures) refl (sized-found _ _ (c .before .before .before .before .refusal-of-numbers .ensures) (c .before .before .before .if1 .left)) in let few = tables-few _ _ (s .0) in omega (arith, few .1, c .room-for-tables .ensures)
 
 slice-aggregate-put-tables : tie.Need-slice-aggregate-put-tables
-slice-aggregate-put-tables c = let s = sized-numbers (c .before .before .before .before .before .before .before .before .before .before .before .args .file .now) _ _ _ (c .before .before .before .n .ensures) (c .before .before .d .ensures) refl (sized-found _ _ (c .before .before .before .before .before .refusal-of-numbers .ensures) (c .before .before .before .before .if1 .left)) in let few = tables-few _ _ (s .0) in simp length-take (omega (arith, few .1, c .before .room-for-tables .ensures))
+slice-aggregate-put-tables c = let s = sized-numbers (c .before .before .before .before .before .before .before .before .before .before .before .args .file .now) _ _ _ (c .before .before .before .n .ensures) (c .before .before .d .ensures) refl (sized-found _ _ (c .before .before .before .before .before .refusal-of-numbers .ensures) (c .before .before .before .before .if1 .left)) in let few = tables-few _ _ (s .0) in sym (length-take-le _ _ (omega (arith, few .1, c .before .room-for-tables .ensures)))
 
 put-tables-requires : tie.Need-put-tables-requires
-put-tables-requires c κs = let s = sized-numbers (c .before .before .before .before .before .before .before .before .before .before .before .args .file .now) _ _ _ (c .before .before .before .n .ensures) (c .before .before .d .ensures) refl (sized-found _ _ (c .before .before .before .before .before .refusal-of-numbers .ensures) (c .before .before .before .before .if1 .left)) in let few = tables-few _ _ (s .0) in (s .0, (c .before .before .before .before .before .before .before .before .before .before .before .pre .long, simp length-take (omega (arith, few .1, c .before .room-for-tables .ensures))))
+put-tables-requires c κs = let s = sized-numbers (c .before .before .before .before .before .before .before .before .before .before .before .args .file .now) _ _ _ (c .before .before .before .n .ensures) (c .before .before .d .ensures) refl (sized-found _ _ (c .before .before .before .before .before .refusal-of-numbers .ensures) (c .before .before .before .before .if1 .left)) in let few = tables-few _ _ (s .0) in (s .0, (c .before .before .before .before .before .before .before .before .before .before .before .pre .long, length-take-le _ _ (omega (arith, few .1, c .before .room-for-tables .ensures))))
 
 array-share-prefix-all : tie.Need-array-share-prefix-all
 array-share-prefix-all c = made-fits _ _ _ _ _ (c .before .put-tables .ensures)

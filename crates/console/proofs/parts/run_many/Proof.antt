@@ -1,7 +1,8 @@
 -- `console::parts::run_many` meets its contract.
 -- Assumes nothing.
 use native.Mathlib.Omega.{arith}
-use lib.ListN.{length-take}
+use mathlib.Core.Path.{sym}
+use lib.Seq.{length-take-le}
 use Rattle.console.proofs.Runs.{runs-list}
 use borrow.Author.Needs.{needs}
 use Rattle.console.proofs.parts.run_many.Statement.{statement}
@@ -17,7 +18,7 @@ array-share-prefix-words : tie.Need-array-share-prefix-words
 array-share-prefix-words c = search needs
 
 slice-aggregate-run : tie.Need-slice-aggregate-run
-slice-aggregate-run c = simp length-take (omega (arith, c .before .before .before .before .before .before .before .before .before .pre .1))
+slice-aggregate-run c = sym (length-take-le _ _ (omega (arith, c .before .before .before .before .before .before .before .before .before .pre .1)))
 
 run-requires : tie.Need-run-requires
 run-requires c κs = search needs

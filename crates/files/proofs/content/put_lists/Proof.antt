@@ -2,7 +2,9 @@
 -- Assumes nothing.
 use borrow.Author.Needs.{needs}
 use native.Mathlib.Omega.{arith}
+use mathlib.Core.Path.{sym}
 use lib.ListN.{length-take}
+use lib.Seq.{length-take-le}
 use Rattle.files.proofs.Written.{lists-made, lists-rest}
 use Rattle.files.proofs.content.put_lists.Statement.{statement}
 use Rattle.files.proofs.content.put_lists.Tie as tie
@@ -11,7 +13,7 @@ slice-relend-prefix-put-words : tie.Need-slice-relend-prefix-put-words
 slice-relend-prefix-put-words c = search needs
 
 slice-aggregate-put-words : tie.Need-slice-aggregate-put-words
-slice-aggregate-put-words c = simp length-take (omega arith)
+slice-aggregate-put-words c = sym (length-take-le _ _ (omega arith))
 
 put-words-requires : tie.Need-put-words-requires
 put-words-requires c κs = simp length-take (omega arith)

@@ -2,7 +2,8 @@
 -- Assumes nothing.
 use borrow.Author.Needs.{needs}
 use native.Mathlib.Omega.{arith}
-use lib.ListN.{length-take}
+use mathlib.Core.Path.{sym, _∙_}
+use lib.Seq.{length-take-le}
 use Rattle.files.proofs.Mirrors.{slots-few}
 use Rattle.files.proofs.Written.{tail-made, tail-rest}
 use Rattle.files.proofs.content.put_tail.Statement.{statement}
@@ -27,15 +28,15 @@ slice-relend-prefix-put-masks : tie.Need-slice-relend-prefix-put-masks
 slice-relend-prefix-put-masks c = omega (arith, c .triangle-words .ensures .0, c .before .before .before .before .pre .room)
 
 slice-aggregate-put-masks : tie.Need-slice-aggregate-put-masks
-slice-aggregate-put-masks c = simp length-take (omega (arith, c .before .triangle-words .ensures .0, c .before .before .before .before .before .pre .room))
+slice-aggregate-put-masks c = sym (length-take-le _ _ (omega (arith, c .before .triangle-words .ensures .0, c .before .before .before .before .before .pre .room)))
 
 put-masks-requires : tie.Need-put-masks-requires
 put-masks-requires c κs =
     let pre = c .before .before .before .before .before .pre in
-    (pre .numbers, (pre .tables-words, simp length-take (omega (arith, c .before .triangle-words .ensures .0, pre .room))))
+    (pre .numbers, (pre .tables-words, length-take-le _ _ (omega (arith, c .before .triangle-words .ensures .0, pre .room)) ∙ c .before .triangle-words .ensures .0))
 
 slice-aggregate-put-padded : tie.Need-slice-aggregate-put-padded
-slice-aggregate-put-padded c = simp length-take (omega (arith, c .before .before .before .before .before .before .before .before .before .pre .agenda-words))
+slice-aggregate-put-padded c = sym (length-take-le _ _ (omega (arith, c .before .before .before .before .before .before .before .before .before .pre .agenda-words)))
 
 mul-put-padded : tie.Need-mul-put-padded
 mul-put-padded c = search needs

@@ -2,7 +2,8 @@
 -- Assumes nothing.
 use borrow.Author.Needs.{needs}
 use native.Mathlib.Omega.{arith}
-use lib.ListN.{length-take}
+use mathlib.Core.Path.{sym}
+use lib.Seq.{length-take-le}
 use Rattle.files.proofs.Filled.{padded-copy}
 use Rattle.files.proofs.copying.put_padded.Statement.{statement}
 use Rattle.files.proofs.copying.put_padded.Tie as tie
@@ -11,10 +12,10 @@ slice-relend-prefix-put-words : tie.Need-slice-relend-prefix-put-words
 slice-relend-prefix-put-words c = search needs
 
 slice-aggregate-put-words : tie.Need-slice-aggregate-put-words
-slice-aggregate-put-words c = simp length-take (omega arith)
+slice-aggregate-put-words c = sym (length-take-le _ _ (omega arith))
 
 put-words-requires : tie.Need-put-words-requires
-put-words-requires c κs = simp length-take (omega arith)
+put-words-requires c κs = sym (length-take-le _ _ (omega arith))
 
 mul-put-zeros : tie.Need-mul-put-zeros
 mul-put-zeros c = search needs

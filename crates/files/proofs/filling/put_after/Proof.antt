@@ -1,9 +1,9 @@
 -- `filling::put_after` meets its contract.
 -- Assumes nothing.
 use borrow.Author.Needs.{needs}
-use mathlib.Core.Path.{refl}
+use mathlib.Core.Path.{refl, sym}
 use native.Mathlib.Omega.{arith}
-use lib.ListN.{length-take}
+use lib.Seq.{length-take-le}
 use Rattle.files.proofs.Mirrors.{after-within}
 use Rattle.files.proofs.Filled.{part-within, after-rest, after-made, own-fits}
 use Rattle.files.proofs.filling.put_after.Statement.{statement}
@@ -52,7 +52,7 @@ slice-relend-prefix-put-zeros : tie.Need-slice-relend-prefix-put-zeros
 slice-relend-prefix-put-zeros c = own-fits (c .before .before .before .args .masks .now) _ _ _ (c .before .before .before .pre .1 .1 .1) (c .before .before .before .pre .1 .0)
 
 slice-aggregate-put-zeros : tie.Need-slice-aggregate-put-zeros
-slice-aggregate-put-zeros c = simp length-take (omega (arith, own-fits (c .before .before .before .before .args .masks .now) (c .before .before .before .before .args .n) (c .before .before .before .before .args .d) (c .before .before .before .before .args .i) (c .before .before .before .before .pre .1 .1 .1) (c .before .before .before .before .pre .1 .0)))
+slice-aggregate-put-zeros c = sym (length-take-le _ _ (omega (arith, own-fits (c .before .before .before .before .args .masks .now) (c .before .before .before .before .args .n) (c .before .before .before .before .args .d) (c .before .before .before .before .args .i) (c .before .before .before .before .pre .1 .1 .1) (c .before .before .before .before .pre .1 .0))))
 
 put-zeros-requires : tie.Need-put-zeros-requires
 put-zeros-requires c κs = search needs

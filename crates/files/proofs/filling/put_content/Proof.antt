@@ -2,7 +2,8 @@
 -- Assumes nothing.
 use borrow.Author.Needs.{needs}
 use native.Mathlib.Omega.{arith}
-use lib.ListN.{length-take}
+use mathlib.Core.Path.{sym}
+use lib.Seq.{length-take-le}
 use Rattle.files.proofs.Filled.{content-made}
 use Rattle.files.proofs.filling.put_content.Statement.{statement}
 use Rattle.files.proofs.filling.put_content.Tie as tie
@@ -14,10 +15,10 @@ slice-relend-prefix-put-blocks : tie.Need-slice-relend-prefix-put-blocks
 slice-relend-prefix-put-blocks c = search needs
 
 slice-aggregate-put-blocks : tie.Need-slice-aggregate-put-blocks
-slice-aggregate-put-blocks c = simp length-take (omega arith)
+slice-aggregate-put-blocks c = sym (length-take-le _ _ (omega arith))
 
 put-blocks-requires : tie.Need-put-blocks-requires
-put-blocks-requires c κs = (c .before .before .before .pre .0, (c .before .before .before .pre .1 .0, simp length-take (omega arith)))
+put-blocks-requires c κs = (c .before .before .before .pre .0, (c .before .before .before .pre .1 .0, length-take-le _ _ (omega arith)))
 
 mul-put-zeros : tie.Need-mul-put-zeros
 mul-put-zeros c = search needs

@@ -2,7 +2,8 @@
 -- Assumes nothing.
 use borrow.Author.Needs.{needs}
 use native.Mathlib.Omega.{arith}
-use lib.ListN.{length-take}
+use mathlib.Core.Path.{sym}
+use lib.Seq.{length-take-le}
 use Rattle.files.proofs.Filled.{own-few, row-made, row-rest}
 use Rattle.files.proofs.filling.put_row.Statement.{statement}
 use Rattle.files.proofs.filling.put_row.Tie as tie
@@ -23,14 +24,14 @@ slice-aggregate-put-before : tie.Need-slice-aggregate-put-before
 slice-aggregate-put-before c =
     let a = c .before .before .before .args in
     let few = own-few (a .n) (a .d) (a .i) (c .before .before .before .pre .0) (c .before .before .before .pre .1 .0) in
-    simp length-take (omega (arith, few .0, few .1))
+    sym (length-take-le _ _ (omega (arith, few .0, few .1)))
 
 put-before-requires : tie.Need-put-before-requires
 put-before-requires c κs =
     let a = c .before .before .before .args in
     let pre = c .before .before .before .pre in
     let few = own-few (a .n) (a .d) (a .i) (pre .0) (pre .1 .0) in
-    (pre .0, (pre .1 .0, (pre .1 .1 .0, simp length-take (omega (arith, few .0)))))
+    (pre .0, (pre .1 .0, (pre .1 .1 .0, length-take-le _ _ (omega (arith, few .0)))))
 
 mul-put-after : tie.Need-mul-put-after
 mul-put-after c =

@@ -1,9 +1,10 @@
 -- `filling::put_turned` meets its contract.
 -- Assumes nothing.
 use borrow.Author.Needs.{needs}
-use mathlib.Core.Path.{_∙_}
+use mathlib.Core.Path.{_∙_, sym}
 use native.Mathlib.Omega.{arith}
 use lib.ListN.{length-take}
+use lib.Seq.{length-take-le}
 use Rattle.files.proofs.Mirrors.{columns-made, columns-whole}
 use Rattle.files.proofs.filling.put_turned.Statement.{statement}
 use Rattle.files.proofs.filling.put_turned.Tie as tie
@@ -42,7 +43,7 @@ array-share-prefix-turned : tie.Need-array-share-prefix-turned
 array-share-prefix-turned c = search needs
 
 slice-aggregate-put-words : tie.Need-slice-aggregate-put-words
-slice-aggregate-put-words c = simp length-take (omega (arith, c .before .turned3 .ensures .long))
+slice-aggregate-put-words c = sym (length-take-le _ _ (omega (arith, c .before .turned3 .ensures .long)))
 
 put-words-requires : tie.Need-put-words-requires
 put-words-requires c κs = simp length-take (omega (arith, c .before .before .turned3 .ensures .long))
