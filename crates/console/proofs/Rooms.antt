@@ -4,7 +4,7 @@ use mathlib.Core.Path.{_≡_, refl, sym, ap, _∙_}
 use mathlib.Core.Logic.{_⊎_, inl, inr, ⊎-elim}
 use mathlib.Core.Bool.{Bool, true, false, cond, _&&_}
 use mathlib.Core.List.{List, []}
-use Prim.Native.Nat.{ℕ, zero, suc, _+_, _*_, _%_, _^_, _≤_, _<_}
+use Prim.Native.Nat.{ℕ, zero, suc, _+_, _*_, _/_, _%_, _^_, _≤_, _<_}
 use native.Mathlib.Omega.{arith}
 use native.Mathlib.Nat.{mul-le-mul, lt-of-not-le, zero-mul, mul-comm, mul-le-mul-right}
 use native.Mathlib.Decide.{decLt}
@@ -69,6 +69,10 @@ room-true domains tables agenda b s y =
       of-tables = fits-true (length tables) 16384 (some-right (length domains) (length tables) front) (and-right x y′ two);
       of-agenda = fits-true (length agenda) 17408 (some-right (length domains * length tables) (length agenda) some) (and-right (x && y′) z three);
     }
+
+-- As many words as there is room for.
+pub half-fits : (bytes most words : ℕ) → bytes ≤ 2 * most → words ≡ most → bytes / 2 ≤ words
+half-fits bytes most words h e = omega arith
 
 -- One of them is longer than any that the rules allow, or empty.
 abbrev pub LongOrNone : List ℕ → List ℕ → List ℕ → Type 0

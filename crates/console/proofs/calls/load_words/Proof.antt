@@ -1,48 +1,50 @@
 -- `console::calls::load_words` meets its contract.
 -- Assumes nothing.
+use mathlib.Core.Path.{refl}
 use Rattle.console.proofs.Lending.{count-is, left-fits, left-count, left-bytes, loads-words}
 use borrow.Author.Needs.{needs}
+use Rattle.console.proofs.Rooms.{half-fits}
 use Rattle.console.proofs.calls.load_words.Statement.{statement}
 use Rattle.console.proofs.calls.load_words.Tie as tie
 
 slice-aggregate-words-of : tie.Need-slice-aggregate-words-of
-slice-aggregate-words-of c = search needs
+slice-aggregate-words-of c = refl
 
 words-of-requires : tie.Need-words-of-requires
-words-of-requires c κs = search needs
+words-of-requires c κs = (c .before .before .before .before .before .before .pre .of-domains .even, c .before .before .before .before .before .before .pre .of-domains .few)
 
 slice-aggregate-words-of-2 : tie.Need-slice-aggregate-words-of-2
-slice-aggregate-words-of-2 c = search needs
+slice-aggregate-words-of-2 c = refl
 
 words-of-requires-2 : tie.Need-words-of-requires-2
-words-of-requires-2 c κs = search needs
+words-of-requires-2 c κs = (c .before .before .before .before .before .before .before .before .before .before .pre .of-tables .even, c .before .before .before .before .before .before .before .before .before .before .pre .of-tables .few)
 
 slice-aggregate-words-of-3 : tie.Need-slice-aggregate-words-of-3
-slice-aggregate-words-of-3 c = search needs
+slice-aggregate-words-of-3 c = refl
 
 words-of-requires-3 : tie.Need-words-of-requires-3
-words-of-requires-3 c κs = search needs
+words-of-requires-3 c κs = (c .before .before .before .before .before .before .before .before .before .before .before .before .before .before .pre .of-agenda .even, c .before .before .before .before .before .before .before .before .before .before .before .before .before .before .pre .of-agenda .few)
 
 array-borrow-prefix-domain-words : tie.Need-array-borrow-prefix-domain-words
-array-borrow-prefix-domain-words c = search needs
+array-borrow-prefix-domain-words c = half-fits _ _ _ (c .before .before .before .before .before .before .before .before .before .before .before .before .before .before .before .before .pre .of-domains .few) (c .before .before .before .before .before .before .before .before .before .words-of .kept .1 .0)
 
 slice-aggregate-load : tie.Need-slice-aggregate-load
 slice-aggregate-load c = count-is _ _ (c .before .before .before .before .before .before .before .before .before .before .words-of .ensures)
 
 array-borrow-prefix-table-words : tie.Need-array-borrow-prefix-table-words
-array-borrow-prefix-table-words c = search needs
+array-borrow-prefix-table-words c = half-fits _ _ _ (c .before .before .before .before .before .before .before .before .before .before .before .before .before .before .before .before .before .pre .of-tables .few) (c .before .before .before .before .before .before .words-of2 .kept .1 .0)
 
 slice-aggregate-load-2 : tie.Need-slice-aggregate-load-2
 slice-aggregate-load-2 c = count-is _ _ (c .before .before .before .before .before .before .before .words-of2 .ensures)
 
 array-borrow-prefix-agenda-words : tie.Need-array-borrow-prefix-agenda-words
-array-borrow-prefix-agenda-words c = search needs
+array-borrow-prefix-agenda-words c = half-fits _ _ _ (c .before .before .before .before .before .before .before .before .before .before .before .before .before .before .before .before .before .before .pre .of-agenda .few) (c .before .before .before .words-of3 .kept .1 .0)
 
 slice-aggregate-load-3 : tie.Need-slice-aggregate-load-3
 slice-aggregate-load-3 c = count-is _ _ (c .before .before .before .before .words-of3 .ensures)
 
 load-requires : tie.Need-load-requires
-load-requires c κs = search needs
+load-requires c κs = tt
 
 array-share-prefix-domain-words : tie.Need-array-share-prefix-domain-words
 array-share-prefix-domain-words c = left-fits _ _ (c .before .before .before .load .last .1 .0) (c .before .before .before .before .before .before .before .before .before .before .before .before .before .before .before .before .words-of .ensures) (c .before .before .before .load .kept .1 .0)
@@ -72,13 +74,13 @@ bytes-of-requires-3 : tie.Need-bytes-of-requires-3
 bytes-of-requires-3 c κs = left-bytes _ _ (c .before .before .before .before .before .before .before .before .before .before .before .before .before .before .before .load .last .1 .1 .1 .0) (c .before .before .before .before .before .before .before .before .before .before .before .before .before .before .before .before .before .before .before .before .words-of3 .ensures) (c .before .before .before .before .before .before .before .before .before .before .before .before .before .before .before .load .kept .1 .1 .1 .0) (c .before .before .before .before .before .before .before .before .before .before .before .before .before .before .before .before .before .before .before .before .before .before .before .before .before .before .before .before .before .before .before .before .before .before .before .pre .of-agenda .even)
 
 same-length : tie.Need-same-length
-same-length c = search needs
+same-length c = c .before .before .before .before .before .before .before .before .before .before .before .before .bytes-of .kept .1 .0
 
 same-length-2 : tie.Need-same-length-2
-same-length-2 c = search needs
+same-length-2 c = c .before .before .before .before .before .before .before .bytes-of2 .kept .1 .0
 
 same-length-3 : tie.Need-same-length-3
-same-length-3 c = search needs
+same-length-3 c = c .before .before .bytes-of3 .kept .1 .0
 
 returns : tie.Need-returns
 returns c = loads-words _ _ _ _ _ _ _ (c .before .before .before .before .before .before .before .before .before .before .before .before .before .before .before .before .before .before .load .last .1 .0) (c .before .before .before .before .before .before .before .before .before .before .before .before .before .before .before .before .before .before .load .last .1 .1 .0) (c .before .before .before .before .before .before .before .before .before .before .before .before .before .before .before .before .before .before .load .last .1 .1 .1 .0) _ _ _ _ (c .before .before .before .before .before .before .before .before .before .before .before .before .before .before .before .before .before .before .before .before .before .before .before .before .before .before .before .before .before .before .before .words-of .ensures) (c .before .before .before .before .before .before .before .before .before .before .before .before .before .before .before .before .before .before .before .before .before .before .before .before .before .before .before .words-of2 .ensures) (c .before .before .before .before .before .before .before .before .before .before .before .before .before .before .before .before .before .before .before .before .before .before .before .words-of3 .ensures) (c .before .before .before .before .before .before .before .before .before .before .before .before .before .before .before .before .before .before .load .kept .1 .0) (c .before .before .before .before .before .before .before .before .before .before .before .before .before .before .before .before .before .before .load .kept .1 .1 .0) (c .before .before .before .before .before .before .before .before .before .before .before .before .before .before .before .before .before .before .load .kept .1 .1 .1 .0) (c .before .before .before .before .before .before .before .before .before .before .before .before .before .before .before .before .before .before .load .ensures) (c .before .before .before .before .before .before .before .before .before .before .before .before .bytes-of .ensures) (c .before .before .before .before .before .before .before .bytes-of2 .ensures) (c .before .before .bytes-of3 .ensures)

@@ -12,7 +12,7 @@ unwhole-requires : tie.Need-unwhole-requires
 unwhole-requires c κs = search needs
 
 returns : tie.Need-returns
-returns c = ap {B = Ran} (λ (x : ℕ). record { verdict = None; refusal = x; taken = 0; state = _ }) (c .unwhole .ensures)
+returns c = ap {B = Ran} (λ (x : ℕ). record { verdict = None; refusal = x; taken = 0; state = c .before .args .state }) (c .unwhole .ensures)
 
 pub refused-spec : {M : Type 1} → statement M
 refused-spec = tie.close (tie.spec unwhole-requires returns)
