@@ -131,7 +131,7 @@ pub(crate) fn write_slot(n: usize, agenda: &mut [u16], k: usize, p: Subproblem)
     put_words(n, &mut agenda[at..end], p);
 }
 
-// Slot `k` holds the subproblem with another mask for variable `j`.
+// Slot `k` holds the subproblem with another mask for variable `j`, written by itself so that the others go at once.
 pub(crate) fn write_but(n: usize, agenda: &mut [u16], k: usize, p: Subproblem, j: usize, mask: u16)
     requires { ⌜ SlotIn n k (length (now agenda)) × (j < n) ⌝ }
     ensures { λ r. ⌜ now (agenda .exit) ≡ splice (now (agenda .entry)) (k * (n + 2)) (slotWords n (record { domains = set (p .domains) j mask; marked = p .marked })) ⌝ }

@@ -12,7 +12,7 @@ use splits::subproblem::Subproblem;
 ghost use mathlib.Core.Path.{_≡_};
 ghost use mathlib.Core.Bool.{true, false};
 ghost use Prim.Native.Nat.{ℕ, _+_, _-_, _^_, _<_, _≤_};
-ghost use lib.ListN.{length};
+ghost use lib.ListN.{length, getD};
 ghost use Rattle.splits.specs.Masks.{size};
 ghost use Rattle.splits.specs.Problem.{tableOf, total};
 ghost use Rattle.splits.specs.Subproblems.{domain, instantiated};
@@ -77,6 +77,16 @@ fn precluded(top: Subproblem, choice: Choice) -> Subproblem
     }
 }
 
+// V without its value.
+fn rest(top: Subproblem, choice: Choice) -> Subproblem
+    requires { ⌜ choice .variable < 32 ⌝ }
+    ensures { λ r. ⌜ r ≡ without top (choice .variable) (getD (choice .row) (choice .variable) 0) ⌝ }
+{
+    let variable = choice.variable;
+    let row = choice.row;
+    top.without(variable, row[variable])
+}
+
 // Where one piece is left at most: it in the place of the top, which stood in slot `below`; the number of subproblems then.
 fn settle(top: Subproblem, n: usize, agenda: &mut [u16], choice: Choice, below: usize) -> usize
     requires { ⌜ (choice .variable < 32) × SlotIn n below (length (now agenda)) ⌝ }
@@ -90,9 +100,7 @@ fn settle(top: Subproblem, n: usize, agenda: &mut [u16], choice: Choice, below: 
         agenda::clear_slot(n, agenda, below);
         return below;
     }
-    let variable = choice.variable;
-    let row = choice.row;
-    agenda::write_slot(n, agenda, below, top.without(variable, row[variable]));
+    agenda::write_slot(n, agenda, below, rest(top, choice));
     below + 1
 }
 
@@ -160,9 +168,7 @@ fn put_two(
     requires { ⌜ AtTop n d (now tables) top choice below (length (now agenda)) × (RoomFor n d (now tables) top choice 2 below (length (now agenda)) × (several choice ≡ true)) ⌝ }
     ensures { λ r. ⌜ Replaced n (pieces n (tableOf n d (now (tables .entry))) top (requestBy choice 2)) below (now (agenda .entry)) (now (agenda .exit)) r ⌝ }
 {
-    let variable = choice.variable;
-    let row = choice.row;
-    agenda::write_slot(n, agenda, below, top.without(variable, row[variable]));
+    agenda::write_slot(n, agenda, below, rest(top, choice));
     agenda::write_slot(n, agenda, below + 1, precluded(top, choice));
     below + 2
 }

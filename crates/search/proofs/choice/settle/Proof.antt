@@ -1,7 +1,7 @@
 -- `search::choice::settle` meets its contract.
 -- Assumes nothing.
-use native.Mathlib.Omega.{arith}
 use mathlib.Core.Path.{_≡_}
+use native.Mathlib.Omega.{arith}
 use lib.ListN.{length}
 use Rattle.search.proofs.Settling.{settle-kept, settle-none, settle-rest}
 use borrow.Author.Needs.{needs}
@@ -32,17 +32,11 @@ same-length-2 c = omega arith
 returns-2 : tie.Need-returns-2
 returns-2 c = settle-none _ _ _ _ _ _ (c .before .before .before .before .before .before .before .before .before .pre .1) (c .before .before .before .before .before .before .if1 .left) (c .before .before .before .before .if2 .taken) (c .before .before .clear-slot .ensures)
 
-mul-without : tie.Need-mul-without
-mul-without c = omega arith
-
-array-read-without : tie.Need-array-read-without
-array-read-without c = omega arith
-
-without-requires : tie.Need-without-requires
-without-requires c κs = tt
+rest-requires : tie.Need-rest-requires
+rest-requires c κs = c .before .before .before .before .before .before .pre .0
 
 write-slot-requires-2 : tie.Need-write-slot-requires-2
-write-slot-requires-2 c κs = c .before .before .before .before .before .before .before .before .pre .1
+write-slot-requires-2 c κs = c .before .before .before .before .before .before .before .pre .1
 
 add-result-2 : tie.Need-add-result-2
 add-result-2 c = omega arith
@@ -51,7 +45,7 @@ same-length-3 : tie.Need-same-length-3
 same-length-3 c = omega arith
 
 returns-3 : tie.Need-returns-3
-returns-3 c = let long : length (c .before .before .before .without .result .domains) ≡ 32 = search needs in settle-rest _ _ _ _ _ _ (c .before .before .before .before .before .before .before .before .before .before .before .pre .1) (c .before .before .before .before .before .before .before .before .if1 .left) (c .before .before .before .before .before .before .if2 .left) _ (c .before .before .before .without .ensures) long (c .before .before .write-slot2 .ensures)
+returns-3 c = let long : length (c .before .before .before .rest .result .domains) ≡ 32 = search needs in settle-rest _ _ _ _ _ _ (c .before .before .before .before .before .before .before .before .before .before .pre .1) (c .before .before .before .before .before .before .before .if1 .left) (c .before .before .before .before .before .if2 .left) _ (c .before .before .before .rest .ensures) long (c .before .before .write-slot2 .ensures)
 
 pub settle-spec : {M : Type 1} → statement M
 settle-spec =
@@ -65,9 +59,7 @@ settle-spec =
     clear-slot-requires
     same-length-2
     returns-2
-    mul-without
-    array-read-without
-    without-requires
+    rest-requires
     write-slot-requires-2
     add-result-2
     same-length-3

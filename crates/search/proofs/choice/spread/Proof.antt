@@ -56,7 +56,7 @@ loop-less : tie.Need-loop-less Inv-loop μ-loop
 loop-less c = omega arith
 
 loop-again : tie.Need-loop-again Inv-loop μ-loop
-loop-again c = let k = c .before .before .before .before .before .before .before .before .before .before .before .before .pre in let inv = c .before .before .before .before .before .before .before .before .loop .inv in (omega arith, spread-keep _ _ _ _ _ _ _ (k .0) (k .1 .1 .several) _ _ (k .1 .1) _ (c .before .before .before .before .before .before .before .loop-test .taken) (inv .0) _ _ _ (omega arith) (k .1 .0) (inv .1) _ (c .before .before .before .before .before .before .if1 .taken) (c .before .before .before .before .joined .ensures) _ (c .before .before .write-but .ensures) (search needs))
+loop-again c = let k = c .before .before .before .before .before .before .before .before .before .before .before .before .pre in let inv = c .before .before .before .before .before .before .before .before .loop .inv in (omega arith, spread-keep _ _ _ _ _ _ _ (k .0) (k .1 .1 .several) _ _ (k .1 .1) _ (c .before .before .before .before .before .before .before .loop-test .taken) (inv .0) _ _ _ (omega arith) (k .1 .0) (inv .1) _ (c .before .before .before .before .before .before .if1 .taken) (c .before .before .before .before .joined .ensures) _ (c .before .before .write-but .ensures) (omega arith))
 
 loop-less-2 : tie.Need-loop-less-2 Inv-loop μ-loop
 loop-less-2 c = omega arith
@@ -77,7 +77,7 @@ same-length : tie.Need-same-length Inv-loop μ-loop
 same-length c = omega arith
 
 returns : tie.Need-returns Inv-loop μ-loop
-returns c = let k = c .before .before .before .before .before .before .before .before .before .before .pre in let inv = c .before .before .before .before .before .before .loop .inv in let long : length (c .before .before .before .precluded .result .domains) ≡ 32 = search needs in spread-end _ _ _ _ _ _ _ (k .0) (k .1 .1 .several) _ (omega arith) (k .1 .0) _ _ _ (inv .1) (omega arith) _ (c .before .before .before .precluded .ensures) _ long (c .before .before .write-slot .ensures) (search needs)
+returns c = let k = c .before .before .before .before .before .before .before .before .before .before .pre in let inv = c .before .before .before .before .before .before .loop .inv in let long : length (c .before .before .before .precluded .result .domains) ≡ 32 = search needs in spread-end _ _ _ _ _ _ _ (k .0) (k .1 .1 .several) _ (omega arith) (k .1 .0) _ _ _ (inv .1) (omega arith) _ (c .before .before .before .precluded .ensures) _ long (c .before .before .write-slot .ensures) (omega arith)
 
 pub spread-spec : {M : Type 1} → statement M
 spread-spec =
