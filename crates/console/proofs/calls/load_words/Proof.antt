@@ -9,19 +9,19 @@ slice-aggregate-words-of : tie.Need-slice-aggregate-words-of
 slice-aggregate-words-of c = search needs
 
 words-of-requires : tie.Need-words-of-requires
-words-of-requires c κs = search needs
+words-of-requires c κs = let fit = c .before .before .before .before .before .before .pre .of-domains in (fit .even, (fit .some, fit .few))
 
 slice-aggregate-words-of-2 : tie.Need-slice-aggregate-words-of-2
 slice-aggregate-words-of-2 c = search needs
 
 words-of-requires-2 : tie.Need-words-of-requires-2
-words-of-requires-2 c κs = search needs
+words-of-requires-2 c κs = let fit = c .before .before .before .before .before .before .before .before .before .before .pre .of-tables in (fit .even, (fit .some, fit .few))
 
 slice-aggregate-words-of-3 : tie.Need-slice-aggregate-words-of-3
 slice-aggregate-words-of-3 c = search needs
 
 words-of-requires-3 : tie.Need-words-of-requires-3
-words-of-requires-3 c κs = search needs
+words-of-requires-3 c κs = let fit = c .before .before .before .before .before .before .before .before .before .before .before .before .before .before .pre .of-agenda in (fit .even, (fit .some, fit .few))
 
 array-borrow-prefix-domain-words : tie.Need-array-borrow-prefix-domain-words
 array-borrow-prefix-domain-words c = search needs
