@@ -1,13 +1,13 @@
 -- Words made of bytes, lent to the covered calls and written back: each call's statement at the words that the bytes say.
 -- Assumes nothing.
-use mathlib.Core.Path.{_≡_, refl, sym, ap, _∙_}
-use mathlib.Core.List.{List, [], _∷_, _++_}
-use Prim.Native.Nat.{ℕ, zero, suc, _+_, _*_, _/_, _^_, _≤_, _<_}
+use mathlib.Core.Path.{_≡_, sym, ap, _∙_}
+use mathlib.Core.List.{List, _++_}
+use Prim.Native.Nat.{ℕ, _+_, _*_, _/_, _^_, _≤_, _<_}
 use native.Mathlib.Omega.{arith}
 use native.Mathlib.Nat.{mul-le-mul}
 use native.Mathlib.Decide.{ℕ-discrete}
 use lib.ListN.{length, getD, take, drop, length-append, length-drop}
-use lib.Seq.{take-at, length-take-le, getD-drop, ext-getD}
+use lib.Seq.{take-at, getD-drop, ext-getD}
 use borrow.Author.Tests.{ne-eqb}
 use Rattle.search.specs.Calls.{Opens, Runs, Chooses}
 use Rattle.search.specs.declared.state.State.{State}
@@ -25,7 +25,7 @@ use Rattle.files.proofs.SaveOutcomes.{first-passed}
 use Rattle.files.proofs.Written.{handed-length}
 use Rattle.console.specs.Bytes.{Whole, wordsOf, bytesOf}
 use Rattle.console.specs.Calls.{OpensWords, RunsWords, ChoosesWords, LoadsWords}
-use Rattle.console.specs.Work.Rooms.{Front}
+use Rattle.console.specs.Work.Rooms.{WritesBack}
 use Rattle.console.specs.Work.Parts.{Listed, Narrow}
 use Rattle.console.proofs.Words.{words-length, words-small, front-said}
 use Rattle.console.proofs.Runs.{choose-narrow, run-past}
@@ -44,12 +44,6 @@ drop-same : (k : ℕ) (a b : List ℕ) → length a ≡ length b → ((i : ℕ) 
 drop-same k a b e h =
     ext-getD 0 (drop k a) (drop k b) (simp length-drop (omega arith))
     (λ i l. let inside : k + i < length a = omega (arith, length-drop k a) in getD-drop k a i 0 ∙ h (k + i) (omega arith) inside ∙ sym (getD-drop k b i 0))
-
--- The first k of a list are the first k of it with more behind.
-take-within : (k : ℕ) (a b : List ℕ) → k ≤ length a → take k (a ++ b) ≡ take k a
-take-within zero a b h = refl
-take-within (suc k) [] b h = absurd (omega arith)
-take-within (suc k) (x ∷ a) b h = ap (λ (l : List ℕ). x ∷ l) (take-within k a b (omega arith))
 
 -- A callee left y in the part that was lent to it.
 module _ (b words y : List ℕ) (e : Says b words) (kept : length y ≡ length (take (length b / 2) words)) where
@@ -72,20 +66,6 @@ module _ (b words y : List ℕ) (e : Says b words) (kept : length y ≡ length (
   pub left-said : (after : List ℕ) → after ≡ bytesOf (take (length b / 2) (y ++ drop (length b / 2) words)) → after ≡ bytesOf y
   left-said after s = s ∙ ap bytesOf left-again
 
-  -- Its first k words.
-  module _ (k : ℕ) (inside : k ≤ length b / 2) where
-    front-again : take k (y ++ drop (length b / 2) words) ≡ take k y
-    front-again = take-within k y (drop (length b / 2) words) (omega (arith, left-length))
-
-    pub front-fits : k ≤ length (y ++ drop (length b / 2) words)
-    front-fits = rw length-append (omega (arith, left-length))
-
-    pub front-count : k ≡ length (take k (y ++ drop (length b / 2) words))
-    front-count = sym (length-take-le k (y ++ drop (length b / 2) words) front-fits)
-
-    pub front-bytes : length (take (2 * k) b) ≡ 2 * length (take k (y ++ drop (length b / 2) words))
-    front-bytes = length-take-le (2 * k) b (omega arith) ∙ ap (λ (j : ℕ). 2 * j) front-count
-
 module _ (n d : ℕ) (domains tables agenda ds ts xs y after : List ℕ) (e : Says domains ds) (f : Says tables ts) (g : Says agenda xs)
     (kept : length y ≡ length (take (length agenda / 2) xs)) (said : after ≡ bytesOf (take (length agenda / 2) (y ++ drop (length agenda / 2) xs))) where
   pub opens-words : (r : Opened) → Opens n d (take (length domains / 2) ds) (take (length tables / 2) ts) (take (length agenda / 2) xs) y r
@@ -98,26 +78,23 @@ module _ (n d : ℕ) (domains tables agenda ds ts xs y after : List ℕ) (e : Sa
   chooses-words limit s r h = record { left = y; chooses = rw (← e, ← f, ← g) h; said = left-said agenda xs y g kept after said }
 
 -- A run whose callee left y, of which the front is written back.
-pub runs-words : (n d : ℕ) (domains tables agenda ds ts xs y requests bytes : List ℕ) (s : State) (r : Ran) (k : ℕ) → Says domains ds → Says tables ts
-    → (g : Says agenda xs) → (kept : length y ≡ length (take (length agenda / 2) xs)) → Front n (s .subproblems) (r .state .subproblems) (length agenda / 2) k
-    → Whole agenda → ((i : ℕ) → getD agenda i 0 < 256) → s .counts .steps .0 ≤ 4294967295 → Listed n (length requests)
+pub runs-words : (n d : ℕ) (domains tables agenda ds ts xs y requests after : List ℕ) (s : State) (r : Ran) → Says domains ds → Says tables ts
+    → (g : Says agenda xs) → (kept : length y ≡ length (take (length agenda / 2) xs)) → Whole agenda → ((i : ℕ) → getD agenda i 0 < 256)
+    → s .counts .steps .0 ≤ 4294967295 → Listed n (length requests)
     → Runs n d (take (length domains / 2) ds) (take (length tables / 2) ts) (take (length agenda / 2) xs) y (wordsOf requests) s r
-    → bytes ≡ bytesOf (take k (y ++ drop (length agenda / 2) xs))
-    → RunsWords n d domains tables agenda (bytes ++ drop (2 * k) agenda) requests s r
-runs-words n d domains tables agenda ds ts xs y requests bytes s r k e f g kept front w small stepped listed h said =
+    → WritesBack n (s .subproblems) (r .state .subproblems) (take (length agenda / 2) (y ++ drop (length agenda / 2) xs)) agenda after
+    → RunsWords n d domains tables agenda after requests s r
+runs-words n d domains tables agenda ds ts xs y requests after s r e f g kept w small stepped listed h written =
     let runs : Runs n d (wordsOf domains) (wordsOf tables) (wordsOf agenda) y (wordsOf requests) s r = rw (← e, ← f, ← g) h in
+    let back : WritesBack n (s .subproblems) (r .state .subproblems) y agenda after = rw (left-again agenda xs y g kept) at written in
     let long : length (wordsOf agenda) ≡ length agenda / 2 = words-length agenda in
     let long′ : length y ≡ length agenda / 2 = left-length agenda xs y g kept in
     let whole = whole-words n requests (listed .requests, listed .whole) in
-    let past : drop k y ≡ drop k (wordsOf agenda) =
-    drop-same k y (wordsOf agenda) (long′ ∙ sym long)
-    (λ i l m. let inside : i < length agenda / 2 = omega arith in let (b, a) = front .past i l inside in
+    let past : drop (back .count) y ≡ drop (back .count) (wordsOf agenda) =
+    drop-same (back .count) y (wordsOf agenda) (long′ ∙ sym long)
+    (λ i l m. let (b, a) = back .front .past i l m in
     run-past n d (wordsOf domains) (wordsOf tables) (wordsOf agenda) s (words-small agenda small) stepped y (wordsOf requests) r whole runs i (omega arith) m b a) in
-    record {
-      left = y;
-      runs = runs;
-      said = ap (λ (z : List ℕ). z ++ drop (2 * k) agenda) (said ∙ ap bytesOf (front-again agenda xs y g kept k (front .inside))) ∙ front-said k agenda y w small past;
-    }
+    record { left = y; runs = runs; said = back .said ∙ front-said (back .count) agenda y w small past }
 
 pub saves-words : (n d : ℕ) (domains tables agenda ds ts xs : List ℕ) (s : State) (before after : List ℕ) (r : Saved) → Says domains ds → Says tables ts
     → Says agenda xs → Saves n d (take (length domains / 2) ds) (take (length tables / 2) ts) (take (length agenda / 2) xs) s before after r

@@ -3,12 +3,13 @@
 use mathlib.Core.Path.{_≡_, refl, sym, ap, _∙_}
 use mathlib.Core.Logic.{_⊎_, inl, inr, ⊎-elim}
 use mathlib.Core.Bool.{Bool, true, false, cond, _&&_}
-use mathlib.Core.List.{List, []}
+use mathlib.Core.List.{List, [], _++_}
 use Prim.Native.Nat.{ℕ, zero, suc, _+_, _*_, _/_, _%_, _^_, _≤_, _<_}
 use native.Mathlib.Omega.{arith}
 use native.Mathlib.Nat.{mul-le-mul, lt-of-not-le, zero-mul, mul-comm, mul-le-mul-right}
 use native.Mathlib.Decide.{decLt}
-use lib.ListN.{length}
+use lib.ListN.{length, take, drop}
+use lib.Seq.{length-take-le}
 use lib.Dec.{eqb, leb, ltb}
 use borrow.Author.Tests.{leb-true, leb-false, ltb-true, ltb-false, eqb-true, eqb-false, eq-eqb, ne-eqb}
 use Rattle.splits.proofs.Tests.{and-left, and-right}
@@ -21,9 +22,9 @@ use Rattle.files.specs.Reading.{saidN, saidD, refusalOfFile, refusalOfWords}
 use Rattle.files.specs.Calls.{saveRefusal, loadRefusal}
 use Rattle.search.specs.declared.state.State.{State}
 use Rattle.files.proofs.Accepted.{Accepts, words-accept}
-use Rattle.console.specs.Bytes.{Whole, wordsOf}
+use Rattle.console.specs.Bytes.{Whole, wordsOf, bytesOf}
 use Rattle.console.specs.Calls.{WholeProblem, unwhole, unwholeFile}
-use Rattle.console.specs.Work.Rooms.{fits, roomFor, wholeList, Fits, Room, Front}
+use Rattle.console.specs.Work.Rooms.{fits, roomFor, wholeList, Fits, Room, Front, WritesBack}
 use Rattle.console.proofs.Words.{words-length}
 
 -- ---- what the tests say
@@ -289,3 +290,11 @@ front-used n before after slots words used b a e l = record {
 
 pub front-all : (n before after words : ℕ) → Front n before after words words
 front-all n before after words = record { inside = omega arith; past = λ i h m. absurd (omega arith) }
+
+-- The bytes of the first words.
+pub front-lengths : (k : ℕ) (words b : List ℕ) → k ≤ length words → length b ≡ 2 * length words → length (take (2 * k) b) ≡ 2 * length (take k words)
+front-lengths k words b h e = length-take-le (2 * k) b (omega arith) ∙ ap (λ (j : ℕ). 2 * j) (sym (length-take-le k words h))
+
+pub written-back : (n before after k : ℕ) (words b bytes : List ℕ) → Front n before after (length words) k → bytes ≡ bytesOf (take k words)
+    → WritesBack n before after words b (bytes ++ drop (2 * k) b)
+written-back n before after k words b bytes h e = record { count = k; front = h; said = ap (λ (z : List ℕ). z ++ drop (2 * k) b) e }

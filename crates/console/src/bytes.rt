@@ -4,7 +4,7 @@ ghost use Prim.Native.Nat.{_+_, _*_, _/_, _%_, _≤_, _<_};
 ghost use lib.ListN.{length, take};
 ghost use lib.Dec.{ltb};
 ghost use Rattle.console.specs.Bytes.{wordsOf, bytesOf};
-ghost use Rattle.console.specs.Work.Rooms.{fits, roomFor, wholeList, Front};
+ghost use Rattle.console.specs.Work.Rooms.{fits, roomFor, wholeList, Front, WritesBack};
 
 // The word of two bytes.
 fn word(low: u8, high: u8) -> u16
@@ -108,8 +108,8 @@ fn larger(a: usize, b: usize) -> usize
     a
 }
 
-// How many of the agenda's words a call can have changed: those of the slots used before or after it.
-pub(crate) fn front(n: usize, before: usize, after: usize, words: usize) -> usize
+// How many words of slots were used before or after a call; all if there are no more.
+fn front(n: usize, before: usize, after: usize, words: usize) -> usize
     requires { ⌜ (n ≤ 32) × ((before < 4294967296) × (after < 4294967296)) ⌝ }
     ensures { λ r. ⌜ Front n before after words r ⌝ }
 {
@@ -118,4 +118,13 @@ pub(crate) fn front(n: usize, before: usize, after: usize, words: usize) -> usiz
         return used;
     }
     words
+}
+
+// Writes back the words of an agenda that a call can have changed: those of the slots used before or after it.
+pub(crate) fn write_back(n: usize, before: usize, after: usize, words: &[u16], agenda: &mut [u8])
+    requires { ⌜ (n ≤ 32) × ((before < 4294967296) × ((after < 4294967296) × (length (now agenda) ≡ 2 * length (now words)))) ⌝ }
+    ensures { λ r. ⌜ WritesBack n before after (now (words .entry)) (now (agenda .entry)) (now (agenda .exit)) ⌝ }
+{
+    let count = front(n, before, after, words.len());
+    bytes_of(&words[..count], &mut agenda[..2 * count]);
 }

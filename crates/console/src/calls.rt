@@ -82,8 +82,13 @@ fn run_words(
         requests,
         state,
     );
-    let front = bytes::front(n, state.subproblems, ran.state.subproblems, slots);
-    bytes::bytes_of(&agenda_words[..front], &mut agenda[..2 * front]);
+    bytes::write_back(
+        n,
+        state.subproblems,
+        ran.state.subproblems,
+        &agenda_words[..slots],
+        agenda,
+    );
     ran
 }
 

@@ -99,6 +99,15 @@ module _ (n d : ℕ) (t : List ℕ) (P : Subproblem) (r : List ℕ) (fits : read
     same = refl;
   }
 
+  -- A candidate that is empty is dropped, made or not.
+  pub gather-less : (before : List ℕ) (from : ℕ) (agenda : List ℕ) (at k : ℕ) → Gathered n d t P r before from agenda at k → 0 < k
+      → empty n (candidate n (tableOf n d t) P r (k - 1)) ≡ true → Gathered n d t P r before from agenda at (k - 1)
+  gather-less before from agenda at k g some told =
+      let up : (k - 1) + 1 ≡ k = omega arith in
+      let less : firsts n (candidate n (tableOf n d t) P r) k ≡ firsts n (candidate n (tableOf n d t) P r) (k - 1) =
+      ap (firsts n (candidate n (tableOf n d t) P r)) (sym up) ∙ firsts-drop n (candidate n (tableOf n d t) P r) (k - 1) told in
+      record { rest = g .rest; all = g .all ∙ rw less refl; count = g .count; sized = g .sized; words = g .words; same = g .same }
+
   module _ (before : List ℕ) (from : ℕ) (agenda : List ℕ) (at k : ℕ) (g : Gathered n d t P r before from agenda at k)
       (named : ℕ) (c : Candidates n r named) (k-le : k ≤ named) (k-some : 0 < k) (Q : Subproblem) (piece : Piece P n d t r (k - 1) Q)
       (b : Bool) (tested : b ≡ empty n Q) where
@@ -110,11 +119,7 @@ module _ (n d : ℕ) (t : List ℕ) (P : Subproblem) (r : List ℕ) (fits : read
 
     -- An empty one is dropped.
     pub gather-drop : not b ≡ false → Gathered n d t P r before from agenda at (k - 1)
-    gather-drop z =
-        let yes : empty n (candidate n (tableOf n d t) P r (k - 1)) ≡ true = rw its at (sym tested ∙ not-false b z) in
-        let less : firsts n (candidate n (tableOf n d t) P r) k ≡ firsts n (candidate n (tableOf n d t) P r) (k - 1) =
-        ap (firsts n (candidate n (tableOf n d t) P r)) (sym back) ∙ firsts-drop n (candidate n (tableOf n d t) P r) (k - 1) yes in
-        record { rest = g .rest; all = g .all ∙ rw less refl; count = g .count; sized = g .sized; words = g .words; same = g .same }
+    gather-drop z = gather-less before from agenda at k g k-some (rw its at (sym tested ∙ not-false b z))
 
     module _ (filled : not b ≡ true) where
       more : pieces n (tableOf n d t) P r ≡ firsts n (candidate n (tableOf n d t) P r) (k - 1) ++ (Q ∷ g .rest)

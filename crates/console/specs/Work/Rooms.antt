@@ -1,10 +1,11 @@
 -- How many bytes are turned into words: whole words, some, no more than any problem and any agenda have; and how many are written back.
 use mathlib.Core.Path.{_≡_}
 use mathlib.Core.Bool.{Bool, _&&_}
-use mathlib.Core.List.{List}
+use mathlib.Core.List.{List, _++_}
 use Prim.Native.Nat.{ℕ, _+_, _*_, _%_, _≤_, _<_}
-use lib.ListN.{length}
+use lib.ListN.{length, take, drop}
 use lib.Dec.{eqb, leb, ltb}
+use Rattle.console.specs.Bytes.{bytesOf}
 
 -- So many bytes are whole words, at most so many of them.
 unfoldable pub fits : ℕ → ℕ → Bool
@@ -33,3 +34,9 @@ pub record Room (domains tables agenda : List ℕ) : Type 0 where
 pub record Front (n before after words r : ℕ) : Type 0 where
   pub inside : r ≤ words
   pub past : (i : ℕ) → r ≤ i → i < words → (before * (n + 2) ≤ i) × (after * (n + 2) ≤ i)
+
+-- Their bytes are written, and what comes after them is left.
+pub record WritesBack (n before after : ℕ) (words b b′ : List ℕ) : Type 0 where
+  pub count : ℕ
+  pub front : Front n before after (length words) count
+  pub said : b′ ≡ bytesOf (take count words) ++ drop (2 * count) b

@@ -14,19 +14,19 @@ slice-aggregate-words-of : tie.Need-slice-aggregate-words-of
 slice-aggregate-words-of c = refl
 
 words-of-requires : tie.Need-words-of-requires
-words-of-requires c κs = (c .before .before .before .before .pre .0 .of-domains .even, c .before .before .before .before .pre .0 .of-domains .few)
+words-of-requires c κs = let fit = c .before .before .before .before .pre .0 .of-domains in (fit .even, (fit .some, fit .few))
 
 slice-aggregate-words-of-2 : tie.Need-slice-aggregate-words-of-2
 slice-aggregate-words-of-2 c = refl
 
 words-of-requires-2 : tie.Need-words-of-requires-2
-words-of-requires-2 c κs = (c .before .before .before .before .before .before .before .pre .0 .of-tables .even, c .before .before .before .before .before .before .before .pre .0 .of-tables .few)
+words-of-requires-2 c κs = let fit = c .before .before .before .before .before .before .before .pre .0 .of-tables in (fit .even, (fit .some, fit .few))
 
 slice-aggregate-words-of-3 : tie.Need-slice-aggregate-words-of-3
 slice-aggregate-words-of-3 c = refl
 
 words-of-requires-3 : tie.Need-words-of-requires-3
-words-of-requires-3 c κs = (c .before .before .before .before .before .before .before .before .before .before .before .pre .0 .of-agenda .even, c .before .before .before .before .before .before .before .before .before .before .before .pre .0 .of-agenda .few)
+words-of-requires-3 c κs = let fit = c .before .before .before .before .before .before .before .before .before .before .before .pre .0 .of-agenda in (fit .even, (fit .some, fit .few))
 
 array-share-prefix-domain-words : tie.Need-array-share-prefix-domain-words
 array-share-prefix-domain-words c = half-fits _ _ _ (c .before .before .before .before .before .before .before .before .before .before .before .before .before .pre .0 .of-domains .few) (c .before .before .before .before .before .before .before .before .words-of .kept .1 .0)

@@ -1,11 +1,9 @@
 -- `console::calls::run_words` meets its contract.
 -- Assumes nothing.
-use mathlib.Core.Path.{sym}
 use Prim.Native.Nat.{ℕ, _<_}
 use native.Mathlib.Omega.{arith}
 use lib.ListN.{getD}
-use lib.Seq.{length-take-le}
-use Rattle.console.proofs.Lending.{count-is, front-fits, front-count, front-bytes, runs-words}
+use Rattle.console.proofs.Lending.{count-is, left-fits, left-count, left-bytes, runs-words}
 use borrow.Author.Needs.{needs}
 use Rattle.console.proofs.calls.run_words.Statement.{statement}
 use Rattle.console.proofs.calls.run_words.Tie as tie
@@ -14,19 +12,19 @@ slice-aggregate-words-of : tie.Need-slice-aggregate-words-of
 slice-aggregate-words-of c = search needs
 
 words-of-requires : tie.Need-words-of-requires
-words-of-requires c κs = search needs
+words-of-requires c κs = let fit = c .before .before .before .before .before .pre .0 .of-domains in (fit .even, (fit .some, fit .few))
 
 slice-aggregate-words-of-2 : tie.Need-slice-aggregate-words-of-2
 slice-aggregate-words-of-2 c = search needs
 
 words-of-requires-2 : tie.Need-words-of-requires-2
-words-of-requires-2 c κs = search needs
+words-of-requires-2 c κs = let fit = c .before .before .before .before .before .before .before .before .pre .0 .of-tables in (fit .even, (fit .some, fit .few))
 
 slice-aggregate-words-of-3 : tie.Need-slice-aggregate-words-of-3
 slice-aggregate-words-of-3 c = search needs
 
 words-of-requires-3 : tie.Need-words-of-requires-3
-words-of-requires-3 c κs = search needs
+words-of-requires-3 c κs = let fit = c .before .before .before .before .before .before .before .before .before .before .before .before .pre .0 .of-agenda in (fit .even, (fit .some, fit .few))
 
 array-share-prefix-domain-words : tie.Need-array-share-prefix-domain-words
 array-share-prefix-domain-words c = search needs
@@ -49,36 +47,33 @@ slice-aggregate-run-parts-3 c = count-is _ _ (c .before .before .before .before 
 run-parts-requires : tie.Need-run-parts-requires
 run-parts-requires c κs = (c .before .before .before .before .before .before .before .before .before .before .before .before .before .before .before .before .before .pre .1 .0, c .before .before .before .before .before .before .before .before .before .before .before .before .before .before .before .before .before .pre .1 .1 .1)
 
-front-requires : tie.Need-front-requires
-front-requires c κs = (c .before .before .before .before .before .before .before .before .before .before .before .before .before .before .before .before .before .before .before .pre .1 .0 .few, (c .before .before .before .before .before .before .before .before .before .before .before .before .before .before .before .before .before .before .before .pre .1 .1 .1, c .before .run-parts .ensures .1 .subproblems))
-
 array-share-prefix-agenda-words : tie.Need-array-share-prefix-agenda-words
-array-share-prefix-agenda-words c = front-fits _ _ (c .before .before .run-parts .last .1 .1 .1 .1 .0) (c .before .before .before .before .before .before .before .words-of3 .ensures) (c .before .before .run-parts .kept .1 .1 .1 .1 .0) _ (c .front .ensures .inside)
+array-share-prefix-agenda-words c = left-fits _ _ (c .before .run-parts .last .1 .1 .1 .1 .0) (c .before .before .before .before .before .before .words-of3 .ensures) (c .before .run-parts .kept .1 .1 .1 .1 .0)
 
-slice-aggregate-bytes-of : tie.Need-slice-aggregate-bytes-of
-slice-aggregate-bytes-of c = front-count _ _ (c .before .before .before .run-parts .last .1 .1 .1 .1 .0) (c .before .before .before .before .before .before .before .before .words-of3 .ensures) (c .before .before .before .run-parts .kept .1 .1 .1 .1 .0) _ (c .before .front .ensures .inside)
+slice-aggregate-write-back : tie.Need-slice-aggregate-write-back
+slice-aggregate-write-back c = left-count _ _ (c .before .before .run-parts .last .1 .1 .1 .1 .0) (c .before .before .before .before .before .before .before .words-of3 .ensures) (c .before .before .run-parts .kept .1 .1 .1 .1 .0)
 
-mul-bytes-of : tie.Need-mul-bytes-of
-mul-bytes-of c = omega (arith, c .before .front .ensures .inside, c .before .before .before .before .before .before .before .before .before .before .before .before .before .before .before .before .before .before .before .before .before .pre .0 .of-agenda .few)
-
-slice-relend-prefix-bytes-of : tie.Need-slice-relend-prefix-bytes-of
-slice-relend-prefix-bytes-of c = omega (arith, c .before .front .ensures .inside)
-
-slice-aggregate-bytes-of-2 : tie.Need-slice-aggregate-bytes-of-2
-slice-aggregate-bytes-of-2 c = sym (length-take-le _ _ (omega (arith, c .before .before .front .ensures .inside)))
-
-bytes-of-requires : tie.Need-bytes-of-requires
-bytes-of-requires c κs = front-bytes _ _ (c .before .before .before .before .run-parts .last .1 .1 .1 .1 .0) (c .before .before .before .before .before .before .before .before .before .words-of3 .ensures) (c .before .before .before .before .run-parts .kept .1 .1 .1 .1 .0) _ (c .before .before .front .ensures .inside)
+write-back-requires : tie.Need-write-back-requires
+write-back-requires c κs = (
+  c .before .before .before .before .before .before .before .before .before .before .before .before .before .before .before .before .before .before .before .before .before .pre .1 .0 .few,
+  (
+    c .before .before .before .before .before .before .before .before .before .before .before .before .before .before .before .before .before .before .before .before .before .pre .1 .1 .1,
+    (
+      c .before .before .before .run-parts .ensures .1 .subproblems,
+      left-bytes _ _ (c .before .before .before .run-parts .last .1 .1 .1 .1 .0) (c .before .before .before .before .before .before .before .before .words-of3 .ensures) (c .before .before .before .run-parts .kept .1 .1 .1 .1 .0) (c .before .before .before .before .before .before .before .before .before .before .before .before .before .before .before .before .before .before .before .before .before .pre .0 .of-agenda .even),
+    ),
+  ),
+)
 
 same-length : tie.Need-same-length
 same-length c = search needs
 
 returns : tie.Need-returns
 returns c =
-    let small : (i : ℕ) → getD (c .before .before .before .before .before .before .before .before .before .before .before .before .before .before .before .before .before .before .before .before .before .before .before .before .before .args .agenda .now) i 0 < 256 = λ i. omega (arith, c .before .before .before .before .before .before .before .before .before .before .before .before .before .before .before .before .before .before .before .before .before .before .slice-known .given i) in (
-      runs-words _ _ _ _ _ _ _ _ (c .before .before .before .before .before .before .before .run-parts .last .1 .1 .1 .1 .0) _ _ _ _ _ (c .before .before .before .before .before .before .before .before .before .before .before .before .before .before .before .before .before .before .before .words-of .ensures) (c .before .before .before .before .before .before .before .before .before .before .before .before .before .before .before .before .words-of2 .ensures) (c .before .before .before .before .before .before .before .before .before .before .before .before .words-of3 .ensures) (c .before .before .before .before .before .before .before .run-parts .kept .1 .1 .1 .1 .0)
-          (c .before .before .before .before .before .front .ensures) (c .before .before .before .before .before .before .before .before .before .before .before .before .before .before .before .before .before .before .before .before .before .before .before .before .before .pre .0 .of-agenda .even) small (omega (arith, c .before .before .before .before .before .before .before .before .before .before .before .before .before .before .before .before .before .before .before .before .before .before .before .before .before .pre .1 .1 .0)) (c .before .before .before .before .before .before .before .before .before .before .before .before .before .before .before .before .before .before .before .before .before .before .before .before .before .pre .1 .0) (c .before .before .before .before .before .before .before .run-parts .ensures .0) (c .before .before .bytes-of .ensures),
-      c .before .before .before .before .before .before .before .run-parts .ensures .1,
+    let small : (i : ℕ) → getD (c .before .before .before .before .before .before .before .before .before .before .before .before .before .before .before .before .before .before .before .before .before .before .before .before .args .agenda .now) i 0 < 256 = λ i. omega (arith, c .before .before .before .before .before .before .before .before .before .before .before .before .before .before .before .before .before .before .before .before .before .slice-known .given i) in (
+      runs-words _ _ _ _ _ _ _ _ (c .before .before .before .before .before .before .run-parts .last .1 .1 .1 .1 .0) _ _ _ _ (c .before .before .before .before .before .before .before .before .before .before .before .before .before .before .before .before .before .before .words-of .ensures) (c .before .before .before .before .before .before .before .before .before .before .before .before .before .before .before .words-of2 .ensures) (c .before .before .before .before .before .before .before .before .before .before .before .words-of3 .ensures) (c .before .before .before .before .before .before .run-parts .kept .1 .1 .1 .1 .0)
+          (c .before .before .before .before .before .before .before .before .before .before .before .before .before .before .before .before .before .before .before .before .before .before .before .before .pre .0 .of-agenda .even) small (omega (arith, c .before .before .before .before .before .before .before .before .before .before .before .before .before .before .before .before .before .before .before .before .before .before .before .before .pre .1 .1 .0)) (c .before .before .before .before .before .before .before .before .before .before .before .before .before .before .before .before .before .before .before .before .before .before .before .before .pre .1 .0) (c .before .before .before .before .before .before .run-parts .ensures .0) (c .before .before .write-back .ensures),
+      c .before .before .before .before .before .before .run-parts .ensures .1,
     )
 
 pub run-words-spec : {M : Type 1} → statement M
@@ -98,12 +93,8 @@ run-words-spec =
     array-borrow-prefix-agenda-words
     slice-aggregate-run-parts-3
     run-parts-requires
-    front-requires
     array-share-prefix-agenda-words
-    slice-aggregate-bytes-of
-    mul-bytes-of
-    slice-relend-prefix-bytes-of
-    slice-aggregate-bytes-of-2
-    bytes-of-requires
+    slice-aggregate-write-back
+    write-back-requires
     same-length
     returns)
