@@ -53,13 +53,13 @@ load-search-requires : tie.Need-load-search-requires
 load-search-requires c κs = made-ready _ _ _ _ _ _ _ (c .before .before .before .before .before .before .before .before .before .before .before .before .before .before .before .before .before .pre) (sized-found _ _ (c .before .before .before .before .before .before .before .before .before .before .before .refusal-of-numbers .ensures) (c .before .before .before .before .before .before .before .before .before .before .if1 .left)) (c .before .before .before .before .before .before .before .before .before .n .ensures) (c .before .before .before .before .before .before .before .before .d .ensures) refl (c .before .before .before .before .before .put-tables .ensures)
 
 same-length : tie.Need-same-length
-same-length c = search needs
+same-length c = c .before .before .before .before .before .before .load-search .kept .1 .1 .1 .0
 
 same-length-2 : tie.Need-same-length-2
-same-length-2 c = search needs
+same-length-2 c = c .before .before .before .before .before .before .load-search .kept .1 .1 .1 .1 .0
 
 same-length-3 : tie.Need-same-length-3
-same-length-3 c = search needs
+same-length-3 c = c .before .before .before .before .before .before .load-search .kept .1 .1 .1 .1 .1 .0
 
 returns-2 : tie.Need-returns-2
 returns-2 c = c .before .before .before .before .before .before .load-search .ensures

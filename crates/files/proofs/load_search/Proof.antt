@@ -29,10 +29,10 @@ put-search-requires : tie.Need-put-search-requires
 put-search-requires c κs = load-lent _ _ _ _ _ (c .before .before .before .before .before .before .before .refusal .ensures) (c .before .before .before .before .before .before .if1 .left) _ _ _ (c .before .before .before .before .before .n .ensures) (c .before .before .before .before .d .ensures) (c .before .before .before .state .ensures .subproblems) _ _ (c .before .before .before .before .before .before .before .before .before .before .before .before .before .before .pre)
 
 same-length : tie.Need-same-length
-same-length c = search needs
+same-length c = c .before .before .before .before .before .before .put-search .kept .1 .1 .1 .1 .1 .0
 
 same-length-2 : tie.Need-same-length-2
-same-length-2 c = search needs
+same-length-2 c = c .before .before .before .before .before .before .put-search .kept .1 .1 .1 .1 .1 .1 .0
 
 same-length-3 : tie.Need-same-length-3
 same-length-3 c = search needs

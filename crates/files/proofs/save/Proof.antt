@@ -43,7 +43,7 @@ put-blocks-requires : tie.Need-put-blocks-requires
 put-blocks-requires c κs = (c .before .before .before .put .kept .1 .1 .1 .1 .1 .1 .0 ∙ sym (c .before .before .before .before .before .room-for-content .ensures), (omega (arith, c .before .before .before .before .before .before .before .words .ensures .1), c .before .before .before .before .before .before .if2 .left))
 
 same-length : tie.Need-same-length
-same-length c = search needs
+same-length c = c .before .before .put-blocks .kept .1 .1 .0
 
 returns-3 : tie.Need-returns-3
 returns-3 c = save-written _ _ _ _ _ _ _ (λ i. omega (arith, c .before .before .before .before .before .before .before .before .before .before .before .before .before .before .shared-slice-known3 .given i)) _ _ (c .before .before .before .before .before .before .before .before .before .before .before .before .search-refusal .ensures) (c .before .before .before .before .before .before .before .before .before .before .before .if1 .left) (c .before .before .before .before .before .before .before .before .before .before .words .ensures .0) _ _ (c .before .before .before .before .before .before .before .before .before .if2 .left) refl refl _ (25553 - wordsOf (c .before .before .before .before .before .before .before .before .before .before .before .before .before .before .before .before .before .args .n) (c .before .before .before .before .before .before .before .before .before .before .before .before .before .before .before .before .before .args .d) (c .before .before .before .before .before .before .before .before .before .before .before .before .before .before .before .before .before .args .state .subproblems)) (c .before .before .before .before .before .before .put .ensures) (c .before .before .put-blocks .ensures)

@@ -147,7 +147,7 @@ loop-again c =
     (omega arith, (up, (rows-kept (a .n) (a .d) (pre .0) (a .tables .now) (pre .1 .0) _ _ _ _ up next (omega (arith, few)) ∙ pre .1 .1, next)))
 
 same-length : tie.Need-same-length Inv-loop μ-loop
-same-length c = search needs
+same-length c = c .before .loop .inv .1 .1 .0 ∙ sym (c .before .before .before .before .pre .1 .1)
 
 returns : tie.Need-returns Inv-loop μ-loop
 returns c =

@@ -22,7 +22,7 @@ put-words-requires : tie.Need-put-words-requires
 put-words-requires c κs = content-count _ _ (c .before .before .before .words-of .ensures) ∙ sym (c .before .before .before .before .before .before .pre .1)
 
 same-length : tie.Need-same-length
-same-length c = search needs
+same-length c = c .before .before .put-words .kept .1 .0
 
 returns : tie.Need-returns
 returns c = content-block _ _ _ (c .before .before .before .before .before .before .words-of .ensures) (c .before .before .put-words .ensures)

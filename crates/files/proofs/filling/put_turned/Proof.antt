@@ -25,7 +25,7 @@ put-sixteen-requires-2 : tie.Need-put-sixteen-requires-2
 put-sixteen-requires-2 c κs = (c .before .before .turned .ensures .long, c .before .before .before .before .before .before .before .before .before .pre .1 ∙ c .before .before .before .before .before .before .if1 .taken)
 
 same-length : tie.Need-same-length
-same-length c = search needs
+same-length c = c .before .before .put-sixteen2 .kept .1 .0
 
 returns : tie.Need-returns
 returns c = columns-whole _ _ _ _ (c .before .before .before .before .before .before .before .before .before .if1 .taken) (c .before .before .before .before .before .before .before .put-sixteen .ensures) (c .before .before .before .before .before .turned .ensures) (c .before .before .put-sixteen2 .ensures)
@@ -49,7 +49,7 @@ put-words-requires : tie.Need-put-words-requires
 put-words-requires c κs = simp length-take (omega (arith, c .before .before .turned3 .ensures .long))
 
 same-length-2 : tie.Need-same-length-2
-same-length-2 c = search needs
+same-length-2 c = c .before .before .put-words .kept .1 .0
 
 returns-2 : tie.Need-returns-2
 returns-2 c = columns-made _ _ _ (c .before .before .before .before .before .before .before .before .before .before .before .before .pre .0) (c .before .before .before .before .before .before .before .put-padded .ensures) (c .before .before .before .before .before .turned3 .ensures) _ _ (c .before .before .before .before .before .before .before .before .before .before .before .before .pre .1) (c .before .before .put-words .ensures)
