@@ -13,7 +13,7 @@ fn word(low: u8, high: u8) -> u16
     (low as u16) + 256 * (high as u16)
 }
 
-// The words that the bytes say, at the front of `words`. There is one at least: with no test before the first, what they cover is not filled with zeros too.
+// The words that the bytes say, at the front of `words`: one at least, so that no test stands before the first turn (see `none_empty`).
 pub(crate) fn words_of(bytes: &[u8], words: &mut [u16])
     requires { ⌜ (length (now bytes) % 2 ≡ 0) × ((0 < length (now bytes)) × (length (now bytes) ≤ 2 * length (now words))) ⌝ }
     ensures { λ r. ⌜ take (length (now (bytes .entry)) / 2) (now (words .exit)) ≡ wordsOf (now (bytes .entry)) ⌝ }
@@ -64,7 +64,7 @@ fn fits(bytes: usize, most: usize) -> bool
     bytes <= 2 * most
 }
 
-// Whether none of the three is 0, by one test.
+// Whether none of the three is 0. By one test of all: then the compiler makes words without zeroing first what they fill, which a test of each would keep it from.
 fn none_empty(domains: usize, tables: usize, agenda: usize) -> bool
     requires { ⌜ (domains ≤ 64) × ((tables ≤ 32768) × (agenda ≤ 34816)) ⌝ }
     ensures { λ r. ⌜ r ≡ ltb 0 (domains * tables * agenda) ⌝ }
