@@ -70,7 +70,7 @@ fn run_words(
     let mut domain_words = [0u16; 32];
     bytes::words_of(domains, &mut domain_words);
     let mut table_words = [0u16; 16384];
-    bytes::words_of(&tables[..], &mut table_words);
+    bytes::words_of(tables, &mut table_words);
     let mut agenda_words = [0u16; 17408];
     bytes::words_of(agenda, &mut agenda_words);
     let ran = parts::run_parts(
