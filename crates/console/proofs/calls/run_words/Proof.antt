@@ -1,45 +1,46 @@
 -- `console::calls::run_words` meets its contract.
 -- Assumes nothing.
+use mathlib.Core.Path.{refl}
 use Prim.Native.Nat.{ℕ, _<_}
 use native.Mathlib.Omega.{arith}
 use lib.ListN.{getD}
 use Rattle.console.proofs.Lending.{count-is, left-fits, left-count, left-bytes, runs-words}
-use borrow.Author.Needs.{needs}
+use Rattle.console.proofs.Rooms.{half-fits}
 use Rattle.console.proofs.calls.run_words.Statement.{statement}
 use Rattle.console.proofs.calls.run_words.Tie as tie
 
 slice-aggregate-words-of : tie.Need-slice-aggregate-words-of
-slice-aggregate-words-of c = search needs
+slice-aggregate-words-of c = refl
 
 words-of-requires : tie.Need-words-of-requires
 words-of-requires c κs = let fit = c .before .before .before .before .before .pre .0 .of-domains in (fit .even, (fit .some, fit .few))
 
 slice-aggregate-words-of-2 : tie.Need-slice-aggregate-words-of-2
-slice-aggregate-words-of-2 c = search needs
+slice-aggregate-words-of-2 c = refl
 
 words-of-requires-2 : tie.Need-words-of-requires-2
 words-of-requires-2 c κs = let fit = c .before .before .before .before .before .before .before .before .pre .0 .of-tables in (fit .even, (fit .some, fit .few))
 
 slice-aggregate-words-of-3 : tie.Need-slice-aggregate-words-of-3
-slice-aggregate-words-of-3 c = search needs
+slice-aggregate-words-of-3 c = refl
 
 words-of-requires-3 : tie.Need-words-of-requires-3
 words-of-requires-3 c κs = let fit = c .before .before .before .before .before .before .before .before .before .before .before .before .pre .0 .of-agenda in (fit .even, (fit .some, fit .few))
 
 array-share-prefix-domain-words : tie.Need-array-share-prefix-domain-words
-array-share-prefix-domain-words c = search needs
+array-share-prefix-domain-words c = half-fits _ _ _ (c .before .before .before .before .before .before .before .before .before .before .before .before .before .before .pre .0 .of-domains .few) (c .before .before .before .before .before .before .before .before .words-of .kept .1 .0)
 
 slice-aggregate-run-parts : tie.Need-slice-aggregate-run-parts
 slice-aggregate-run-parts c = count-is _ _ (c .before .before .before .before .before .before .before .before .before .words-of .ensures)
 
 array-share-prefix-table-words : tie.Need-array-share-prefix-table-words
-array-share-prefix-table-words c = search needs
+array-share-prefix-table-words c = half-fits _ _ _ (c .before .before .before .before .before .before .before .before .before .before .before .before .before .before .before .pre .0 .of-tables .few) (c .before .before .before .before .before .before .words-of2 .kept .1 .0)
 
 slice-aggregate-run-parts-2 : tie.Need-slice-aggregate-run-parts-2
 slice-aggregate-run-parts-2 c = count-is _ _ (c .before .before .before .before .before .before .before .words-of2 .ensures)
 
 array-borrow-prefix-agenda-words : tie.Need-array-borrow-prefix-agenda-words
-array-borrow-prefix-agenda-words c = search needs
+array-borrow-prefix-agenda-words c = half-fits _ _ _ (c .before .before .before .before .before .before .before .before .before .before .before .before .before .before .before .before .pre .0 .of-agenda .few) (c .before .before .before .words-of3 .kept .1 .0)
 
 slice-aggregate-run-parts-3 : tie.Need-slice-aggregate-run-parts-3
 slice-aggregate-run-parts-3 c = count-is _ _ (c .before .before .before .before .words-of3 .ensures)
@@ -66,7 +67,7 @@ write-back-requires c κs = (
 )
 
 same-length : tie.Need-same-length
-same-length c = search needs
+same-length c = c .before .before .write-back .kept .1 .1 .1 .1 .0
 
 returns : tie.Need-returns
 returns c =
