@@ -29,6 +29,15 @@ use Rattle.console.proofs.Words.{words-length}
 
 -- ---- what the tests say
 
+-- what the tests find
+pub odd-fits : (bytes most : ℕ) → (bytes % 2 ≡ 0 → ⊥) → false ≡ fits bytes most
+unfolding fits
+odd-fits bytes most odd = simp (ne-eqb (bytes % 2) 0 odd)
+
+pub even-fits : (bytes most : ℕ) → bytes % 2 ≡ 0 → leb bytes (2 * most) ≡ fits bytes most
+unfolding fits
+even-fits bytes most even = simp (eq-eqb (bytes % 2) 0 even)
+
 fits-true : (bytes most : ℕ) → 0 < bytes → fits bytes most ≡ true → Fits bytes most
 unfolding fits
 fits-true bytes most some e = record {
