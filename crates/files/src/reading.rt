@@ -166,9 +166,9 @@ pub(crate) fn refusal(
         return rules;
     }
     let n = said::n(file);
-    let lengths = search::first::sizes_refusal(n, said::d(file), domains, tables, agenda);
-    if lengths != 0 {
-        return lengths;
+    let sizes = search::first::sizes_refusal(n, said::d(file), domains, tables, agenda);
+    if sizes != 0 {
+        return sizes;
     }
     if agenda / (n + 2) < said::subproblems(file) {
         return 12;
