@@ -81,7 +81,7 @@ module _ (n d : ℕ) (t r : List ℕ) (fits : readable n d t r ≡ true) where
         rw (e, later) (none-left front (targetOf r (k - 1)) (length-changed (k - 1) (λ i m. targetOf r i) (P .domains) ∙ long) still (told x dom mask _ _ a p q z))
 
     -- IDC.
-    pub keeps-none-3 : (x dom mask : ℕ) → x ≡ minus dom mask → dom ≡ domain P (k - 1) → mask ≡ tableOf n d t (variableOf r) (k - 1) (valueOf r) → kindOf r ≡ 3
+    pub keeps-none-3 : (x dom mask : ℕ) → x ≡ minus dom mask → dom ≡ domain P (k - 1) → ((variableOf r ≡ k - 1 → ⊥) → mask ≡ tableOf n d t (variableOf r) (k - 1) (valueOf r)) → kindOf r ≡ 3
         → TellsEmpty n d t P r k (eqb x 0)
     unfolding candidate inferred disjunct cut cutBeside without
     keeps-none-3 x dom mask a p q e z =
@@ -97,5 +97,5 @@ module _ (n d : ℕ) (t r : List ℕ) (fits : readable n d t r ≡ true) where
               let front : Subproblem = cutBeside (tableOf n d t) (without P V′ (single v)) V′ v (k - 1) in
               let still : domain front (k - 1) ≡ domain P (k - 1) =
               changed-after (k - 1) f rest (k - 1) (le-refl (k - 1)) ∙ getD-set-other (P .domains) V′ (k - 1) (minus (domain P V′) (single v)) 0 s in
-              rw (e, later, ne-eqb (k - 1) V′ s) (none-left front (tableOf n d t V′ (k - 1) v) (length-changed (k - 1) f rest ∙ length-set (P .domains) V′ (minus (domain P V′) (single v)) ∙ long) still (told x dom mask _ _ a p q z))
+              rw (e, later, ne-eqb (k - 1) V′ s) (none-left front (tableOf n d t V′ (k - 1) v) (length-changed (k - 1) f rest ∙ length-set (P .domains) V′ (minus (domain P V′) (single v)) ∙ long) still (told x dom mask _ _ a p (q (λ w. s (sym w))) z))
         ]

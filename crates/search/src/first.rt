@@ -17,11 +17,14 @@ ghost use Rattle.search.specs.FirstChecks.{refusalOfNumbers, wholeSlots,
 ghost use Rattle.search.specs.Work.Matrices.{rowIn, matrixOf};
 ghost use Rattle.search.specs.Work.FirstTests.{Fitting, Mirrored, Narrow, SlotFits, Next, joined, domainBelow, spanBelow, rowBelow, rowBothWays, padded, oneWay, partWrong, wrongIn, pairAgrees, beforeAgrees, markObeys};
 
-// The mask of the values of `j` allowed beside value `a` of `i`.
+// The mask of the values of `j` allowed beside value `a` of `i`; all bits where `j` is `i`, whose place is not read.
 pub(crate) fn allowed(n: usize, d: usize, tables: &[u16], i: usize, j: usize, a: usize) -> u16
     requires { ⌜ Sized n d (now tables) × Place n d i j a ⌝ }
-    ensures { λ r. ⌜ r ≡ tableOf n d (now (tables .entry)) i j a ⌝ }
+    ensures { λ r. ⌜ ((i ≡ j → ⊥) → r ≡ tableOf n d (now (tables .entry)) i j a) ⌝ }
 {
+    if i == j {
+        return 65535;
+    }
     tables[(i * n + j) * d + a]
 }
 

@@ -7,36 +7,40 @@ use Rattle.splits.proofs.Ranges.{in-table}
 use Rattle.search.proofs.first.allowed.Statement.{statement}
 use Rattle.search.proofs.first.allowed.Tie as tie
 
+returns : tie.Need-returns
+returns c f = absurd (f (c .if1 .taken))
+
 mul-result : tie.Need-mul-result
-mul-result c = omega (arith, in-table _ _ _ _ _ _ (c .pre .0) (c .pre .1))
+mul-result c = omega (arith, in-table _ _ _ _ _ _ (c .before .pre .0) (c .before .pre .1))
 
 add-result : tie.Need-add-result
-add-result c = omega (arith, in-table _ _ _ _ _ _ (c .pre .0) (c .pre .1))
+add-result c = omega (arith, in-table _ _ _ _ _ _ (c .before .pre .0) (c .before .pre .1))
 
 mul-result-2 : tie.Need-mul-result-2
-mul-result-2 c = omega (arith, in-table _ _ _ _ _ _ (c .pre .0) (c .pre .1))
+mul-result-2 c = omega (arith, in-table _ _ _ _ _ _ (c .before .pre .0) (c .before .pre .1))
 
 add-result-2 : tie.Need-add-result-2
-add-result-2 c = omega (arith, in-table _ _ _ _ _ _ (c .pre .0) (c .pre .1), c .pre .1 .third, c .pre .0 .small)
+add-result-2 c = omega (arith, in-table _ _ _ _ _ _ (c .before .pre .0) (c .before .pre .1), c .before .pre .1 .third, c .before .pre .0 .small)
 
 mul-result-3 : tie.Need-mul-result-3
-mul-result-3 c = omega (arith, in-table _ _ _ _ _ _ (c .pre .0) (c .pre .1), c .pre .1 .third, c .pre .0 .small)
+mul-result-3 c = omega (arith, in-table _ _ _ _ _ _ (c .before .pre .0) (c .before .pre .1), c .before .pre .1 .third, c .before .pre .0 .small)
 
 shared-slice-read-result : tie.Need-shared-slice-read-result
-shared-slice-read-result c = in-table _ _ _ _ _ _ (c .before .pre .0) (c .before .pre .1) .word
+shared-slice-read-result c = in-table _ _ _ _ _ _ (c .before .before .pre .0) (c .before .before .pre .1) .word
 
-returns : tie.Need-returns
+returns-2 : tie.Need-returns-2
 unfolding tableOf
-returns c = refl
+returns-2 c f = refl
 
 pub allowed-spec : {M : Type 1} → statement M
 allowed-spec =
     tie.close
     (tie.spec
+    returns
     mul-result
     add-result
     mul-result-2
     add-result-2
     mul-result-3
     shared-slice-read-result
-    returns)
+    returns-2)
