@@ -6,10 +6,10 @@ use mathlib.Core.List.{List}
 use Prim.Native.Nat.{ℕ, zero, suc, _+_, _-_, _*_, _/_, _%_, _^_, _≤_, _<_}
 use native.Mathlib.Omega.{arith}
 use native.Mathlib.Decide.{ℕ-discrete, decLt}
-use native.Mathlib.Nat.{lt-of-lt-of-le}
+use native.Mathlib.Nat.{lt-of-lt-of-le, div-le-self}
 use lib.Pow.{pow-mono}
 use lib.Bits.{bitAnd, bitOr, and-le-r}
-use lib.Count.{trailingZeros, trailing-le}
+use lib.Count.{trailingZeros, trailing-le, trailing-of-zero}
 use lib.Dec.{eqb, ltb}
 use lib.ListN.{length, getD, take, replicate, length-take, List·getD-append}
 use lib.Seq.{getD-take}
@@ -18,7 +18,7 @@ use Rattle.splits.specs.Masks.{bit, minus, size, lowest}
 use Rattle.splits.specs.Problem.{Problem, Table, tableOf}
 use Rattle.splits.specs.Subproblems.{domain, every}
 use Rattle.splits.specs.declared.subproblem.Subproblem.{Subproblem}
-use Rattle.splits.proofs.Masks.{bit-le, bit-above, not-minus, size-of-none, size-single, single-of, lowest-member, trailing-least}
+use Rattle.splits.proofs.Masks.{bit-le, bit-above, not-minus, size-of-none, size-single, single-of, lowest-member, trailing-least, trailing-member}
 use Rattle.splits.proofs.Refusals.{lacks}
 use Rattle.splits.proofs.Subproblems.{shifted}
 use Rattle.splits.proofs.Tests.{and-left, and-right, every-at, every-all, same-test}
@@ -85,15 +85,11 @@ slot-domain n slot i h l =
     let long : length (take n slot) ≡ n = simp length-take (omega arith) in
     sym (List·getD-append (take n slot) (replicate (32 - n) 0) 0 i (omega arith) ∙ getD-take n slot i 0 l)
 
-pub in-marks : (n : ℕ) (slot : List ℕ) (marked i : ℕ) (b : Bool) → marked ≡ subproblemOf n slot .marked → b ≡ eqb (bit marked i) 1
-    → b ≡ eqb (bit (subproblemOf n slot .marked) i) 1
-in-marks n slot marked i b e h = h ∙ ap (λ (x : ℕ). eqb (bit x i) 1) e
-
 -- ---- from mark to mark
 
 -- the next of a set: as many places on as the rest of the set has zeros below its lowest
-pub next-found : (set from zeros : ℕ) → zeros ≡ trailingZeros 64 (set / 2 ^ from) → Next set from (from + zeros)
-next-found set from zeros e = record {
+pub next-found : (set from zeros : ℕ) → set < 2 ^ 32 → zeros ≡ trailingZeros 64 (set / 2 ^ from) → Next set from (from + zeros)
+next-found set from zeros fits e = record {
   up = omega arith;
   none = λ k h l. elim (ℕ-discrete (bit set k) 1) [
     | yes s ↦
@@ -101,6 +97,12 @@ next-found set from zeros e = record {
         let member : bit (set / 2 ^ from) (k - from) ≡ 1 = bit-shr set from (k - from) ∙ ap (bit set) at ∙ s in
         absurd (omega (arith, trailing-least 64 (set / 2 ^ from) (k - from) member))
     | no s ↦ omega (arith, bit-le set k)
+  ];
+  there = λ l. elim (ℕ-discrete (set / 2 ^ from) 0) [
+    | yes s ↦ absurd (omega (arith, e ∙ ap (trailingZeros 64) s ∙ trailing-of-zero 64))
+    | no s ↦
+        let small : set / 2 ^ from < 2 ^ 64 = omega (arith, fits, div-le-self set (2 ^ from)) in
+        sym (bit-shr set from zeros) ∙ rw e (trailing-member 64 (set / 2 ^ from) small s)
   ];
 }
 
@@ -126,19 +128,22 @@ unfolding markObeys beforeAgrees
 mark-none allowed P i b e y =
     simp (lacks (P .marked) i b e ∙ y, every-all (pairAgrees allowed P i) i (λ j h. sym (agrees-first allowed P i j b e y)))
 
-pub mark-more : (allowed : Table) (P : Subproblem) (i m : ℕ) (b s : Bool) → b ≡ eqb (bit (P .marked) i) 1 → not b ≡ false
+is-marked : (P : Subproblem) (marked i : ℕ) → marked ≡ P .marked → bit marked i ≡ 1 → eqb (bit (P .marked) i) 0 ≡ false
+is-marked P marked i e h = rw (← e) (ne-eqb (bit marked i) 0 (λ z. absurd (omega arith)))
+
+pub mark-more : (allowed : Table) (P : Subproblem) (marked i m : ℕ) (s : Bool) → marked ≡ P .marked → bit marked i ≡ 1
     → m ≡ domain P i → s ≡ eqb (size m) 1 → not s ≡ true → false ≡ markObeys allowed P i
 unfolding markObeys
-mark-more allowed P i m b s e y d h z =
+mark-more allowed P marked i m s e y d h z =
     let some : eqb (size (domain P i)) 1 ≡ false = rw d at (sym h ∙ not-true s z) in
-    simp (lacks (P .marked) i b e ∙ y, some)
+    simp (is-marked P marked i e y, some)
 
-pub mark-single : (allowed : Table) (P : Subproblem) (i m : ℕ) (b s r : Bool) → b ≡ eqb (bit (P .marked) i) 1 → not b ≡ false
+pub mark-single : (allowed : Table) (P : Subproblem) (marked i m : ℕ) (s r : Bool) → marked ≡ P .marked → bit marked i ≡ 1
     → m ≡ domain P i → s ≡ eqb (size m) 1 → not s ≡ false → r ≡ beforeAgrees allowed P i → r ≡ markObeys allowed P i
 unfolding markObeys
-mark-single allowed P i m b s r e y d h z q =
+mark-single allowed P marked i m s r e y d h z q =
     let one : eqb (size (domain P i)) 1 ≡ true = rw d at (sym h ∙ not-false s z) in
-    simp (lacks (P .marked) i b e ∙ y, one) q
+    simp (is-marked P marked i e y, one) q
 
 pub marks-next : (allowed : Table) (P : Subproblem) (marked i next : ℕ) → marked ≡ P .marked → every i (markObeys allowed P) ≡ true
     → Next marked i next → every next (markObeys allowed P) ≡ true

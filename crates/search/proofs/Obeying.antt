@@ -18,7 +18,7 @@ use Rattle.splits.specs.Work.Ranges.{Sized}
 use Rattle.splits.specs.declared.subproblem.Subproblem.{Subproblem}
 use Rattle.splits.proofs.Masks.{not-minus, bit-none}
 use Rattle.splits.proofs.Refusals.{lacks}
-use Rattle.search.specs.Work.FirstTests.{partObeys, pairAgrees}
+use Rattle.search.specs.Work.FirstTests.{partObeys, pairAllowed, pairAgrees}
 
 -- ---- one domain, m, beside the problem's
 
@@ -70,12 +70,18 @@ module _ (allowed : Table) (P : Subproblem) (i j : ℕ) where
   agrees-second b e y = simp (lacks (P .marked) j b e ∙ y, or-true)
 
   -- both are: their values decide
-  pub agrees-values : (b c r : Bool) (s t a v : ℕ) → (i ≡ j → ⊥) → b ≡ eqb (bit (P .marked) i) 1 → not b ≡ false
-      → c ≡ eqb (bit (P .marked) j) 1 → not c ≡ false → s ≡ domain P i → a ≡ lowest s → t ≡ domain P j → v ≡ lowest t
-      → r ≡ eqb (bit (allowed i j a) v) 1 → r ≡ pairAgrees allowed P i j
+  pub agrees-both : (r : Bool) (marked : ℕ) → marked ≡ P .marked → bit marked i ≡ 1 → bit marked j ≡ 1 → (i ≡ j → ⊥)
+      → r ≡ pairAllowed allowed P i j → r ≡ pairAgrees allowed P i j
   unfolding pairAgrees
-  agrees-values b c r s t a v f e y k z es ea et ev h =
-      simp (ne-eqb i j f, lacks (P .marked) i b e ∙ y, lacks (P .marked) j c k ∙ z) (rw (ea, es, ev, et) at h)
+  agrees-both r marked e h k f q =
+      let first : eqb (bit (P .marked) i) 0 ≡ false = rw (← e) (ne-eqb (bit marked i) 0 (λ z. absurd (omega arith))) in
+      let second : eqb (bit (P .marked) j) 0 ≡ false = rw (← e) (ne-eqb (bit marked j) 0 (λ z. absurd (omega arith))) in
+      simp (ne-eqb i j f, first, second) q
+
+-- their lowest values, of what is read
+pub allowed-read : (allowed : Table) (P : Subproblem) (i j : ℕ) (r : Bool) (s t a v : ℕ) → s ≡ domain P i → a ≡ lowest s → t ≡ domain P j → v ≡ lowest t
+    → r ≡ eqb (bit (allowed i j a) v) 1 → r ≡ pairAllowed allowed P i j
+allowed-read allowed P i j r s t a v es ea et ev h = rw (ea, es, ev, et) at h
 
 -- what is worked out on the way to a mask is small
 pub record Row (n d i j : ℕ) : Type 0 where

@@ -31,7 +31,7 @@ fn marked_of(high: u16, low: u16) -> u32
 }
 
 // The same of the two words from `at` on.
-fn marked_at(words: &[u16], at: usize) -> u32
+pub(crate) fn marked_at(words: &[u16], at: usize) -> u32
     requires { ⌜ at + 2 ≤ length (now words) ⌝ }
     ensures { λ r. ⌜ r ≡ getD (now (words .entry)) at 0 * 65536 + getD (now (words .entry)) (at + 1) 0 ⌝ }
 {

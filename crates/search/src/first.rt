@@ -1,4 +1,5 @@
 // The first checks: the refusals 1 to 6 that the words handed to a call deserve, before anything is changed.
+use crate::agenda;
 use crate::matrix;
 use crate::matrix::Matrix;
 use crate::state::State;
@@ -15,7 +16,7 @@ ghost use Rattle.splits.specs.Work.Ranges.{Sized, Place};
 ghost use Rattle.search.specs.Agenda.{problemOf, subproblemOf, stackOf};
 ghost use Rattle.search.specs.FirstChecks.{refusalOfNumbers, wholeSlots, refusalOfLengths, refusalOfRequests, refusalOfProblem, obeys, allObey, zerosFrom, refusalOfSearch, sizesRefusal, openRefusal, searchRefusal, runRefusal};
 ghost use Rattle.search.specs.Work.Matrices.{rowIn, matrixOf};
-ghost use Rattle.search.specs.Work.FirstTests.{Fitting, Mirrored, Narrow, SlotFits, Next, joined, domainBelow, spanBelow, rowBelow, rowBothWays, padded, oneWay, partWrong, wrongIn, pairAgrees, beforeAgrees, markObeys};
+ghost use Rattle.search.specs.Work.FirstTests.{Fitting, Mirrored, Narrow, SlotFits, Next, joined, domainBelow, spanBelow, rowBelow, rowBothWays, padded, oneWay, partWrong, wrongIn, pairAllowed, beforeAgrees, markObeys};
 
 // The mask of the values of `j` allowed beside value `a` of `i`; all bits where `j` is `i`, whose place is not read.
 pub(crate) fn allowed(n: usize, d: usize, tables: &[u16], i: usize, j: usize, a: usize) -> u16
@@ -356,14 +357,6 @@ fn is_single(mask: u16) -> bool
     (mask as u64) == (1 << mask::first(mask))
 }
 
-// Whether a variable is in a set of them.
-fn is_in(set: u32, variable: usize) -> bool
-    requires { ⌜ variable < 32 ⌝ }
-    ensures { λ r. ⌜ r ≡ eqb (bit set variable) 1 ⌝ }
-{
-    (set >> variable) % 2 == 1
-}
-
 // The first variable of a set from this one on; past all variables if there is none.
 fn next_in(set: u32, from: usize) -> usize
     requires { ⌜ from ≤ 32 ⌝ }
@@ -372,28 +365,11 @@ fn next_in(set: u32, from: usize) -> usize
     from + u64::trailing_zeros((set as u64) >> from) as usize
 }
 
-// Whether the values of two variables, if both are instantiated, are allowed.
-fn pair_agrees(
-    slot: &[u16],
-    marked: u32,
-    n: usize,
-    d: usize,
-    tables: &[u16],
-    i: usize,
-    j: usize,
-) -> bool
-    requires { ⌜ SlotFits n d (now tables) (now slot) marked × ((i < n) × (j < n)) ⌝ }
-    ensures { λ r. ⌜ r ≡ pairAgrees (tableOf n d (now (tables .entry))) (subproblemOf n (now (slot .entry))) i j ⌝ }
+// Whether the lowest values of two variables are allowed: those that they have where both are instantiated.
+fn pair_allowed(slot: &[u16], n: usize, d: usize, tables: &[u16], i: usize, j: usize) -> bool
+    requires { ⌜ Sized n d (now tables) × ((length (now slot) ≡ n + 2) × ((i < n) × (j < n))) ⌝ }
+    ensures { λ r. ⌜ r ≡ pairAllowed (tableOf n d (now (tables .entry))) (subproblemOf n (now (slot .entry))) i j ⌝ }
 {
-    if i == j {
-        return true;
-    }
-    if !is_in(marked, i) {
-        return true;
-    }
-    if !is_in(marked, j) {
-        return true;
-    }
     let at = (i * n + j) * d + mask::first(slot[i]);
     if at < tables.len() {
         return has(tables[at], mask::first(slot[j]));
@@ -401,14 +377,14 @@ fn pair_agrees(
     false
 }
 
-// The value of the variable `i` with every one's before it that is instantiated: so each two are looked at once.
+// The value of the instantiated variable `i` with every one's before it that is instantiated: so each two are looked at once.
 fn row_agrees(slot: &[u16], marked: u32, n: usize, d: usize, tables: &[u16], i: usize) -> bool
-    requires { ⌜ SlotFits n d (now tables) (now slot) marked × (i < n) ⌝ }
+    requires { ⌜ SlotFits n d (now tables) (now slot) marked × ((i < n) × (bit marked i ≡ 1)) ⌝ }
     ensures { λ r. ⌜ r ≡ beforeAgrees (tableOf n d (now (tables .entry))) (subproblemOf n (now (slot .entry))) i ⌝ }
 {
     let mut j = next_in(marked, 0);
     while j < i {
-        if !pair_agrees(slot, marked, n, d, tables, i, j) {
+        if !pair_allowed(slot, n, d, tables, i, j) {
             return false;
         }
         j = next_in(marked, j + 1);
@@ -416,14 +392,11 @@ fn row_agrees(slot: &[u16], marked: u32, n: usize, d: usize, tables: &[u16], i: 
     true
 }
 
-// Whether a variable, if it is instantiated, has one value, and one that agrees with those before it.
+// Whether an instantiated variable has one value, and one that agrees with those before it.
 fn mark_obeys(slot: &[u16], marked: u32, n: usize, d: usize, tables: &[u16], i: usize) -> bool
-    requires { ⌜ SlotFits n d (now tables) (now slot) marked × (i < n) ⌝ }
+    requires { ⌜ SlotFits n d (now tables) (now slot) marked × ((i < n) × (bit marked i ≡ 1)) ⌝ }
     ensures { λ r. ⌜ r ≡ markObeys (tableOf n d (now (tables .entry))) (subproblemOf n (now (slot .entry))) i ⌝ }
 {
-    if !is_in(marked, i) {
-        return true;
-    }
     if !is_single(slot[i]) {
         return false;
     }
@@ -445,19 +418,12 @@ fn marks_obey(slot: &[u16], marked: u32, n: usize, d: usize, tables: &[u16]) -> 
     true
 }
 
-// The marked set of two words, high first.
-fn marked_of(high: u16, low: u16) -> u32
-    ensures { λ r. ⌜ r ≡ high * 65536 + low ⌝ }
-{
-    (high as u32) * 65536 + (low as u32)
-}
-
 // Whether the subproblem in the words of a slot obeys the rules.
 fn obeys(slot: &[u16], n: usize, d: usize, domains: &[u16], tables: &[u16]) -> bool
     requires { ⌜ Mirrored n d (now domains) (now tables) × (length (now slot) ≡ n + 2) ⌝ }
     ensures { λ r. ⌜ r ≡ obeys (problemOf n d (now (domains .entry)) (now (tables .entry))) (subproblemOf n (now (slot .entry))) ⌝ }
 {
-    let marked = marked_of(slot[n], slot[n + 1]);
+    let marked = agenda::marked_at(slot, n);
     if (1 << n) <= (marked as u64) {
         return false;
     }

@@ -84,10 +84,11 @@ partWrong whole m = cond (eqb m 0) 1 (minus m whole)
 unfoldable pub wrongIn : List ℕ → List ℕ → ℕ → ℕ
 wrongIn domains slot i = partWrong (getD domains i 0) (getD slot i 0)
 
+abbrev pub pairAllowed : Table → Subproblem → ℕ → ℕ → Bool
+pairAllowed allowed P i j = eqb (bit (allowed i j (lowest (domain P i))) (lowest (domain P j))) 1
+
 unfoldable pub pairAgrees : Table → Subproblem → ℕ → ℕ → Bool
-pairAgrees allowed P i j =
-    eqb i j || eqb (bit (P .marked) i) 0 || eqb (bit (P .marked) j) 0
-    || eqb (bit (allowed i j (lowest (domain P i))) (lowest (domain P j))) 1
+pairAgrees allowed P i j = eqb i j || eqb (bit (P .marked) i) 0 || eqb (bit (P .marked) j) 0 || pairAllowed allowed P i j
 
 unfoldable pub beforeAgrees : Table → Subproblem → ℕ → Bool
 beforeAgrees allowed P i = every i (pairAgrees allowed P i)
@@ -95,10 +96,11 @@ beforeAgrees allowed P i = every i (pairAgrees allowed P i)
 unfoldable pub markObeys : Table → Subproblem → ℕ → Bool
 markObeys allowed P i = (eqb (bit (P .marked) i) 0 || eqb (size (domain P i)) 1) && beforeAgrees allowed P i
 
--- The first variable of a set from one on, or past all of them: none between is in the set.
+-- The first variable of a set from one on, or past all 32: none between is in the set.
 pub record Next (set from next : ℕ) : Type 0 where
   pub up : from ≤ next
   pub none : (k : ℕ) → from ≤ k → k < next → bit set k ≡ 0
+  pub there : next < 32 → bit set next ≡ 1
 
 -- The words of a slot and its marks.
 pub record SlotFits (n d : ℕ) (tables slot : List ℕ) (marked : ℕ) : Type 0 where

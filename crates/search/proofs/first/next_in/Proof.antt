@@ -19,7 +19,7 @@ add-result : tie.Need-add-result
 add-result c = omega (arith, trailing-le 64 (c .args .set / 2 ^ c .args .from))
 
 returns : tie.Need-returns
-returns c = next-found _ _ _ refl
+returns c = next-found _ _ _ (c .fits .set .fits) refl
 
 pub next-in-spec : {M : Type 1} → statement M
 next-in-spec = tie.close (tie.spec shr-result cast-result add-result returns)
