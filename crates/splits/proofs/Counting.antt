@@ -6,9 +6,9 @@ use Prim.Native.Nat.{ℕ, zero, suc, _+_, _*_, _≤_, _<_}
 use native.Mathlib.Omega.{arith}
 use native.Mathlib.Numerals.{add-one}
 use native.Mathlib.Nat.{add-zero, le-antisymm}
-use lib.ListN.{length, getD}
-use lib.Dec.{eqb}
-use borrow.Author.Tests.{eq-eqb, ne-eqb}
+use lib.ListN.{length}
+use lib.Dec.{eqb, ltb}
+use borrow.Author.Tests.{eq-eqb, ne-eqb, le-ltb}
 use Rattle.splits.specs.Masks.{bit, size, lowest}
 use Rattle.splits.specs.Problem.{Table, tableOf, total}
 use Rattle.splits.specs.Subproblems.{domain, some}
@@ -16,7 +16,7 @@ use Rattle.splits.specs.Splits.{below, keep, forbids, forbidden, instant
 use Rattle.splits.specs.Checks.{valuesIn, others, tried}
 use Rattle.splits.specs.Work.Loops.{LookedAt}
 use Rattle.splits.specs.declared.subproblem.Subproblem.{Subproblem}
-use Rattle.splits.proofs.Masks.{bit-le}
+use Rattle.splits.proofs.Masks.{bit-le, bit-none}
 use Rattle.splits.proofs.Tests.{some-more, some-at}
 use Rattle.splits.proofs.Looking.{counted-more, counted-same, looked-all, looked-stop}
 
@@ -38,9 +38,17 @@ not-one (suc (suc b)) h = absurd (omega arith)
 
 -- what the code reads of an instantiated variable says whether it forbids v
 pub forbids-is : (n d : ℕ) (t : List ℕ) (P : Subproblem) (V′ v i m a w : ℕ) (q : Bool) → m ≡ domain P i → a ≡ lowest m
-    → w ≡ getD t ((i * n + V′) * d + a) 0 → q ≡ eqb (bit w v) 1 → not q ≡ forbids (tableOf n d t) P V′ v i
-unfolding forbids tableOf
+    → w ≡ tableOf n d t i V′ a → q ≡ eqb (bit w v) 1 → not q ≡ forbids (tableOf n d t) P V′ v i
+unfolding forbids
 forbids-is n d t P V′ v i m a w q e h s k = rw (k, s, h, e) (not-one _ (bit-le _ v))
+
+-- one that has none of the d values does
+pub forbids-none : (n d : ℕ) (t : List ℕ) (P : Subproblem) (V′ v i m a : ℕ) → m ≡ domain P i → a ≡ lowest m → d ≤ a
+    → true ≡ forbids (tableOf n d t) P V′ v i
+unfolding forbids tableOf
+forbids-none n d t P V′ v i m a e h l =
+    let past : ltb (lowest (domain P i)) d ≡ false = le-ltb (lowest (domain P i)) d (rw (h, e) at l) in
+    rw (past, bit-none v) refl
 
 module _ (n : ℕ) (allowed : Table) (P : Subproblem) (V′ v : ℕ) where
   -- what the loop knows before it looks at i

@@ -1,11 +1,13 @@
 -- The promises of specs/Promises.antt, proved.
 -- Assumes nothing.
 use mathlib.Core.Path.{_≡_, refl, ap, _∙_}
+use mathlib.Core.Bool.{cond}
 use mathlib.Core.List.{[], _∷_, List·Memᴰ·not-nil, List·Memᴰ·eq-of-singleton}
 use Prim.Native.Nat.{ℕ, _<_}
 use native.Mathlib.Omega.{arith}
 use native.Mathlib.Nat.{le-refl}
 use lib.Count.{ones, onesIn}
+use lib.Dec.{eqb}
 use Rattle.splits.specs.Masks.{bit, _∈_, minus, size, lowest}
 use Rattle.splits.specs.Problem.{possibilities, product, total}
 use Rattle.splits.specs.Subproblems.{domain, empty, some}
@@ -21,7 +23,7 @@ use Rattle.splits.proofs.Weights.{weigh, bySize}
 use Rattle.splits.proofs.OneByOne.{all-one-by-one}
 use Rattle.splits.proofs.CheckLimit.{at-most-496 as limit}
 use Rattle.splits.proofs.Placed.{held, placed, placed-filled, placed-peel}
-use Rattle.splits.proofs.Shortcuts.{both-zero, pair-domains, two-idc, two-extraction, three-idc, pair-proper, pair-rules, two-solvable}
+use Rattle.splits.proofs.Shortcuts.{both-zero, in-both, pair-domains, two-idc, two-extraction, three-idc, pair-proper, pair-rules, two-solvable}
 use Rattle.splits.proofs.Refusals.{is-7, is-8, is-9, is-10, is-none, same-refusal, same-pieces, same-checks, one}
 
 pub sound : Sound
@@ -63,7 +65,14 @@ skipping-loses = (two-idc, two-solvable, refl, λ h. let (Q, m, q) = h two-solva
 pub weak-overlaps : Weak-overlaps
 unfolding weak filled weakDisjunct keep below precluded without cutBeside changed instantiate empty some minus bit ones onesIn
     sum measure unmarked possibilities product total
-weak-overlaps = (three-idc, λ h. omega (arith, h .0), λ h. omega arith)
+weak-overlaps = (
+  three-idc,
+  λ h.
+      let same : _≡_ {A = ℕ} 0 1 = h (λ i. cond (eqb i 0) 1 0) 0 1 (omega arith) (omega arith) (in-both _ refl) (in-both _ refl) in
+      absurd (omega arith),
+  λ h. omega (arith, h .0),
+  λ h. omega arith,
+)
 
 pub one-value-lies : One-value-lies
 one-value-lies = (pair-proper, pair-rules, λ i k. ap size (pair-domains i k) ∙ size-single 0, both-zero 2 1 (1 ∷ 1 ∷ []) pair-top (le-refl 2) refl refl)

@@ -2,6 +2,7 @@
 -- Assumes nothing.
 use mathlib.Core.Path.{_≡_, refl, sym, ap, _∙_}
 use mathlib.Core.Logic.{inl, inr}
+use mathlib.Core.Bool.{cond}
 use mathlib.Core.List.{List, [], _∷_}
 use Prim.Native.Nat.{ℕ, zero, suc, _-_, _/_, _^_, _≤_, _<_}
 use native.Mathlib.Omega.{arith}
@@ -9,6 +10,7 @@ use native.Mathlib.Nat.{le-refl}
 use lib.Pow.{pow-pos, ones-lt}
 use native.Mathlib.Decide.{ℕ-discrete}
 use lib.ListN.{getD}
+use lib.Dec.{eqb}
 use Rattle.splits.specs.Masks.{bit, _∈_, Part, single, minus}
 use Rattle.splits.specs.Problem.{Problem, Proper, Consistent}
 use Rattle.splits.specs.Subproblems.{domain, Instantiated, Rules}
@@ -53,6 +55,14 @@ unequal-proper n d domains (a, b) (e, f) h = record {
 -- The values 0, 1, 2 .. are consistent.
 pub rising : (n d : ℕ) (domains : List ℕ) → n ≤ d → Consistent n (unequal n d domains .allowed) (λ i. i)
 rising n d domains h i j k l q = bit-unequal d i j (omega arith) (λ e. q (sym e))
+
+-- The possibility 1, 0, 0 of the two weak pieces that overlap.
+pub in-both : (masks : List ℕ) → masks ≡ 6 ∷ 1 ∷ 1 ∷ [] → (i : ℕ) → i < 3 → cond (eqb i 0) 1 0 ∈ getD masks i 0
+unfolding bit
+in-both masks e zero h = rw e refl
+in-both masks e (suc zero) h = rw e refl
+in-both masks e (suc (suc zero)) h = rw e refl
+in-both masks e (suc (suc (suc i))) h = absurd (omega arith)
 
 -- Two variables that both have 0 alone are not.
 pub both-zero : (n d : ℕ) (domains : List ℕ) (Q : Subproblem) → 2 ≤ n → domain Q 0 ≡ 1 → domain Q 1 ≡ 1 → Solvable (unequal n d domains) Q → ⊥

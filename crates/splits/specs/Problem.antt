@@ -1,17 +1,20 @@
 -- The problem: n variables, d values, a domain for each variable, and what each two variables allow.
 use mathlib.Core.Path.{_≡_}
+use mathlib.Core.Bool.{cond}
 use mathlib.Core.List.{List}
 use Prim.Native.Nat.{ℕ, zero, suc, _+_, _*_, _^_, _≤_, _<_}
 use lib.ListN.{getD}
+use lib.Dec.{ltb}
 use Rattle.splits.specs.Masks.{bit, _∈_, size}
 
 -- What is allowed: `allowed i j a` is the mask of the values of j allowed beside value a of i.
 abbrev pub Table : Type 0
 Table = ℕ → ℕ → ℕ → ℕ
 
--- The table that n × n × d words hold: the mask for i, j and a is word (i × n + j) × d + a.
+-- The table that n × n × d words hold: the mask for i, j and a is word (i × n + j) × d + a; beside what is none of the d values nothing is
+-- allowed.
 unfoldable pub tableOf : ℕ → ℕ → List ℕ → Table
-tableOf n d words i j a = getD words ((i * n + j) * d + a) 0
+tableOf n d words i j a = cond (ltb a d) (getD words ((i * n + j) * d + a) 0) 0
 
 pub record Problem : Type 0 where
   pub n : ℕ

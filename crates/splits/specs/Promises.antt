@@ -135,12 +135,13 @@ Skipping-loses =
     let r : List ℕ = 3 ∷ 1 ∷ 0 ∷ [] in
     Splits two two-top r × Solvable two two-top × (skipping two two-top r ≡ []) × (Cover-at two two-top 3 (skipping two two-top r) → ⊥)
 
--- The weak IDC pieces overlap: those of `three`, split around V 0, v 0, have more possibilities than P, and the measure does not fall.
+-- The weak IDC pieces overlap: a possibility of `three`, split around V 0, v 0, lies in two of them; they have more than P, and the measure does
+-- not fall.
 abbrev pub Weak-overlaps : Type 0
 Weak-overlaps =
     let r : List ℕ = 3 ∷ 0 ∷ 0 ∷ [] in
     let l : List Subproblem = weak three three-top r in
-    Splits three three-top r × (Sizes-at three three-top 3 l → ⊥) × (Falls-at three three-top 3 l → ⊥)
+    Splits three three-top r × (Apart-at three three-top 3 l → ⊥) × (Sizes-at three three-top 3 l → ⊥) × (Falls-at three three-top 3 l → ⊥)
 
 -- Taking a variable with one value as instantiated calls `pair` solved, which has no solution.
 abbrev pub One-value-lies : Type 0

@@ -28,7 +28,7 @@ fn is_looked_at(top: Subproblem, variable: usize, i: usize) -> bool
     top.is_instantiated(i)
 }
 
-// Whether the value of the instantiated variable `i` forbids `value` of `variable`.
+// Whether the value of the instantiated variable `i` forbids `value` of `variable`; one that is none of the d values does.
 fn does_forbid(
     top: Subproblem,
     n: usize,
@@ -42,8 +42,10 @@ fn does_forbid(
     ensures { λ r. ⌜ r ≡ forbids (tableOf n d (now (tables .entry))) top variable value i ⌝ }
 {
     let a = mask::first(top.domain(i));
-    let allowed = words::word(tables, (i * n + variable) * d + a);
-    if mask::has(allowed, value) {
+    if d <= a {
+        return true;
+    }
+    if mask::has(tables::allowed(n, d, tables, i, variable, a), value) {
         return false;
     }
     true
@@ -99,16 +101,16 @@ pub fn checks(top: Subproblem, n: usize, d: usize, tables: &[u16], request: &[u1
 {
     if tables::readable(n, d, tables, request) {
         let kind = words::kind(request);
-        let variable = words::variable(request);
         if kind == 1 {
+            let variable = words::variable(request);
             let looked = look(top, n, d, tables, variable, words::value(request));
             return looked.count;
         }
         if kind == 2 {
-            return values_in_others(top, n, variable);
+            return values_in_others(top, n, words::variable(request));
         }
         if kind == 3 {
-            return values_in_others(top, n, variable);
+            return values_in_others(top, n, words::variable(request));
         }
     }
     0

@@ -38,7 +38,7 @@ pub(crate) fn has(mask: u16, value: usize) -> bool
     }
 }
 
-// The smallest values of a mask, one more than half of them where their number is odd.
+// The smaller half of the values of a mask: of an odd number the larger part.
 pub fn smaller_half(mask: u16) -> u16
     ensures { λ r. ⌜ Smaller-half mask r ⌝ }
 {

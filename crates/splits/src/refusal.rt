@@ -5,6 +5,7 @@ use crate::words;
 ghost use mathlib.Core.Path.{_≡_};
 ghost use Prim.Native.Nat.{ℕ, _≤_};
 ghost use mathlib.Core.Bool.{cond, _||_};
+ghost use Rattle.splits.specs.Requests.{kindOf, variableOf, valueOf};
 ghost use Rattle.splits.specs.Refusals.{bad, someBad, allSame};
 ghost use Rattle.splits.specs.Work.Loops.{refusalOfVariable};
 ghost use Rattle.splits.specs.Calls.{Refusal-of};
@@ -63,14 +64,7 @@ pub fn refusal(top: Subproblem, n: usize, d: usize, request: &[u16]) -> u32
     if kind == 5 {
         return refusal_of_targets(top, n, request);
     }
-    refusal_of_variable(
-        top,
-        n,
-        d,
-        kind,
-        words::variable(request),
-        words::value(request),
-    )
+    refusal_of_variable(top, n, d, request)
 }
 
 // 10 or none.
@@ -87,16 +81,10 @@ fn refusal_of_targets(top: Subproblem, n: usize, request: &[u16]) -> u32
 }
 
 // 8, 9 or none, of kinds 1 to 4.
-fn refusal_of_variable(
-    top: Subproblem,
-    n: usize,
-    d: usize,
-    kind: usize,
-    variable: usize,
-    value: usize,
-) -> u32
-    ensures { λ r. ⌜ r ≡ refusalOfVariable n d top kind variable value ⌝ }
+fn refusal_of_variable(top: Subproblem, n: usize, d: usize, request: &[u16]) -> u32
+    ensures { λ r. ⌜ r ≡ refusalOfVariable n d top (kindOf (now (request .entry))) (variableOf (now (request .entry))) (valueOf (now (request .entry))) ⌝ }
 {
+    let variable = words::variable(request);
     if n <= variable {
         return 8;
     }
@@ -104,12 +92,13 @@ fn refusal_of_variable(
         return 8;
     }
     let domain = top.domain(variable);
-    if kind == 4 {
+    if words::kind(request) == 4 {
         if mask::count(domain) == 1 {
             return 9;
         }
         return 0;
     }
+    let value = words::value(request);
     if d <= value {
         return 9;
     }

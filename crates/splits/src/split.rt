@@ -102,7 +102,7 @@ fn extraction(top: Subproblem, n: usize, request: &[u16], k: usize) -> Subproble
         .without(j, words::target(request, j))
 }
 
-// How many pieces the kind of a request can name; 0 for more than 32 variables.
+// How many candidates for a piece the kind of a request has, of which those that are not empty are its pieces; 0 for more than 32 variables.
 pub fn candidates(n: usize, request: &[u16]) -> usize
     ensures { λ r. ⌜ Candidates n (now (request .entry)) r ⌝ }
 {
@@ -142,13 +142,20 @@ pub fn piece(
     if candidates(n, request) <= k {
         return top;
     }
-    let variable = words::variable(request);
-    let value = words::value(request);
     match words::kind(request) {
-        1 => backtracking(top, n, d, tables, variable, value, k),
-        2 => forward_checking(top, n, d, tables, variable, value, k),
-        3 => idc(top, n, d, tables, variable, value, k),
-        4 => halving(top, variable, k),
+        1 => {
+            let variable = words::variable(request);
+            backtracking(top, n, d, tables, variable, words::value(request), k)
+        }
+        2 => {
+            let variable = words::variable(request);
+            forward_checking(top, n, d, tables, variable, words::value(request), k)
+        }
+        3 => {
+            let variable = words::variable(request);
+            idc(top, n, d, tables, variable, words::value(request), k)
+        }
+        4 => halving(top, words::variable(request), k),
         5 => extraction(top, n, request, k),
         _ => top,
     }

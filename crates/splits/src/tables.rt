@@ -45,15 +45,15 @@ pub(crate) fn readable(n: usize, d: usize, tables: &[u16], request: &[u16]) -> b
     ensures { λ r. ⌜ r ≡ readable n d (now (tables .entry)) (now (request .entry)) ⌝ }
 {
     let kind = words::kind(request);
-    let variable = words::variable(request);
     if kind == 0 {
         return n <= 32;
     }
     if kind < 4 {
+        let variable = words::variable(request);
         return within(n, d, tables, variable, words::value(request));
     }
     if kind == 4 {
-        if n <= variable {
+        if n <= words::variable(request) {
             return false;
         }
     }

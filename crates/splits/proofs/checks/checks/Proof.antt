@@ -19,25 +19,31 @@ value-requires : tie.Need-value-requires
 value-requires c κs = search needs
 
 look-requires : tie.Need-look-requires
-look-requires c κs = inside-1 _ _ _ (c .before .before .before .before .before .before .before .before .args .top) _ (sym (c .before .before .before .before .before .readable .ensures) ∙ c .before .before .before .before .if1 .taken) _ (c .before .before .before .kind .ensures) _ _ (c .before .before .variable .ensures) (c .value .ensures) (c .before .if2 .taken)
+look-requires c κs = inside-1 _ _ _ (c .before .before .before .before .before .before .before .before .args .top) _ (sym (c .before .before .before .before .before .readable .ensures) ∙ c .before .before .before .before .if1 .taken) _ (c .before .before .before .kind .ensures) _ _ (c .before .variable .ensures) (c .value .ensures) (c .before .before .if2 .taken)
 
 returns : tie.Need-returns
-returns c = checks-1 _ _ _ _ _ (sym (c .before .before .before .before .before .before .readable .ensures) ∙ c .before .before .before .before .before .if1 .taken) _ (c .before .before .before .before .kind .ensures) _ _ (c .before .before .before .variable .ensures) (c .before .value .ensures) _ (c .before .before .if2 .taken) (c .look .ensures .counted)
+returns c = checks-1 _ _ _ _ _ (sym (c .before .before .before .before .before .before .readable .ensures) ∙ c .before .before .before .before .before .if1 .taken) _ (c .before .before .before .before .kind .ensures) _ _ (c .before .before .variable .ensures) (c .before .value .ensures) _ (c .before .before .before .if2 .taken) (c .look .ensures .counted)
+
+variable-requires-2 : tie.Need-variable-requires-2
+variable-requires-2 c κs = search needs
 
 values-in-others-requires : tie.Need-values-in-others-requires
 values-in-others-requires c κs = few _ _ _ _ (sym (c .before .before .before .before .before .readable .ensures) ∙ c .before .before .before .before .if1 .taken)
 
 returns-2 : tie.Need-returns-2
-returns-2 c = checks-2 _ _ _ _ _ (sym (c .before .before .before .before .before .before .readable .ensures) ∙ c .before .before .before .before .before .if1 .taken) _ (c .before .before .before .before .kind .ensures) _ _ (c .before .before .before .variable .ensures) (c .before .if3 .taken) (c .values-in-others .ensures)
+returns-2 c = checks-2 _ _ _ _ _ (sym (c .before .before .before .before .before .before .readable .ensures) ∙ c .before .before .before .before .before .if1 .taken) _ (c .before .before .before .before .kind .ensures) _ _ (c .before .variable2 .ensures) (c .before .before .if3 .taken) (c .values-in-others .ensures)
+
+variable-requires-3 : tie.Need-variable-requires-3
+variable-requires-3 c κs = search needs
 
 values-in-others-requires-2 : tie.Need-values-in-others-requires-2
 values-in-others-requires-2 c κs = few _ _ _ _ (sym (c .before .before .before .before .before .before .readable .ensures) ∙ c .before .before .before .before .before .if1 .taken)
 
 returns-3 : tie.Need-returns-3
-returns-3 c = checks-3 _ _ _ _ _ (sym (c .before .before .before .before .before .before .before .readable .ensures) ∙ c .before .before .before .before .before .before .if1 .taken) _ (c .before .before .before .before .before .kind .ensures) _ _ (c .before .before .before .before .variable .ensures) (c .before .if4 .taken) (c .values-in-others2 .ensures)
+returns-3 c = checks-3 _ _ _ _ _ (sym (c .before .before .before .before .before .before .before .readable .ensures) ∙ c .before .before .before .before .before .before .if1 .taken) _ (c .before .before .before .before .before .kind .ensures) _ _ (c .before .variable3 .ensures) (c .before .before .if4 .taken) (c .values-in-others2 .ensures)
 
 returns-4 : tie.Need-returns-4
-returns-4 c = checks-none _ _ _ _ _ (sym (c .before .before .before .before .before .before .readable .ensures) ∙ c .before .before .before .before .before .if1 .taken) _ (c .before .before .before .before .kind .ensures) (c .before .before .if2 .left) (c .before .if3 .left) (c .if4 .left)
+returns-4 c = checks-none _ _ _ _ _ (sym (c .before .before .before .before .before .readable .ensures) ∙ c .before .before .before .before .if1 .taken) _ (c .before .before .before .kind .ensures) (c .before .before .if2 .left) (c .before .if3 .left) (c .if4 .left)
 
 returns-5 : tie.Need-returns-5
 returns-5 c = simp (sym (c .before .readable .ensures) ∙ c .if1 .left)
@@ -52,8 +58,10 @@ checks-spec =
     value-requires
     look-requires
     returns
+    variable-requires-2
     values-in-others-requires
     returns-2
+    variable-requires-3
     values-in-others-requires-2
     returns-3
     returns-4

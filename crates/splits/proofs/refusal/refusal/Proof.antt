@@ -1,6 +1,6 @@
 -- `refusal::refusal` meets its contract, kind by kind.
 -- Assumes nothing.
-use mathlib.Core.Path.{sym, _∙_}
+use mathlib.Core.Path.{refl, sym, _∙_}
 use mathlib.Core.Bool.{or-true}
 use native.Mathlib.Omega.{arith}
 use borrow.Author.Tests.{lt-ltb}
@@ -27,20 +27,13 @@ refusal-of-targets-requires c κs = search needs
 returns-3 : tie.Need-returns-3
 returns-3 c = c .refusal-of-targets .ensures ∙ of-targets _ _ _ _ _ (c .before .before .before .before .kind .ensures) (c .before .if3 .taken)
 
-variable-requires : tie.Need-variable-requires
-variable-requires c κs = search needs
-
-value-requires : tie.Need-value-requires
-value-requires c κs = search needs
-
 refusal-of-variable-requires : tie.Need-refusal-of-variable-requires
 refusal-of-variable-requires c κs = search needs
 
 returns-4 : tie.Need-returns-4
 returns-4 c =
-    c .refusal-of-variable .ensures
-    ∙ of-variable _ _ _ _ _ _ _ (c .before .before .before .before .before .before .kind .ensures) (c .before .before .variable .ensures)
-    (λ f. c .before .value .ensures) (c .before .before .before .before .before .if1 .left) (omega arith)
+    let kind = c .before .before .before .before .kind .ensures in
+    c .refusal-of-variable .ensures ∙ of-variable _ _ _ _ _ _ _ refl refl (λ f. refl) (omega (arith, kind)) (omega (arith, kind))
 
 pub refusal-spec : {M : Type 1} → statement M
 refusal-spec =
@@ -51,7 +44,5 @@ refusal-spec =
     returns-2
     refusal-of-targets-requires
     returns-3
-    variable-requires
-    value-requires
     refusal-of-variable-requires
     returns-4)

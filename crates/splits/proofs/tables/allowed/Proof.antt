@@ -4,6 +4,7 @@ use Rattle.splits.proofs.Ranges.{in-table}
 use Rattle.splits.specs.Problem.{tableOf}
 use mathlib.Core.Path.{refl}
 use native.Mathlib.Omega.{arith}
+use borrow.Author.Tests.{lt-ltb}
 use Rattle.splits.proofs.tables.allowed.Statement.{statement}
 use Rattle.splits.proofs.tables.allowed.Tie as tie
 
@@ -27,7 +28,7 @@ shared-slice-read-result c = in-table _ _ _ _ _ _ (c .before .pre .0) (c .before
 
 returns : tie.Need-returns
 unfolding tableOf
-returns c = refl
+returns c = rw (lt-ltb _ _ (c .before .pre .1 .third)) refl
 
 pub allowed-spec : {M : Type 1} → statement M
 allowed-spec =
