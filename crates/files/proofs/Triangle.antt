@@ -12,6 +12,7 @@ use lib.Dec.{eqb}
 use borrow.Author.Tests.{eq-eqb, ne-eqb}
 use Rattle.splits.specs.Problem.{Table, tableOf, total}
 use Rattle.splits.specs.Splits.{below}
+use Rattle.splits.proofs.Ranges.{word-at}
 use Rattle.files.specs.Content.{each, after, triangle}
 use Rattle.files.specs.Reading.{triangleWords, trianglePlace, tableWords}
 use Rattle.files.proofs.Lists.{total-const, total-same, total-below, map-length, map-at, after-is, each-map, each-same, each-length, each-at, seq, seq-is, seq-each}
@@ -123,16 +124,16 @@ module _ (n d : ℕ) (allowed : Table) where
 
 -- In the words of the tables the masks of i with the variables after it stand together.
 pub row-words : (n d : ℕ) (t : List ℕ) (i : ℕ) → row n d (tableOf n d t) i ≡ seq (λ k. getD t k 0) ((i * n + i + 1) * d) (rest n i * d)
-unfolding row tableOf
+unfolding row
 row-words n d t i =
     let g : ℕ → ℕ = λ k. getD t k 0 in
     let from : ℕ = (i * n + i + 1) * d in
-    let masks : ℕ → ℕ → ℕ = λ k v. getD t ((i * n + (suc i + k)) * d + v) 0 in
+    let masks : ℕ → ℕ → ℕ = λ k. tableOf n d t i (suc i + k) in
     each-same (λ k. map (masks k) (below d)) (λ k. seq g (from + total k (λ j. d)) d) (rest n i)
     (λ k l. sym (seq-is g (from + total k (λ j. d)) d (map (masks k) (below d)) (map-length (masks k) d)
     (λ v m.
     let place : from + total k (λ j. d) + v ≡ (i * n + (suc i + k)) * d + v = omega (arith, total-const k d) in
-    ap g place ∙ sym (map-at (masks k) d v 0 m))))
+    ap g place ∙ sym (word-at n d t i (suc i + k) v m) ∙ sym (map-at (masks k) d v 0 m))))
     ∙ seq-each g from (λ j. d) (rest n i) ∙ ap (seq g from) (total-const (rest n i) d)
 
 -- A place lies within the tables.
@@ -171,11 +172,11 @@ module _ (n d : ℕ) (allowed : Table) where
 
   -- Each mask stands in its place.
   pub table-at : (i j a : ℕ) → i < n → j < n → a < d → tableOf n d (tableWords n d allowed) i j a ≡ cond (eqb i j) 0 (allowed i j a)
-  unfolding tableOf tableWords masks mask
+  unfolding tableWords masks mask
   table-at i j a h l m =
       let outer : (i * n + j) * d + a ≡ total i (λ k. n * d) + (total j (λ k. d) + a) =
       rw (total-const i (n * d), total-const j d, ← mul-assoc i n d) (ap (λ (x : ℕ). x + a) (add-mul (i * n) j d) ∙ add-assoc (i * n * d) (j * d) a) in
-      ap (λ (x : ℕ). getD (each masks (below n)) x 0) outer
+      word-at n d (tableWords n d allowed) i j a m ∙ ap (λ (x : ℕ). getD (each masks (below n)) x 0) outer
       ∙ each-at masks (λ k. n * d) n (λ i l. masks-length i) i (total j (λ k. d) + a) h (rw (total-const j d) (digits-lt l m))
       ∙ each-at (λ j. map (mask i j) (below d)) (λ k. d) n (λ j l. map-length (mask i j) d) j a l m
       ∙ map-at (mask i j) d a 0 m

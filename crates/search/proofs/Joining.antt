@@ -20,6 +20,7 @@ use Rattle.splits.specs.Masks.{bit}
 use Rattle.splits.specs.Problem.{Table, tableOf}
 use Rattle.splits.specs.Subproblems.{every}
 use Rattle.splits.specs.Work.Ranges.{Sized}
+use Rattle.splits.proofs.Ranges.{word-at}
 use Rattle.splits.proofs.Masks.{bit-or, bit-above, bit-lt, bit-none, bit-ext}
 use Rattle.splits.proofs.Tests.{and-left, and-right, or-cases, every-at, every-all, same-test}
 use Rattle.search.specs.FirstChecks.{zerosFrom}
@@ -147,7 +148,7 @@ in-span n d i from to t s h k l =
 pub span-found : (n d i from to : ℕ) (t : List ℕ) (b : ℕ) (r : Bool) → Span n d i from to (length t) → from ≤ to
     → b ≡ joined (length (take ((i * n + to) * d - (i * n + from) * d) (drop ((i * n + from) * d) t))) (rowIn (take ((i * n + to) * d - (i * n + from) * d) (drop ((i * n + from) * d) t)))
     → r ≡ ltb b (2 ^ d) → r ≡ spanBelow d (tableOf n d t) i from (to - from)
-unfolding spanBelow maskBelow rowIn tableOf
+unfolding spanBelow maskBelow rowIn
 span-found n d i from to t b r s h e q =
     let start : ℕ = (i * n + from) * d in
     let count : ℕ = to - from in
@@ -159,9 +160,9 @@ span-found n d i from to t b r s h e q =
     ∙ every-same (λ x. ltb (getD part x 0) (2 ^ d)) (λ x. ltb (getD t (start + x) 0) (2 ^ d)) (count * d)
     (λ x l. ap (λ (y : ℕ). ltb y (2 ^ d)) (getD-take ((i * n + to) * d - start) (drop start t) x 0 (omega arith) ∙ getD-drop start t x 0))
     ∙ every-blocks count d (λ x. ltb (getD t (start + x) 0) (2 ^ d))
-    ∙ every-same (λ k. every d (λ a. ltb (getD t (start + (k * d + a)) 0) (2 ^ d))) (λ k. every d (λ a. ltb (getD t ((i * n + (from + k)) * d + a) 0) (2 ^ d))) count
-    (λ k l. every-same (λ a. ltb (getD t (start + (k * d + a)) 0) (2 ^ d)) (λ a. ltb (getD t ((i * n + (from + k)) * d + a) 0) (2 ^ d)) d
-    (λ a m. ap (λ (y : ℕ). ltb (getD t y 0) (2 ^ d)) (place k a)))
+    ∙ every-same (λ k. every d (λ a. ltb (getD t (start + (k * d + a)) 0) (2 ^ d))) (λ k. every d (λ a. ltb (tableOf n d t i (from + k) a) (2 ^ d))) count
+    (λ k l. every-same (λ a. ltb (getD t (start + (k * d + a)) 0) (2 ^ d)) (λ a. ltb (tableOf n d t i (from + k) a) (2 ^ d)) d
+    (λ a m. ap (λ (y : ℕ). ltb y (2 ^ d)) (ap (λ (y : ℕ). getD t y 0) (place k a) ∙ sym (word-at n d t i (from + k) a m))))
   where
     apart : (i * n + to) * d - (i * n + from) * d ≡ (to - from) * d
     apart =

@@ -64,19 +64,6 @@ wrong-front n k domains slot r e s h =
     ap (λ (m : ℕ). partWrong m (getD (take k slot) i 0)) (getD-take k domains i 0 (omega arith))
     ∙ ap (partWrong (getD domains i 0)) (getD-take k slot i 0 (omega arith)))
 
--- ---- a mask of one value
-
-pub single-none : (m : ℕ) → m ≡ 0 → false ≡ eqb (size m) 1
-single-none m e = sym (ne-eqb (size m) 1 (λ h. absurd (omega (arith, size-of-none, rw e at h))))
-
-pub single-found : (m v : ℕ) → v ≡ lowest m → m < 2 ^ 16 → (m ≡ 0 → ⊥) → eqb m (1 * 2 ^ v % 2 ^ 64) ≡ eqb (size m) 1
-single-found m v e h f =
-    let few : v ≤ 32 = omega (arith, trailing-le 16 m) in
-    rw (shifted v few)
-    (same-test (eqb m (2 ^ v)) (eqb (size m) 1)
-    (λ s. eq-eqb (size m) 1 (ap size (eqb-true m (2 ^ v) s) ∙ size-single v))
-    (λ s. eq-eqb m (2 ^ v) (single-of m v (eqb-true (size m) 1 s) (rw e (lowest-member m h f)))))
-
 -- ---- the words of a slot
 
 pub slot-domain : (n : ℕ) (slot : List ℕ) (i : ℕ) → n ≤ length slot → i < n → getD slot i 0 ≡ domain (subproblemOf n slot) i
@@ -131,18 +118,18 @@ mark-none allowed P i b e y =
 is-marked : (P : Subproblem) (marked i : ℕ) → marked ≡ P .marked → bit marked i ≡ 1 → eqb (bit (P .marked) i) 0 ≡ false
 is-marked P marked i e h = rw (← e) (ne-eqb (bit marked i) 0 (λ z. absurd (omega arith)))
 
-pub mark-more : (allowed : Table) (P : Subproblem) (marked i m : ℕ) (s : Bool) → marked ≡ P .marked → bit marked i ≡ 1
-    → m ≡ domain P i → s ≡ eqb (size m) 1 → not s ≡ true → false ≡ markObeys allowed P i
+pub mark-more : (allowed : Table) (P : Subproblem) (marked i m s : ℕ) → marked ≡ P .marked → bit marked i ≡ 1
+    → m ≡ domain P i → s ≡ size m → (s ≡ 1 → ⊥) → false ≡ markObeys allowed P i
 unfolding markObeys
 mark-more allowed P marked i m s e y d h z =
-    let some : eqb (size (domain P i)) 1 ≡ false = rw d at (sym h ∙ not-true s z) in
+    let some : eqb (size (domain P i)) 1 ≡ false = rw (h, d) at (ne-eqb s 1 z) in
     simp (is-marked P marked i e y, some)
 
-pub mark-single : (allowed : Table) (P : Subproblem) (marked i m : ℕ) (s r : Bool) → marked ≡ P .marked → bit marked i ≡ 1
-    → m ≡ domain P i → s ≡ eqb (size m) 1 → not s ≡ false → r ≡ beforeAgrees allowed P i → r ≡ markObeys allowed P i
+pub mark-single : (allowed : Table) (P : Subproblem) (marked i m s : ℕ) (r : Bool) → marked ≡ P .marked → bit marked i ≡ 1
+    → m ≡ domain P i → s ≡ size m → s ≡ 1 → r ≡ beforeAgrees allowed P i → r ≡ markObeys allowed P i
 unfolding markObeys
 mark-single allowed P marked i m s r e y d h z q =
-    let one : eqb (size (domain P i)) 1 ≡ true = rw d at (sym h ∙ not-false s z) in
+    let one : eqb (size (domain P i)) 1 ≡ true = rw (h, d) at (eq-eqb s 1 z) in
     simp (is-marked P marked i e y, one) q
 
 pub marks-next : (allowed : Table) (P : Subproblem) (marked i next : ℕ) → marked ≡ P .marked → every i (markObeys allowed P) ≡ true

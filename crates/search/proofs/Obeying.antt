@@ -1,4 +1,4 @@
--- What the code finds of one domain of a subproblem, and of the values of two instantiated variables, is what the tests say.
+-- What the code finds of the values of two variables is what the tests say.
 -- Assumes nothing.
 use mathlib.Core.Path.{_≡_, sym, ap, _∙_}
 use mathlib.Core.Bool.{Bool, true, false, not, and-false, or-true}
@@ -8,7 +8,6 @@ use native.Mathlib.Omega.{arith}
 use native.Mathlib.Nat.{mul-le-mul}
 use lib.Arith.{digits-lt}
 use lib.Bits.{bitAnd}
-use lib.ListN.{length, List·getD-eq-default}
 use lib.Dec.{eqb}
 use borrow.Author.Tests.{eq-eqb, ne-eqb}
 use Rattle.splits.specs.Masks.{bit, minus, size, lowest}
@@ -17,43 +16,9 @@ use Rattle.splits.specs.Subproblems.{domain}
 use Rattle.splits.specs.Work.Ranges.{Sized}
 use Rattle.splits.specs.declared.subproblem.Subproblem.{Subproblem}
 use Rattle.splits.proofs.Masks.{not-minus, bit-none}
+use Rattle.splits.proofs.Ranges.{word-none}
 use Rattle.splits.proofs.Refusals.{lacks}
-use Rattle.search.specs.Work.FirstTests.{partObeys, pairAllowed, pairAgrees}
-
--- ---- one domain, m, beside the problem's
-
-module _ (whole : ℕ) (P : Subproblem) (i m : ℕ) (same : m ≡ domain P i) where
-  -- it is empty
-  pub part-empty : m ≡ 0 → false ≡ partObeys whole P i
-  unfolding partObeys
-  part-empty e = rw (← same, e)
-
-  -- it has a value that the problem's has not
-  pub part-over : m < 2 ^ 16 → whole < 2 ^ 16 → (bitAnd m (65535 - whole) ≡ 0 → ⊥) → false ≡ partObeys whole P i
-  unfolding partObeys
-  part-over h k f =
-      let over : eqb (minus m whole) 0 ≡ false = ne-eqb (minus m whole) 0 (λ z. f (not-minus 16 m whole h k ∙ z)) in
-      rw (← same) (simp (over, and-false))
-
-  -- it is a part; whether the variable is instantiated, and then its size, decides
-  pub part-marked : (b r : Bool) (s : ℕ) → m < 2 ^ 16 → whole < 2 ^ 16 → (m ≡ 0 → ⊥) → bitAnd m (65535 - whole) ≡ 0
-      → b ≡ eqb (bit (P .marked) i) 1 → b ≡ true → s ≡ size m → r ≡ eqb s 1 → r ≡ partObeys whole P i
-  unfolding partObeys
-  part-marked b r s h k f g e y z q =
-      let within : eqb (minus m whole) 0 ≡ true = eq-eqb (minus m whole) 0 (sym (not-minus 16 m whole h k) ∙ g) in
-      let marked : eqb (bit (P .marked) i) 0 ≡ false = lacks (P .marked) i b e ∙ ap not y in
-      rw (← same) (simp (ne-eqb m 0 f, within, marked) (q ∙ ap (λ (x : ℕ). eqb x 1) z))
-
-  -- the same, where it is not instantiated
-  pub part-unmarked : (b : Bool) → m < 2 ^ 16 → whole < 2 ^ 16 → (m ≡ 0 → ⊥) → bitAnd m (65535 - whole) ≡ 0
-      → b ≡ eqb (bit (P .marked) i) 1 → b ≡ false → true ≡ partObeys whole P i
-  unfolding partObeys
-  part-unmarked b h k f g e y =
-      let within : eqb (minus m whole) 0 ≡ true = eq-eqb (minus m whole) 0 (sym (not-minus 16 m whole h k) ∙ g) in
-      let marked : eqb (bit (P .marked) i) 0 ≡ true = lacks (P .marked) i b e ∙ ap not y in
-      rw (← same) (simp (ne-eqb m 0 f, within, marked))
-
--- ---- the values of two variables
+use Rattle.search.specs.Work.FirstTests.{pairAllowed, pairAgrees}
 
 module _ (allowed : Table) (P : Subproblem) (i j : ℕ) where
   pub agrees-same : i ≡ j → true ≡ pairAgrees allowed P i j
@@ -98,7 +63,6 @@ in-row n d i j t s h k =
     let most : (i * n + j) * d ≤ 1024 * 16 = mul-le-mul le (s .small) in
     record { row = omega arith; pair = le; masks = most }
 
--- past the tables' end nothing is allowed
-pub allowed-out : (n d : ℕ) (t : List ℕ) (i j a v : ℕ) → length t ≤ (i * n + j) * d + a → false ≡ eqb (bit (tableOf n d t i j a) v) 1
-unfolding tableOf
-allowed-out n d t i j a v h = rw (List·getD-eq-default t 0 h, bit-none v)
+-- beside what is none of the d values nothing is allowed
+pub allowed-out : (n d : ℕ) (t : List ℕ) (i j a v : ℕ) → d ≤ a → false ≡ eqb (bit (tableOf n d t i j a) v) 1
+allowed-out n d t i j a v h = rw (word-none n d t i j a h, bit-none v)

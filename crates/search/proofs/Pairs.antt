@@ -19,6 +19,7 @@ use Rattle.splits.specs.Problem.{Table, tableOf}
 use Rattle.splits.specs.Subproblems.{every}
 use Rattle.splits.specs.Work.Ranges.{Sized}
 use Rattle.splits.proofs.Masks.{bit-none, bit-above}
+use Rattle.splits.proofs.Ranges.{word-at}
 use Rattle.splits.proofs.Tests.{or-cases, every-at, every-all, same-test}
 use Rattle.search.specs.declared.matrix.Matrix.{Matrix}
 use Rattle.search.specs.Work.Matrices.{Words, rowIn, four, matrixOf, columns, difference}
@@ -151,9 +152,9 @@ module _ (n d i j : ℕ) (t : List ℕ) (fit : Sized n d t) (h : i < n) (k : j <
       omega (arith, mul-le-mul-right d pair, fit .words)
 
   masks-at : (v : ℕ) → v < d → getD (take ((i * n + j) * d + d - (i * n + j) * d) (drop ((i * n + j) * d) t)) v 0 ≡ tableOf n d t i j v
-  unfolding tableOf
   masks-at v l =
       getD-take ((i * n + j) * d + d - (i * n + j) * d) (drop ((i * n + j) * d) t) v 0 (omega arith) ∙ getD-drop ((i * n + j) * d) t v 0
+      ∙ sym (word-at n d t i j v l)
 
   -- 16 masks, as they stand
   pub matrix-whole : (m : Matrix) → d ≡ 16 → m ≡ matrixOf (rowIn (take ((i * n + j) * d + d - (i * n + j) * d) (drop ((i * n + j) * d) t)))
@@ -178,11 +179,11 @@ module _ (n d i j : ℕ) (t : List ℕ) (fit : Sized n d t) (h : i < n) (k : j <
 
 -- of 16 values no word of the tables has a bit too many
 pub words-below : (n d : ℕ) (t : List ℕ) → d ≡ 16 → Words (rowIn t) → every n (rowBelow n d (tableOf n d t)) ≡ true
-unfolding rowBelow pairBelow maskBelow tableOf rowIn
+unfolding rowBelow pairBelow maskBelow rowIn
 words-below n d t e w =
     let most : 2 ^ d ≡ 65536 = ap (λ (x : ℕ). 2 ^ x) e in
     every-all (rowBelow n d (tableOf n d t)) n (λ i h. every-all (pairBelow d (tableOf n d t) i) n (λ j k.
-    rw (every-all (maskBelow d (tableOf n d t) i j) d (λ a l. lt-ltb (tableOf n d t i j a) (2 ^ d) (rw most (w .small ((i * n + j) * d + a))))) (or-true (eqb i j))))
+    rw (every-all (maskBelow d (tableOf n d t) i j) d (λ a l. lt-ltb (tableOf n d t i j a) (2 ^ d) (rw (most, word-at n d t i j a l) (w .small ((i * n + j) * d + a))))) (or-true (eqb i j))))
 
 pub whole-narrow : (n d : ℕ) (t : List ℕ) → d ≡ 16 → Narrow n d t → Narrow n 16 t
 whole-narrow n d t e h = subst (λ (x : ℕ). Narrow n x t) e h

@@ -241,7 +241,7 @@ fn whole_one_way(n: usize, tables: &[u16], i: usize, j: usize) -> u64
     )
 }
 
-// Whether no value of `i` is with one of a variable before it: so each two variables are looked at once.
+// Whether no value of `i` is allowed one way only with one of a variable before it: so each two variables are looked at once.
 fn part_both_ways(n: usize, d: usize, tables: &[u16], i: usize) -> bool
     requires { ⌜ Narrow n d (now tables) × (i < n) ⌝ }
     ensures { λ r. ⌜ r ≡ rowBothWays d (tableOf n d (now (tables .entry))) i ⌝ }
@@ -347,16 +347,6 @@ fn wrong_with(n: usize, domains: &[u16], slot: &[u16]) -> u16
     wrong_in(domains, slot)
 }
 
-// Whether a mask has one value: it is that of its lowest alone.
-fn is_single(mask: u16) -> bool
-    ensures { λ r. ⌜ r ≡ eqb (size mask) 1 ⌝ }
-{
-    if mask == 0 {
-        return false;
-    }
-    (mask as u64) == (1 << mask::first(mask))
-}
-
 // The first variable of a set from this one on; past all variables if there is none.
 fn next_in(set: u32, from: usize) -> usize
     requires { ⌜ from ≤ 32 ⌝ }
@@ -367,17 +357,17 @@ fn next_in(set: u32, from: usize) -> usize
 
 // Whether the lowest values of two variables are allowed: those that they have where both are instantiated.
 fn pair_allowed(slot: &[u16], n: usize, d: usize, tables: &[u16], i: usize, j: usize) -> bool
-    requires { ⌜ Sized n d (now tables) × ((length (now slot) ≡ n + 2) × ((i < n) × (j < n))) ⌝ }
+    requires { ⌜ Sized n d (now tables) × ((length (now slot) ≡ n + 2) × ((i < n) × (j < i))) ⌝ }
     ensures { λ r. ⌜ r ≡ pairAllowed (tableOf n d (now (tables .entry))) (subproblemOf n (now (slot .entry))) i j ⌝ }
 {
-    let at = (i * n + j) * d + mask::first(slot[i]);
-    if at < tables.len() {
-        return has(tables[at], mask::first(slot[j]));
+    let a = mask::first(slot[i]);
+    if d <= a {
+        return false;
     }
-    false
+    has(allowed(n, d, tables, i, j, a), mask::first(slot[j]))
 }
 
-// The value of the instantiated variable `i` with every one's before it that is instantiated: so each two are looked at once.
+// Whether the value of the instantiated variable `i` agrees with every one's before it that is instantiated: so each two are looked at once.
 fn row_agrees(slot: &[u16], marked: u32, n: usize, d: usize, tables: &[u16], i: usize) -> bool
     requires { ⌜ SlotFits n d (now tables) (now slot) marked × ((i < n) × (bit marked i ≡ 1)) ⌝ }
     ensures { λ r. ⌜ r ≡ beforeAgrees (tableOf n d (now (tables .entry))) (subproblemOf n (now (slot .entry))) i ⌝ }
@@ -397,7 +387,7 @@ fn mark_obeys(slot: &[u16], marked: u32, n: usize, d: usize, tables: &[u16], i: 
     requires { ⌜ SlotFits n d (now tables) (now slot) marked × ((i < n) × (bit marked i ≡ 1)) ⌝ }
     ensures { λ r. ⌜ r ≡ markObeys (tableOf n d (now (tables .entry))) (subproblemOf n (now (slot .entry))) i ⌝ }
 {
-    if !is_single(slot[i]) {
+    if mask::count(slot[i]) != 1 {
         return false;
     }
     row_agrees(slot, marked, n, d, tables, i)

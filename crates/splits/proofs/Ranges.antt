@@ -6,11 +6,12 @@ use mathlib.Core.List.{List}
 use Prim.Native.Nat.{ℕ, zero, suc, _+_, _-_, _*_, _≤_, _<_}
 use native.Mathlib.Omega.{arith}
 use native.Mathlib.Nat.{mul-le-mul, mul-assoc}
-use lib.ListN.{length}
+use lib.ListN.{length, getD}
 use lib.Arith.{digits-lt}
 use lib.Dec.{leb, ltb, eqb}
-use borrow.Author.Tests.{leb-true, ltb-true, eqb-true, le-leb, lt-ltb, eq-eqb}
+use borrow.Author.Tests.{leb-true, ltb-true, eqb-true, le-leb, lt-ltb, le-ltb, eq-eqb}
 use Rattle.splits.proofs.Tests.{and-left, and-right}
+use Rattle.splits.specs.Problem.{tableOf}
 use Rattle.splits.specs.Calls.{sized, inside}
 use Rattle.splits.specs.Work.Ranges.{Sized, Inside, Place}
 
@@ -55,3 +56,12 @@ in-table n d i j a t s p =
     let le : i * n + j ≤ 1024 = omega arith in
     let pr : (i * n + j) * d ≤ 1024 * 16 = mul-le-mul le (s .small) in
     record { row = omega arith; row-lt = at; most = sq; pair = pr; word = subst (λ (x : ℕ). (i * n + j) * d + a < x) (sym (s .words)) wd }
+
+-- The mask of a value is the word at its place, and of what is none of the d values there is none.
+pub word-at : (n d : ℕ) (t : List ℕ) (i j a : ℕ) → a < d → tableOf n d t i j a ≡ getD t ((i * n + j) * d + a) 0
+unfolding tableOf
+word-at n d t i j a h = rw (lt-ltb a d h) refl
+
+pub word-none : (n d : ℕ) (t : List ℕ) (i j a : ℕ) → d ≤ a → tableOf n d t i j a ≡ 0
+unfolding tableOf
+word-none n d t i j a h = rw (le-ltb a d h) refl

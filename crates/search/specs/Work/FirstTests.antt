@@ -71,13 +71,8 @@ padded d row a = cond (ltb a d) (row a) 0
 unfoldable pub oneWay : ℕ → Table → ℕ → ℕ → ℕ
 oneWay d allowed i j = difference (columns (matrixOf (padded d (allowed i j)))) (matrixOf (padded d (allowed j i)))
 
--- 6, one domain of a subproblem beside the problem's, as it is loaded.
-unfoldable pub partObeys : ℕ → Subproblem → ℕ → Bool
-partObeys whole P i =
-    not (eqb (domain P i) 0) && eqb (minus (domain P i) whole) 0 && (eqb (bit (P .marked) i) 0 || eqb (size (domain P i)) 1)
-
--- 6: what is wrong with a domain beside the problem's, and with each of a slot's; the values of two instantiated variables, of one
--- with every other, of one with those before it, and what an instantiated variable must be.
+-- 6: what is wrong with a domain beside the problem's, and with each of a slot's; the values of two variables, if both are instantiated, of one
+-- with those before it, and what an instantiated variable must be.
 unfoldable pub partWrong : ℕ → ℕ → ℕ
 partWrong whole m = cond (eqb m 0) 1 (minus m whole)
 

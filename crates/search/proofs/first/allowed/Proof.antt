@@ -1,9 +1,8 @@
 -- `first::allowed` meets its contract: the place is inside the tables.
 -- Assumes nothing.
-use mathlib.Core.Path.{refl}
+use mathlib.Core.Path.{sym}
 use native.Mathlib.Omega.{arith}
-use Rattle.splits.specs.Problem.{tableOf}
-use Rattle.splits.proofs.Ranges.{in-table}
+use Rattle.splits.proofs.Ranges.{in-table, word-at}
 use Rattle.search.proofs.first.allowed.Statement.{statement}
 use Rattle.search.proofs.first.allowed.Tie as tie
 
@@ -29,8 +28,7 @@ shared-slice-read-result : tie.Need-shared-slice-read-result
 shared-slice-read-result c = in-table _ _ _ _ _ _ (c .before .before .pre .0) (c .before .before .pre .1) .word
 
 returns-2 : tie.Need-returns-2
-unfolding tableOf
-returns-2 c f = refl
+returns-2 c f = sym (word-at _ _ _ _ _ _ (c .before .before .pre .1 .third))
 
 pub allowed-spec : {M : Type 1} → statement M
 allowed-spec =

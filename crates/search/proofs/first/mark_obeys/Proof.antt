@@ -6,31 +6,31 @@ use borrow.Author.Needs.{needs}
 use Rattle.search.proofs.first.mark_obeys.Statement.{statement}
 use Rattle.search.proofs.first.mark_obeys.Tie as tie
 
-mul-is-single : tie.Need-mul-is-single
-mul-is-single c = search needs
+mul-count : tie.Need-mul-count
+mul-count c = search needs
 
-shared-slice-read-is-single : tie.Need-shared-slice-read-is-single
-shared-slice-read-is-single c = search needs
+shared-slice-read-count : tie.Need-shared-slice-read-count
+shared-slice-read-count c = search needs
 
-is-single-requires : tie.Need-is-single-requires
-is-single-requires c κs = search needs
+count-requires : tie.Need-count-requires
+count-requires c κs = search needs
 
 returns : tie.Need-returns
-returns c = let p = c .before .before .before .before .before .pre in mark-more _ _ _ _ _ _ (p .0 .marks) (p .1 .1) (slot-domain _ _ _ (omega (arith, p .0 .words)) (p .1 .0)) (c .before .is-single .ensures) (c .if1 .taken)
+returns c = let p = c .before .before .before .before .before .pre in mark-more _ _ _ _ _ _ (p .0 .marks) (p .1 .1) (slot-domain _ _ _ (omega (arith, p .0 .words)) (p .1 .0)) (c .before .count .ensures) (c .if1 .taken)
 
 row-agrees-requires : tie.Need-row-agrees-requires
 row-agrees-requires c κs = c .before .before .before .before .before .pre
 
 returns-2 : tie.Need-returns-2
-returns-2 c = let p = c .before .before .before .before .before .before .pre in mark-single _ _ _ _ _ _ _ (p .0 .marks) (p .1 .1) (slot-domain _ _ _ (omega (arith, p .0 .words)) (p .1 .0)) (c .before .before .is-single .ensures) (c .before .if1 .left) (c .row-agrees .ensures)
+returns-2 c = let p = c .before .before .before .before .before .before .pre in mark-single _ _ _ _ _ _ _ (p .0 .marks) (p .1 .1) (slot-domain _ _ _ (omega (arith, p .0 .words)) (p .1 .0)) (c .before .before .count .ensures) (c .before .if1 .left) (c .row-agrees .ensures)
 
 pub mark-obeys-spec : {M : Type 1} → statement M
 mark-obeys-spec =
     tie.close
     (tie.spec
-    mul-is-single
-    shared-slice-read-is-single
-    is-single-requires
+    mul-count
+    shared-slice-read-count
+    count-requires
     returns
     row-agrees-requires
     returns-2)

@@ -29,7 +29,7 @@ loop-holds : tie.Need-loop-holds Inv-loop μ-loop
 loop-holds c = (row-next _ _ _ _ _ _ (c .before .before .before .pre .0 .marks) (every-start _) (c .next-in .ensures), c .next-in .ensures .there)
 
 pair-allowed-requires : tie.Need-pair-allowed-requires Inv-loop μ-loop
-pair-allowed-requires c κs = let p = c .before .before .before .before .before .pre in (p .0 .sized, (p .0 .words, (p .1 .0, omega arith)))
+pair-allowed-requires c κs = let p = c .before .before .before .before .before .pre in (p .0 .sized, (p .0 .words, (p .1 .0, c .loop-test .taken)))
 
 returns : tie.Need-returns Inv-loop μ-loop
 unfolding beforeAgrees

@@ -1,10 +1,8 @@
 -- `splits::tables::allowed` meets its contract.
 -- Assumes nothing.
-use Rattle.splits.proofs.Ranges.{in-table}
-use Rattle.splits.specs.Problem.{tableOf}
-use mathlib.Core.Path.{refl}
+use Rattle.splits.proofs.Ranges.{in-table, word-at}
+use mathlib.Core.Path.{sym}
 use native.Mathlib.Omega.{arith}
-use borrow.Author.Tests.{lt-ltb}
 use Rattle.splits.proofs.tables.allowed.Statement.{statement}
 use Rattle.splits.proofs.tables.allowed.Tie as tie
 
@@ -27,8 +25,7 @@ shared-slice-read-result : tie.Need-shared-slice-read-result
 shared-slice-read-result c = in-table _ _ _ _ _ _ (c .before .pre .0) (c .before .pre .1) .word
 
 returns : tie.Need-returns
-unfolding tableOf
-returns c = rw (lt-ltb _ _ (c .before .pre .1 .third)) refl
+returns c = sym (word-at _ _ _ _ _ _ (c .before .pre .1 .third))
 
 pub allowed-spec : {M : Type 1} → statement M
 allowed-spec =
