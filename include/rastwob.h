@@ -7,8 +7,8 @@
  * In memory, by 16-bit words, each low byte first (a uint16_t of x86-64, so that C lends its own arrays):
  *   domains   n words: bit v of word i is set if window v is in the list of path i
  *   tables    n * n * d words: word (i * n + j) * d + a has the windows of path j that are allowed beside window a of
- *             path i; b beside a exactly if a beside b. All d bits set: no constraint. The places for a path with
- *             itself are never read
+ *             path i; b beside a exactly if a beside b. All d bits set: no constraint. Nothing depends on what stands
+ *             at the places for a path with itself
  *   agenda    1 to 512 slots of n + 2 words, slot 0 the bottom of the stack. A slot is a subproblem: n masks, then the
  *             set of instantiated paths as two words, high word first, bit i for path i. Unused slots hold zeros. 512
  *             slots are at most 34,816 bytes: lend them unless memory is short
@@ -19,13 +19,15 @@
  *
  * What the caller owes, in every call: no pointer is NULL, not even one whose length is 0; behind each stand as many
  * bytes as its length says, or one number, aligned as its type; and no two of them, buffers or numbers, overlap.
- * Buffers may stand at any address. Lengths are in BYTES. A wrong length or wrong content is refused, never undefined.
+ * Buffers may stand at any address. Lengths are in BYTES. A length or content that the rules do not allow is refused,
+ * never undefined.
  * Calls may be made from several threads at once, each on memory of its own.
  *
  * Stack: a call keeps its words in local arrays, so it takes up to 200 KB of stack whatever n and d are (on x86-64; no
  * proof covers it), and crashes where there is less. Call from a thread with 256 KB: ./test tries all with just that.
  *
- * A search is the agenda and three numbers: steps, checks, subproblems. Hand on all four as the last call left them. */
+ * A search is the agenda and three numbers: steps, checks, subproblems. Hand on all four as the last call left them, with
+ * n, d, domains and tables unaltered since opening or load: no call can see that they are another problem's. */
 #ifndef RASTWOB_H
 #define RASTWOB_H
 
@@ -73,7 +75,8 @@ extern "C" {
 #define RASTWOB_RUNNING 1u    /* neither solved nor unsolvable */
 #define RASTWOB_SOLVED 2u     /* the top subproblem, slot subproblems - 1, has every path instantiated: its n masks have
                                  one bit each and are the plan; it stays */
-#define RASTWOB_UNSOLVABLE 3u /* the agenda is empty; of a search begun by opening, there is no plan */
+#define RASTWOB_UNSOLVABLE 3u /* the agenda is empty; of a search begun by opening, its problem unaltered since, there is no
+                                 plan */
 
 /* Refusals: the result of each call, 0 for none. The order in which a call looks for them stands with the call. */
 #define RASTWOB_ACCEPTED 0u

@@ -2,8 +2,9 @@
 
 docs/RULES.md has a number in brackets before each sentence; docs/PROMISES.md has one line for each number, which says what holds it.
 A name that docs/PROMISES.md cites, as `file:name`, is declared by that file. A place that docs/DECISIONS.md cites, as `file:line word`, has that word.
-Every `pub fn` of every library has no `requires`, and an `ensures` that cites one definition; its uniqueness theorem, NAME-one, is stated of that
-definition in its crate's specs/Promises.antt and proved, as that statement, in its proofs/Promises.antt.
+A file or folder that the papers name in backticks is there, and a law that README.md and these two name, with a hyphen in it, is declared.
+Every `pub fn` of every library has no `requires`, and an `ensures` that cites one definition; its uniqueness theorem, NAME-one, says of that
+definition, in its crate's specs/Promises.antt, that two results are equal, and is proved, as that statement, in its proofs/Promises.antt.
 """
 import pathlib
 import re
@@ -12,6 +13,7 @@ import sys
 TOP = pathlib.Path(__file__).resolve().parent.parent
 MARKS = r"(?:(?:unfoldable|abbrev|axiom|pub) )*"
 NUMBER = r"\d+|D\d\.\d"
+LAWS_NAMED = ("README.md", "docs/DECISIONS.md", "docs/PROMISES.md")
 HELD = ("none owed: ", "by the language: ", "run: ", "as [", "`crates/")
 
 
@@ -65,6 +67,25 @@ def cited_places(faults):
     return count
 
 
+def named_in_papers(faults):
+    """Paths and names with a hyphen, in backticks, of the papers that a reader is sent by."""
+    declared = {"must-fail"}
+    for path in sorted((TOP / "crates").rglob("*.antt")):
+        declared.update(re.findall(rf"(?m)^\s*{MARKS}(?:record |data )?([^\s:({{]+)(?= |$)", path.read_text()))
+    for paper in ("README.md", "docs/DECISIONS.md", "docs/PROMISES.md", "docs/FORMAT.md", "bench/README.md", "examples/README.md"):
+        for word in re.findall(r"`([^`\s]+)`", text_of(TOP / paper)):
+            path = word.split(":")[0]
+            if re.match(r"(?:crates|docs|tests|bench|examples|include)/", word):
+                if "*" not in path and not (TOP / path).exists():
+                    faults.append(f"{paper} names {path}, which is not there")
+                elif re.search(r"\.(?:antt|rt)$", path) and re.match(r"[^:]*:\s*$", word):
+                    faults.append(f"{paper} cites {word} and no name")
+            elif paper in LAWS_NAMED and re.fullmatch(r"[a-z]+(?:-[a-z0-9]+)+", word) and word not in declared:
+                faults.append(f"{paper} names {word}, which no file of specs/ or proofs/ declares")
+    if re.search(r"`[\w/.]+\.(?:antt|rt):\s", text_of(TOP / "docs/PROMISES.md")):
+        faults.append("docs/PROMISES.md cites a file with a space before the name")
+
+
 def public_functions():
     """Crate, file, name and header, up to the line that opens the body, of each `pub fn` of each library."""
     for folder in sorted((TOP / "crates").iterdir()):
@@ -92,8 +113,11 @@ def uniqueness(faults):
         ensures = re.search(r"ensures \{ λ r\. ⌜ (?:r ≡ )?([^\s()]+) ", header)
         if not ensures:
             faults.append(f"{where} has no ensures that cites one definition")
-        elif not re.search(rf"(?<![^\s(]){re.escape(ensures.group(1))}(?![^\s)])", statement(specs, stated)):
-            faults.append(f"{where} has no {stated} in {specs.relative_to(TOP)} that speaks of {ensures.group(1)}")
+        else:
+            said = statement(specs, stated)
+            mentions = len(re.findall(rf"(?<![^\s(]){re.escape(ensures.group(1))}(?![^\s)])", said))
+            if not (mentions == 1 and "One (" in said or mentions == 2 and "≡" in said.rsplit("→", 1)[-1]):
+                faults.append(f"{where} has no {stated} in {specs.relative_to(TOP)} that says of {ensures.group(1)} that two results are equal")
         if not re.search(rf"(?m)^pub {re.escape(name)} : {re.escape(stated)}$", text_of(proofs)):
             faults.append(f"{where} has no {name} : {stated} in {proofs.relative_to(TOP)}")
     return count
@@ -102,6 +126,7 @@ def uniqueness(faults):
 def main():
     faults = []
     numbers, names, places, functions = numbered_lines(faults), cited_names(faults), cited_places(faults), uniqueness(faults)
+    named_in_papers(faults)
     if not (numbers and names and places and functions):
         faults.append("nothing was found to hold: is this the repository?")
     for fault in faults:

@@ -53,7 +53,7 @@ pub fn answer_to(file: &[u8]) -> Text
     let n = at_most(files::said::n(file), 32);
     let d = at_most(files::said::d(file), 16);
     let masks = n * n * d;
-    let slots = 512 * (n + 2);
+    let room = 512 * (n + 2);
     let mut domains = room_for_domains();
     let mut tables = room_for_tables();
     let mut agenda = room_for_agenda();
@@ -61,7 +61,7 @@ pub fn answer_to(file: &[u8]) -> Text
         file,
         &mut domains[..n],
         &mut tables[..masks],
-        &mut agenda[..slots],
+        &mut agenda[..room],
     )
 }
 

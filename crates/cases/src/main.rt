@@ -1,4 +1,4 @@
-// Document 01's cases that are run and not proved, every refusal of the five calls, RFC 1071's example, and files made by hand: a line for each,
+// Document 01's cases that are run and not proved, each refusal from 1 to 15, RFC 1071's example, and files made by hand: a line for each,
 // held to the file stdout.
 use files::saved::Loaded;
 use files::saved::Saved;

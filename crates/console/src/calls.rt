@@ -23,7 +23,7 @@ fn open_words(n: usize, d: usize, domains: &[u8], tables: &[u8], agenda: &mut [u
 {
     let variables = domains.len() / 2;
     let masks = tables.len() / 2;
-    let slots = agenda.len() / 2;
+    let room = agenda.len() / 2;
     let mut domain_words = [0u16; 32];
     bytes::words_of(domains, &mut domain_words);
     let mut table_words = [0u16; 16384];
@@ -35,9 +35,9 @@ fn open_words(n: usize, d: usize, domains: &[u8], tables: &[u8], agenda: &mut [u
         d,
         &domain_words[..variables],
         &table_words[..masks],
-        &mut agenda_words[..slots],
+        &mut agenda_words[..room],
     );
-    bytes::bytes_of(&agenda_words[..slots], agenda);
+    bytes::bytes_of(&agenda_words[..room], agenda);
     opened
 }
 
@@ -66,7 +66,7 @@ fn run_words(
 {
     let variables = domains.len() / 2;
     let masks = tables.len() / 2;
-    let slots = agenda.len() / 2;
+    let room = agenda.len() / 2;
     let mut domain_words = [0u16; 32];
     bytes::words_of(domains, &mut domain_words);
     let mut table_words = [0u16; 16384];
@@ -78,7 +78,7 @@ fn run_words(
         d,
         &domain_words[..variables],
         &table_words[..masks],
-        &mut agenda_words[..slots],
+        &mut agenda_words[..room],
         requests,
         state,
     );
@@ -86,7 +86,7 @@ fn run_words(
         n,
         state.subproblems,
         ran.state.subproblems,
-        &agenda_words[..slots],
+        &agenda_words[..room],
         agenda,
     );
     ran
@@ -129,7 +129,7 @@ fn choose_words(
 {
     let variables = domains.len() / 2;
     let masks = tables.len() / 2;
-    let slots = agenda.len() / 2;
+    let room = agenda.len() / 2;
     let mut domain_words = [0u16; 32];
     bytes::words_of(domains, &mut domain_words);
     let mut table_words = [0u16; 16384];
@@ -141,11 +141,11 @@ fn choose_words(
         d,
         &domain_words[..variables],
         &table_words[..masks],
-        &mut agenda_words[..slots],
+        &mut agenda_words[..room],
         limit,
         state,
     );
-    bytes::bytes_of(&agenda_words[..slots], agenda);
+    bytes::bytes_of(&agenda_words[..room], agenda);
     ran
 }
 
@@ -183,7 +183,7 @@ fn save_words(
 {
     let variables = domains.len() / 2;
     let masks = tables.len() / 2;
-    let slots = agenda.len() / 2;
+    let room = agenda.len() / 2;
     let mut domain_words = [0u16; 32];
     bytes::words_of(domains, &mut domain_words);
     let mut table_words = [0u16; 16384];
@@ -195,7 +195,7 @@ fn save_words(
         d,
         &domain_words[..variables],
         &table_words[..masks],
-        &agenda_words[..slots],
+        &agenda_words[..room],
         state,
         file,
     )
@@ -226,7 +226,7 @@ fn load_words(file: &[u8], domains: &mut [u8], tables: &mut [u8], agenda: &mut [
 {
     let variables = domains.len() / 2;
     let masks = tables.len() / 2;
-    let slots = agenda.len() / 2;
+    let room = agenda.len() / 2;
     let mut domain_words = [0u16; 32];
     bytes::words_of(domains, &mut domain_words);
     let mut table_words = [0u16; 16384];
@@ -237,11 +237,11 @@ fn load_words(file: &[u8], domains: &mut [u8], tables: &mut [u8], agenda: &mut [
         file,
         &mut domain_words[..variables],
         &mut table_words[..masks],
-        &mut agenda_words[..slots],
+        &mut agenda_words[..room],
     );
     bytes::bytes_of(&domain_words[..variables], domains);
     bytes::bytes_of(&table_words[..masks], tables);
-    bytes::bytes_of(&agenda_words[..slots], agenda);
+    bytes::bytes_of(&agenda_words[..room], agenda);
     loaded
 }
 

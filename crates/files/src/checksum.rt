@@ -55,7 +55,7 @@ fn as_block(bytes: &[u8]) -> [u8; 512]
     block
 }
 
-// The check of one block, or of any words: words past the end of the bytes are 0, and add nothing.
+// The check of one block: of the first 255 words; those past the end of fewer bytes are 0, and add nothing.
 pub fn check_of(block: &[u8]) -> u16
     ensures { λ r. ⌜ Check-of (now (block .entry)) r ⌝ }
 {

@@ -67,7 +67,7 @@ fn refuse(refusal: u32) -> Loaded
     }
 }
 
-// Room for the content of the largest file, and for its tables.
+// Room for the content of the largest file, 101 times 253 words, and for its tables.
 fn room_for_content() -> [u16; 25553]
     ensures { λ r. ⌜ 25553 ≡ length r ⌝ }
 {

@@ -132,13 +132,13 @@ fn refusal_of_rules(file: &[u8], words: &[u16], tables: &[u16]) -> u32
 {
     let n = said::n(file);
     let d = said::d(file);
-    let domains = 9 + n;
+    let last = 9 + n;
     let from = content::agenda_from(n, d);
     let end = from + 512 * (n + 2);
     let refusal = search::first::search_refusal(
         n,
         d,
-        &words[9..domains],
+        &words[9..last],
         tables,
         &words[from..end],
         said::state(file),

@@ -2,6 +2,7 @@
 ghost use Prim.Native.Nat.{_≤_};
 ghost use lib.ListN.{length};
 
+// One byte more than 101 blocks, so that a file that is too long is seen to be.
 fn main() {
     let mut file = [0u8; 51713];
     let length = io::read_full(0, &mut file);

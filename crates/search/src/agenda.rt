@@ -1,4 +1,4 @@
-// The lent agenda: slots of n + 2 words, slot 0 the bottom. Slots are read, written and cleared here and nowhere else.
+// The lent agenda: slots of n + 2 words, slot 0 the bottom. A step reads, writes and clears slots here alone; the first checks read them as words.
 use crate::lanes;
 use splits::subproblem::Subproblem;
 ghost use mathlib.Core.Path.{_≡_};

@@ -126,7 +126,7 @@ fn domains_below(n: usize, d: usize, domains: &[u16]) -> bool
     is_below(bits_of(domains), d)
 }
 
-// Whether no mask of the variable `i` with those from `from` to before `to` has.
+// Whether no mask of the variable `i` with those from `from` to before `to` has a bit at `d` or above.
 fn span_below(n: usize, d: usize, tables: &[u16], i: usize, from: usize, to: usize) -> bool
     requires { ⌜ Sized n d (now tables) × ((i < n) × ((from ≤ to) × (to ≤ n))) ⌝ }
     ensures { λ r. ⌜ r ≡ spanBelow d (tableOf n d (now (tables .entry))) i from (to - from) ⌝ }
@@ -136,7 +136,7 @@ fn span_below(n: usize, d: usize, tables: &[u16], i: usize, from: usize, to: usi
     is_below(bits_of(&tables[start..end]), d)
 }
 
-// Whether no mask of the variable `i` with another has; its places with itself are not read.
+// Whether no mask of the variable `i` with another has one; its places with itself are not read.
 fn row_below(n: usize, d: usize, tables: &[u16], i: usize) -> bool
     requires { ⌜ Sized n d (now tables) × (i < n) ⌝ }
     ensures { λ r. ⌜ r ≡ rowBelow n d (tableOf n d (now (tables .entry))) i ⌝ }
@@ -147,7 +147,7 @@ fn row_below(n: usize, d: usize, tables: &[u16], i: usize) -> bool
     span_below(n, d, tables, i, i + 1, n)
 }
 
-// Whether no mask that is read has; of 16 values none can have.
+// Whether no mask that is read has one; of 16 values none can.
 fn tables_below(n: usize, d: usize, tables: &[u16]) -> bool
     requires { ⌜ Sized n d (now tables) ⌝ }
     ensures { λ r. ⌜ r ≡ every n (rowBelow n d (tableOf n d (now (tables .entry)))) ⌝ }
@@ -269,7 +269,7 @@ fn whole_both_ways(n: usize, tables: &[u16], i: usize) -> bool
     bits == 0
 }
 
-// Of any number of values.
+// The same of any number of values.
 fn row_both_ways(n: usize, d: usize, tables: &[u16], i: usize) -> bool
     requires { ⌜ Narrow n d (now tables) × (i < n) ⌝ }
     ensures { λ r. ⌜ r ≡ rowBothWays d (tableOf n d (now (tables .entry))) i ⌝ }
@@ -280,7 +280,7 @@ fn row_both_ways(n: usize, d: usize, tables: &[u16], i: usize) -> bool
     part_both_ways(n, d, tables, i)
 }
 
-// Whether those of every two variables are allowed both ways or neither.
+// Whether the values of every two variables are allowed both ways or neither.
 fn tables_both_ways(n: usize, d: usize, tables: &[u16]) -> bool
     requires { ⌜ Narrow n d (now tables) ⌝ }
     ensures { λ r. ⌜ r ≡ every n (rowBothWays d (tableOf n d (now (tables .entry)))) ⌝ }

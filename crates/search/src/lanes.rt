@@ -1,4 +1,4 @@
-// Loops over all 32 masks of a subproblem, with a fixed number of turns and no way out of them, so that the machine takes eight masks at once.
+// Loops over all 32 masks of a subproblem; those of a step have a fixed number of turns and no way out, so that the machine takes eight masks at once.
 ghost use mathlib.Core.Path.{_≡_};
 ghost use mathlib.Core.Bool.{cond};
 ghost use Prim.Native.Nat.{ℕ, _+_, _*_, _<_, _≤_, min};
@@ -56,7 +56,7 @@ pub(crate) fn below(n: usize) -> [u16; 32]
     lanes
 }
 
-// A word if all bits keep it, none if none does.
+// A word where its lane has all bits, 0 where it has none.
 pub(crate) fn kept(word: u16, lane: u16) -> u16
     ensures { λ r. ⌜ Kept word lane r ⌝ }
 {

@@ -6,16 +6,19 @@ pub struct Steps(pub u32);
 // Constraint checks made.
 pub struct Checks(pub u64);
 
+// Both counters.
 pub struct Counts {
     pub steps: Steps,
     pub checks: Checks,
 }
 
+// What is handed on with the agenda.
 pub struct State {
     pub counts: Counts,
     pub subproblems: usize,
 }
 
+// None: refused by the first checks.
 pub enum Verdict {
     None,
     Running,
@@ -23,11 +26,13 @@ pub enum Verdict {
     Unsolvable,
 }
 
+// What opening returns.
 pub struct Opened {
     pub refusal: u32,
     pub state: State,
 }
 
+// What a run and the chooser return.
 pub struct Ran {
     pub verdict: Verdict,
     pub refusal: u32,

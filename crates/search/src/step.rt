@@ -34,10 +34,10 @@ fn exceed(top: Subproblem, n: usize, d: usize, tables: &[u16], request: &[u16], 
     requires { ⌜ readable n d (now tables) (now request) ≡ true ⌝ }
     ensures { λ r. ⌜ r ≡ ltb free (length (pieces n (tableOf n d (now (tables .entry))) top (now (request .entry)))) ⌝ }
 {
-    let named = split::candidates(n, request);
+    let candidates = split::candidates(n, request);
     let mut left = free;
     let mut k = 0;
-    while k < named {
+    while k < candidates {
         let piece = split::piece(top, n, d, tables, request, k);
         if !piece.is_empty(n) {
             if left == 0 {
@@ -50,7 +50,7 @@ fn exceed(top: Subproblem, n: usize, d: usize, tables: &[u16], request: &[u16], 
     false
 }
 
-// The same. They are looked at only where the pieces that the kind can name exceed the free slots.
+// The same. They are looked at only where the candidates of the kind exceed the free slots.
 pub(crate) fn has_no_room(
     top: Subproblem,
     n: usize,

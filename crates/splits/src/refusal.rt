@@ -20,6 +20,7 @@ fn is_target_bad(target: u16, domain: u16) -> bool
     target & !domain != 0
 }
 
+// Whether a target of the n variables is; of more than 32 variables, too.
 fn some_target_bad(top: Subproblem, n: usize, request: &[u16]) -> bool
     ensures { λ r. ⌜ r ≡ someBad n top (now (request .entry)) ⌝ }
 {
@@ -36,6 +37,7 @@ fn some_target_bad(top: Subproblem, n: usize, request: &[u16]) -> bool
     false
 }
 
+// Whether every target is the domain itself.
 fn all_targets_same(top: Subproblem, n: usize, request: &[u16]) -> bool
     requires { ⌜ n ≤ 32 ⌝ }
     ensures { λ r. ⌜ r ≡ allSame n top (now (request .entry)) ⌝ }

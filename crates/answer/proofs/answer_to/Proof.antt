@@ -41,12 +41,12 @@ mul-masks-2 : tie.Need-mul-masks-2
 mul-masks-2 c = let few = masks-few _ _ (c .before .before .at-most .ensures .1) (c .at-most2 .ensures .1) in search (needs, few)
 
 -- src/lib.rt:56:24
-add-slots : tie.Need-add-slots
-add-slots c = search needs
+add-room : tie.Need-add-room
+add-room c = search needs
 
 -- src/lib.rt:56:17
-mul-slots : tie.Need-mul-slots
-mul-slots c = search needs
+mul-room : tie.Need-mul-room
+mul-room c = search needs
 
 -- src/lib.rt:57:23
 room-for-domains-requires : tie.Need-room-for-domains-requires
@@ -108,8 +108,8 @@ answer-to-spec =
     at-most-requires-2
     mul-masks
     mul-masks-2
-    add-slots
-    mul-slots
+    add-room
+    mul-room
     room-for-domains-requires
     room-for-tables-requires
     room-for-agenda-requires

@@ -14,8 +14,8 @@ n-requires c κs = search needs
 d-requires : tie.Need-d-requires
 d-requires c κs = search needs
 
-add-domains : tie.Need-add-domains
-add-domains c = let s = sized-numbers (c .before .before .before .before .before .args .file .now) _ _ _ (c .before .n .ensures) (c .d .ensures) refl (c .before .before .before .before .before .pre .sized) in omega (arith, s .0 .variables)
+add-last : tie.Need-add-last
+add-last c = let s = sized-numbers (c .before .before .before .before .before .args .file .now) _ _ _ (c .before .n .ensures) (c .d .ensures) refl (c .before .before .before .before .before .pre .sized) in omega (arith, s .0 .variables)
 
 agenda-from-requires : tie.Need-agenda-from-requires
 agenda-from-requires c κs = let s = sized-numbers (c .before .before .before .before .before .args .file .now) _ _ _ (c .before .n .ensures) (c .d .ensures) refl (c .before .before .before .before .before .pre .sized) in s .0
@@ -68,7 +68,7 @@ refusal-of-rules-spec =
     (tie.spec
     n-requires
     d-requires
-    add-domains
+    add-last
     agenda-from-requires
     add-end
     mul-end

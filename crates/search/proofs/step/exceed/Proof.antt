@@ -14,10 +14,10 @@ use Rattle.search.proofs.step.exceed.Statement.{statement}
 use Rattle.search.proofs.step.exceed.Tie as tie
 
 abbrev Inv-loop : tie.InvT-loop
-Inv-loop top n d tables request free named left₀ k₀ left k = (k ≤ named) × ((left ≤ free) × (free - left ≡ length (firsts n (candidate n (tableOf n d tables) top request) k)))
+Inv-loop top n d tables request free candidates₀ left₀ k₀ left k = (k ≤ candidates₀) × ((left ≤ free) × (free - left ≡ length (firsts n (candidate n (tableOf n d tables) top request) k)))
 
 abbrev μ-loop : tie.MeasureT-loop
-μ-loop top n d tables request free named left₀ k₀ left k = named - k
+μ-loop top n d tables request free candidates₀ left₀ k₀ left k = candidates₀ - k
 
 candidates-requires : tie.Need-candidates-requires Inv-loop μ-loop
 candidates-requires c κs = search needs
