@@ -17,11 +17,11 @@ use Rattle.search.specs.Verdicts.{numberOf}
 use Rattle.search.specs.Runs.{Stopped, run, cutInto, requestsIn}
 use Rattle.search.specs.Agenda.{problemOf, slotsIn}
 use Rattle.search.specs.Calls.{searchOf, Ends, Runs}
+use Rattle.search.proofs.Verdicts.{is-run-on}
 use Rattle.search.proofs.Runs.{stops}
 use Rattle.search.specs.declared.state.State.{State}
 use Rattle.search.specs.declared.state.Ran.{Ran}
-use Rattle.search.specs.declared.state.Verdict.{Verdict}
-use Rattle.search.specs.declared.state.Verdict.the-variants.{None, Running, Solved, Unsolvable}
+use Rattle.search.specs.declared.state.Verdict.the-variants.{Running}
 use Rattle.files.proofs.Requests.{whole-append}
 use Rattle.console.specs.Bytes.{Whole, wordsOf}
 use Rattle.console.specs.Work.Parts.{goesOn, joined, partEnd, Listed, Narrow}
@@ -100,19 +100,13 @@ part-asks n at end l part =
 
 -- ---- whether it goes on
 
-on-running : (v : Verdict) → numberOf v ≡ 1 → v ≡ Running
-on-running None e = absurd (omega arith)
-on-running Running e = refl
-on-running Solved e = absurd (omega arith)
-on-running Unsolvable e = absurd (omega arith)
-
 goes-refusal : (r : Ran) → goesOn r ≡ true → r .refusal ≡ 0
 unfolding goesOn
 goes-refusal r e = eqb-true (r .refusal) 0 (and-left (eqb (r .refusal) 0) (eqb (numberOf (r .verdict)) 1) e)
 
 goes-running : (r : Ran) → goesOn r ≡ true → r .verdict ≡ Running
 unfolding goesOn
-goes-running r e = on-running (r .verdict) (eqb-true (numberOf (r .verdict)) 1 (and-right (eqb (r .refusal) 0) (eqb (numberOf (r .verdict)) 1) e))
+goes-running r e = is-run-on (r .verdict) (eqb-true (numberOf (r .verdict)) 1 (and-right (eqb (r .refusal) 0) (eqb (numberOf (r .verdict)) 1) e))
 
 stops-not : (r : Ran) → goesOn r ≡ false → r .refusal ≡ 0 → r .verdict ≡ Running → ⊥
 unfolding goesOn

@@ -1,7 +1,7 @@
 -- Files whose words are accepted: what passing 15 says, and what 15 says, rule by rule.
 -- Assumes nothing.
 use mathlib.Core.Path.{_≡_, refl, sym, _∙_}
-use mathlib.Core.Logic.{_⊎_, inl, inr, ⊎-elim, _↔_}
+use mathlib.Core.Logic.{_⊎_, inl, inr, _↔_}
 use mathlib.Core.Bool.{Bool, true, false, not, cond, _&&_, _||_, or-true}
 use mathlib.Core.List.{List, List·Memᴰ}
 use Prim.Native.Nat.{ℕ, zero, _+_, _-_, _*_, _/_, _%_, _^_, _≤_, _<_}
@@ -17,9 +17,11 @@ use Rattle.splits.specs.declared.subproblem.Subproblem.{Subproblem}
 use Rattle.splits.proofs.Masks.{bit-above, some-member}
 use Rattle.splits.proofs.Tests.{true-false, and-left, and-right, or-left, or-right, every-at, every-all}
 use Rattle.search.specs.FirstChecks.{Over, allObey}
+use Rattle.search.proofs.Decisions.{Refutes, every-fails}
+use Rattle.search.proofs.FirstParts.{given-if}
 use Rattle.files.specs.Blocks.{blocksFor}
 use Rattle.files.specs.Reading.{blocksIn, contentWord, saidN, saidD, saidSteps, saidChecks, saidSubproblems, saidAllowed, saidProblem, saidSearch, saidWords, Deserves-15, masksBelowTriangle, refusalOfWords}
-use Rattle.files.proofs.Tests.{every-found, refused, passed, either}
+use Rattle.files.proofs.Tests.{either, one-of, given-exactly, not-given-exactly}
 use Rattle.files.proofs.Rules.{all-rules, rules-all, some-breaks}
 
 -- A mask has a bit at d or above exactly if it is 2 ^ d or more.
@@ -124,9 +126,9 @@ module _ (file : List ℕ) where
   masks-fail e =
       let test : ℕ → ℕ → ℕ → Bool = λ i j a. ltb (saidAllowed file i j a) (2 ^ saidD file) in
       let pair : ℕ → ℕ → Bool = λ i j. not (ltb i j) || every (saidD file) (test i j) in
-      let (i, l, x) = every-found (λ i. every (saidN file) (pair i)) (saidN file) e in
-      let (j, k, y) = every-found (pair i) (saidN file) x in
-      let (a, m, z) = every-found (test i j) (saidD file) (or-right (not (ltb i j)) (every (saidD file) (test i j)) y) in (
+      let (i, l, x) = every-fails (λ i. every (saidN file) (pair i)) (saidN file) e in
+      let (j, k, y) = every-fails (pair i) (saidN file) x in
+      let (a, m, z) = every-fails (test i j) (saidD file) (or-right (not (ltb i j)) (every (saidD file) (test i j)) y) in (
         i,
         j,
         a,
@@ -220,13 +222,13 @@ module _ (file : List ℕ) where
           → Deserves-15 file
       doms a b c d f g h (inl x) = masks a b c d f g h x (either t-masks)
       doms a b c d f g h (inr x) =
-          let (i, l, z) = every-found (λ i. ltb (saidProblem file .domain i) (2 ^ saidD file)) (saidN file) x in
+          let (i, l, z) = every-fails (λ i. ltb (saidProblem file .domain i) (2 ^ saidD file)) (saidN file) x in
           inr (inr (inr (inr (inr (inl (i, l, over-found (saidD file) (saidProblem file .domain i) (ltb-false (saidProblem file .domain i) (2 ^ saidD file) z)))))))
 
       zeros : t-one ≡ true → t-vars ≡ true → t-val ≡ true → t-vals ≡ true → t-few ≡ true → t-fills ≡ true → Way t-zero → Deserves-15 file
       zeros a b c d f g (inl x) = doms a b c d f g x (either t-doms)
       zeros a b c d f g (inr x) =
-          let (k, l, z) = every-found (λ k. eqb (contentWord file (saidWords file + k)) 0) (blocksIn file * 253 - saidWords file) x in
+          let (k, l, z) = every-fails (λ k. eqb (contentWord file (saidWords file + k)) 0) (blocksIn file * 253 - saidWords file) x in
           inr (inr (inr (inr (inl (saidWords file + k, omega arith, omega arith, eqb-false (contentWord file (saidWords file + k)) 0 z)))))
 
       fills : t-one ≡ true → t-vars ≡ true → t-val ≡ true → t-vals ≡ true → t-few ≡ true → Way t-fills → Deserves-15 file
@@ -260,28 +262,24 @@ module _ (file : List ℕ) where
 
   -- Passing 15 says that the file is accepted.
   pub words-accept : refusalOfWords file ≡ 0 → Accepts file
-  words-accept e = tests-accept (passed tests 15 (λ z. absurd (omega arith)) (sym is-tests ∙ e))
+  words-accept e = tests-accept (given-if tests 15 (λ z. absurd (omega arith)) (sym is-tests ∙ e))
 
   -- An accepted file passes 15.
   pub accept-words : Accepts file → refusalOfWords file ≡ 0
   accept-words a = is-tests ∙ rw (accept-tests a) refl
 
+  -- The tests fail exactly where 15 is deserved.
+  tests-refute : Refutes tests (Deserves-15 file)
+  tests-refute = record { holds = tests-deserve; fails = λ e. accepts-deserves-not (tests-accept e) }
+
   -- 15 is given exactly if it is deserved.
   pub refusal-15 : (refusalOfWords file ≡ 15) ↔ Deserves-15 file
-  refusal-15 = (λ e. tests-deserve (refused tests 15 (λ z. absurd (omega arith)) (sym is-tests ∙ e)), λ g. is-tests ∙ go tests refl g)
-    where
-      go : (b : Bool) → tests ≡ b → Deserves-15 file → _≡_ {A = ℕ} (cond b 0 15) 15
-      go true e g = absurd (accepts-deserves-not (tests-accept e) g)
-      go false e g = refl
+  refusal-15 = rw is-tests (given-exactly tests 15 (Deserves-15 file) (λ z. absurd (omega arith)) tests-refute)
 
   -- It passes exactly if 15 is not deserved.
   pub refusal-not-15 : (refusalOfWords file ≡ 0) ↔ (Deserves-15 file → ⊥)
-  refusal-not-15 = (λ e. accepts-deserves-not (words-accept e), λ g. is-tests ∙ go tests refl g)
-    where
-      go : (b : Bool) → tests ≡ b → (Deserves-15 file → ⊥) → _≡_ {A = ℕ} (cond b 0 15) 0
-      go true e g = refl
-      go false e g = absurd (g (tests-deserve e))
+  refusal-not-15 = rw is-tests (not-given-exactly tests 15 (Deserves-15 file) (λ z. absurd (omega arith)) tests-refute)
 
   -- The answer is 0 or 15.
   pub words-either : (refusalOfWords file ≡ 0) ⊎ (refusalOfWords file ≡ 15)
-  words-either = ⊎-elim (λ e. inl (is-tests ∙ rw e refl)) (λ e. inr (is-tests ∙ rw e refl)) (either tests)
+  words-either = rw is-tests (one-of tests 0 15)

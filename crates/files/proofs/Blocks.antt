@@ -14,6 +14,7 @@ use Rattle.splits.specs.Problem.{total}
 use Rattle.splits.specs.Subproblems.{every}
 use Rattle.splits.specs.Splits.{below}
 use Rattle.splits.proofs.Tests.{every-all}
+use Rattle.search.proofs.HandedOn.{append-small}
 use Rattle.files.specs.Blocks.{fileBytes, wordAt, checkOf, blocksFor, contentOfBlock, headedBlock, blockWords, firstBlocks, fileOf}
 use Rattle.files.specs.Content.{each}
 use Rattle.files.specs.Reading.{blocksIn, blockWord, headOf, contentWord, goodBlock, refusalOfFile}
@@ -154,12 +155,6 @@ module _ (c : List ℕ) where
 
 -- ---- its bytes
 
--- Lists of words, one after the other, are words.
-small-append : (m : ℕ) (a b : List ℕ) → ((k : ℕ) → getD a k 0 < m) → ((k : ℕ) → getD b k 0 < m) → (k : ℕ) → getD (a ++ b) k 0 < m
-small-append m [] b h l k = l k
-small-append m (x ∷ a) b h l zero = h 0
-small-append m (x ∷ a) b h l (suc k) = small-append m a b (λ k. h (suc k)) l k
-
 small-one : (x : ℕ) → x < 65536 → (k : ℕ) → getD (x ∷ []) k 0 < 65536
 small-one x h zero = h
 small-one x h (suc k) = omega arith
@@ -181,9 +176,9 @@ pub blocks-small : (m blocks : ℕ) (c : List ℕ) → m ≤ 101 → blocks ≤ 
 unfolding firstBlocks blockWords
 blocks-small zero blocks c l few h i = omega arith
 blocks-small (suc m) blocks c l few h i =
-    small-append 256 (firstBlocks m blocks c) (fileBytes (blockWords blocks c m)) (blocks-small m blocks c (omega arith) few h)
+    append-small 256 (firstBlocks m blocks c) (fileBytes (blockWords blocks c m)) (blocks-small m blocks c (omega arith) few h)
     (bytes-small (blockWords blocks c m)
-    (small-append 65536 (headedBlock blocks c m) (checkOf (headedBlock blocks c m) ∷ []) (headed-small blocks c m (omega arith) few h)
+    (append-small 65536 (headedBlock blocks c m) (checkOf (headedBlock blocks c m) ∷ []) (headed-small blocks c m (omega arith) few h)
     (small-one (checkOf (headedBlock blocks c m)) (check-word (headedBlock blocks c m))))) i
 
 -- So are those of the file.

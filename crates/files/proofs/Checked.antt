@@ -18,12 +18,13 @@ use Rattle.splits.proofs.Tests.{and-left, and-right, every-at}
 use Rattle.search.specs.Agenda.{slotsIn, stackOf, stackWords, agendaOf}
 use Rattle.search.specs.FirstChecks.{WholeSlots, searchRefusal}
 use Rattle.search.specs.declared.state.State.{State}
+use Rattle.search.proofs.Copies.{zeros-at}
 use Rattle.search.proofs.Encoding.{stack-of-words}
 use Rattle.files.specs.Blocks.{blocksFor}
 use Rattle.files.specs.Reading.{blocksIn, contentWord, contentFrom, saidN, saidD, saidSteps, saidChecks, saidSubproblems, saidDomains, saidAllowed, saidAgenda, saidSearch, saidWords, agendaFrom, tableWords, refusalOfWords}
 use Rattle.files.specs.Promises.{Bytes}
 use Rattle.files.specs.Work.Said.{Numbers, StateSaid, numbersSaid, zeroIn, filled, agendaStart, wordsOf, sizedIn, Read, Ready}
-use Rattle.files.proofs.Lists.{seq, seq-join, map-is, zeros-at}
+use Rattle.files.proofs.Lists.{seq, seq-join, map-is}
 use Rattle.files.proofs.Triangle.{table-other}
 use Rattle.files.proofs.Stacks.{agenda-read}
 use Rattle.files.proofs.Whole.{Whole, file-whole}

@@ -1,7 +1,7 @@
 -- No result depends on what stands at a variable with itself: the first checks, a run, the chooser and the content.
 -- Assumes nothing.
 use mathlib.Core.Path.{_≡_, refl, ap, _∙_}
-use mathlib.Core.Bool.{false, cond}
+use mathlib.Core.Bool.{false}
 use mathlib.Core.List.{List}
 use Prim.Native.Nat.{ℕ, _^_, _<_}
 use native.Mathlib.Omega.{arith}
@@ -21,24 +21,18 @@ use Rattle.search.specs.Promises.{Passes}
 use Rattle.search.specs.declared.state.State.{State}
 use Rattle.search.specs.declared.state.Opened.{Opened}
 use Rattle.search.specs.declared.state.Ran.{Ran}
+use Rattle.search.proofs.FirstParts.{else-pass}
+use Rattle.search.proofs.Apart.{else-same}
 use Rattle.files.specs.Content.{contentOf}
 use Rattle.files.specs.Calls.{handedContent, saveRefusal, Saves}
 use Rattle.search.specs.Promises.{AgreeApart}
 use Rattle.files.specs.declared.saved.Saved.{Saved}
-use Rattle.files.proofs.Tests.{else-pass}
 use Rattle.files.proofs.Stacks.{of-length}
 use Rattle.files.proofs.Triangle.{triangle-same}
 use Rattle.files.proofs.Rules.{all-rules, rules-all}
 use Rattle.files.proofs.Passing.{Passing, problem-agree, proper-small, open-proper, search-passing, run-search}
 use Rattle.files.proofs.Tables.{rules-agree, agree-back}
 use Rattle.files.proofs.AgreeingRuns.{run-same, choose-same}
-
--- A refusal before decides alike.
-else-cong : (a x y : ℕ) → (a ≡ 0 → x ≡ y) → orElse a x ≡ orElse a y
-else-cong a x y h = elim (ℕ-discrete a 0) [
-  | yes e ↦ ap (λ (z : ℕ). cond (eqb a 0) z a) (h e)
-  | no f ↦ rw (ne-eqb a 0 f) refl
-]
 
 -- A search that passed the first checks, as the search crate says it.
 pub passing-passes : (n d : ℕ) (domains tables agenda : List ℕ) (s : State) → s .counts .steps .0 < 2 ^ 32
@@ -105,7 +99,7 @@ module _ (n d : ℕ) (domains tables tables′ : List ℕ) (same : AgreeApart n 
   search-same agenda steps checks subproblems =
       let six = refusalOfSearch (problemOf n d domains tables) agenda steps checks subproblems in
       let six′ = refusalOfSearch (problemOf n d domains tables′) agenda steps checks subproblems in
-      else-cong (openRefusal n d domains tables agenda) six six′
+      else-same (openRefusal n d domains tables agenda) six six′
       (λ e.
       let three = refusalOfLengths n d (length domains) (length tables) (length agenda) in
       let five = refusalOfProblem (problemOf n d domains tables) in
@@ -126,11 +120,11 @@ module _ (n d : ℕ) (domains tables tables′ : List ℕ) (same : AgreeApart n 
       let three : ℕ = refusalOfLengths n d (length domains) (length tables) (length agenda) in
       let three′ : ℕ = refusalOfLengths n d (length domains) (length tables′) (length agenda) in
       let also : ℕ = refusalOfRequests n (length requests) in
-      else-cong (refusalOfNumbers n d) (orElse three (orElse also (orElse five six))) (orElse three′ (orElse also (orElse five′ six′)))
+      else-same (refusalOfNumbers n d) (orElse three (orElse also (orElse five six))) (orElse three′ (orElse also (orElse five′ six′)))
       (λ a. ap (λ (x : ℕ). orElse x (orElse also (orElse five six))) (three-same (length agenda))
-      ∙ else-cong three′ (orElse also (orElse five six)) (orElse also (orElse five′ six′))
-      (λ b. else-cong also (orElse five six) (orElse five′ six′)
-      (λ c. else-cong five six six′ (λ e. six-same (open-proper n d domains tables agenda a e) agenda steps checks subproblems) ∙ ap (λ (x : ℕ). orElse x six′) four-same)))
+      ∙ else-same three′ (orElse also (orElse five six)) (orElse also (orElse five′ six′))
+      (λ b. else-same also (orElse five six) (orElse five′ six′)
+      (λ c. else-same five six six′ (λ e. six-same (open-proper n d domains tables agenda a e) agenda steps checks subproblems) ∙ ap (λ (x : ℕ). orElse x six′) four-same)))
 
   -- The content.
   pub content-same : (agenda : List ℕ) (s : State) → handedContent n d domains tables agenda s ≡ handedContent n d domains tables′ agenda s

@@ -12,12 +12,12 @@ use lib.Seq.{getD-take, getD-drop, drop-cons, append-snoc, set-at, take-at, take
 use borrow.Rule.Slice.PartMut.{putMid, midOf, postOf, post-is, mid-len}
 use Rattle.splits.specs.Problem.{total}
 use Rattle.splits.specs.Splits.{below}
-use Rattle.search.proofs.Copies.{put-part, splice-between}
+use Rattle.search.proofs.Copies.{zeros-at, put-part, splice-between}
 use Rattle.files.specs.Blocks.{wordAt}
 use Rattle.files.specs.Content.{each}
 use Rattle.files.specs.Reading.{blockWord, contentWord, contentFrom}
 use Rattle.files.specs.Work.Said.{Numbers, allowedIn, pairPart, rowPart, afterPart, tablePart}
-use Rattle.files.proofs.Lists.{map-length, map-at, map-is, map-same, each-more, each-same, each-split, each-one, each-length, total-const, seq, seq-is, seq-each, seq-join, zeros-at}
+use Rattle.files.proofs.Lists.{map-length, map-at, map-is, map-same, each-more, each-same, each-split, each-one, each-length, total-const, seq, seq-is, seq-each, seq-join}
 use Rattle.files.proofs.Places.{content-from, length-from}
 use Rattle.files.proofs.Found.{part-words}
 use Rattle.files.proofs.Mirrors.{part-at, part-long, pair-zeros, mask-at}

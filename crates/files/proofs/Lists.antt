@@ -15,6 +15,7 @@ use Rattle.splits.specs.Problem.{total}
 use Rattle.splits.specs.Splits.{below, keep}
 use Rattle.splits.proofs.Products.{last}
 use Rattle.splits.proofs.Looking.{keep-append}
+use Rattle.search.proofs.Copies.{zeros-at}
 use Rattle.files.specs.Content.{each, after}
 
 -- The sum of the same number, n times; sums of equal numbers are equal.
@@ -196,12 +197,6 @@ unfolding seq
 seq-is g x n l e h = map-is (λ k. g (x + k)) n l e h
 
 -- ---- zeros after a list
-
--- Zeros are 0 everywhere.
-pub zeros-at : (k i : ℕ) → _≡_ {A = ℕ} (getD (replicate k 0) i 0) 0
-zeros-at zero i = refl
-zeros-at (suc k) zero = refl
-zeros-at (suc k) (suc i) = zeros-at k i
 
 -- They say what stands past its end.
 pub padded-at : (l : List ℕ) (k i : ℕ) → getD (l ++ replicate k 0) i 0 ≡ getD l i 0

@@ -14,13 +14,13 @@ use borrow.Author.Tests.{eq-eqb, ne-eqb, eqb-true, ltb-false}
 use Rattle.splits.proofs.Tests.{and-left, and-right}
 use Rattle.search.specs.Agenda.{slotsIn, agendaOf}
 use Rattle.search.specs.FirstChecks.{orElse, wholeSlots, refusalOfLengths}
+use Rattle.search.proofs.FirstParts.{given-if, else-pass}
 use Rattle.files.specs.Reading.{blocksIn, contentWord, contentFrom, saidN, saidD, saidSteps, saidChecks, saidSubproblems, saidDomains, saidAllowed, saidSearch, triangleWords, tableWords, refusalOfFile, refusalOfWords}
 use Rattle.files.specs.Calls.{loadRefusal, Loads}
 use Rattle.files.specs.Promises.{Bytes}
 use Rattle.files.specs.Work.Said.{Numbers, StateSaid, sizedIn, allowedIn, agendaStart, pairPart, rowPart, tablePart, partIn, slotsPart, Lent, Read, Ready, Refused}
 use Rattle.files.specs.declared.saved.Loaded.{Loaded}
 use Rattle.files.proofs.Lists.{each-same, map-same}
-use Rattle.files.proofs.Tests.{passed, else-pass}
 use Rattle.files.proofs.Triangle.{table-length}
 use Rattle.files.proofs.Whole.{file-whole}
 use Rattle.files.proofs.Places.{length-from}
@@ -57,7 +57,7 @@ module _ (file : List ℕ) (domains tables agenda n d m : ℕ) where
       let one = else-pass (refusalOfFile file) (orElse (refusalOfWords file) (orElse (cond lengths 0 3) last)) e in
       let two = else-pass (refusalOfWords file) (orElse (cond lengths 0 3) last) (one .1) in
       let three = else-pass (cond lengths 0 3) last (two .1) in
-      let all = passed lengths 3 (λ z. absurd (omega arith)) (three .0) in
+      let all = given-if lengths 3 (λ z. absurd (omega arith)) (three .0) in
       let both = and-left (eqb domains (saidN file) && eqb tables (saidN file * saidN file * saidD file)) (wholeSlots (saidN file) agenda) all in
       let numbers = numbers-passed file n d m is-n is-d is-m (two .0) in
       let room : m ≤ slotsIn n agenda = rw (is-n, is-m) (no-twelve (slotsIn (saidN file) agenda) (saidSubproblems file) (three .1)) in

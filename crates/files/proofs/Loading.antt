@@ -17,17 +17,18 @@ use Rattle.splits.proofs.Masks.{bit-le}
 use Rattle.splits.proofs.Tests.{and-left, and-right}
 use Rattle.search.specs.Agenda.{stackOf, stackWords, slotsIn, agendaOf}
 use Rattle.search.specs.FirstChecks.{WholeSlots, orElse, wholeSlots, refusalOfLengths}
+use Rattle.search.proofs.FirstParts.{given-if, else-pass}
+use Rattle.search.proofs.Deserved.{slots-true, slots-is}
 use Rattle.files.specs.Reading.{contentWord, contentFrom, saidN, saidD, saidSteps, saidChecks, saidSubproblems, saidDomains, saidAllowed, saidSearch, saidProblem, gathered, tableWords, refusalOfFile, refusalOfWords}
 use Rattle.files.specs.Calls.{loadRefusal}
 use Rattle.files.specs.Promises.{Bytes, Allow-same}
-use Rattle.files.proofs.Tests.{passed, else-pass}
 use Rattle.files.proofs.Lists.{map-length, padded-at}
 use Rattle.files.proofs.Gathered.{gathered-lt, gathered-bit}
 use Rattle.files.proofs.Triangle.{table-length, table-other}
 use Rattle.files.proofs.Stacks.{canonical-length, agenda-length, agenda-read}
 use Rattle.files.proofs.Whole.{Whole, file-whole}
 use Rattle.files.proofs.Accepted.{Accepts, words-accept}
-use Rattle.files.proofs.Passing.{Passing, slots-whole, whole-slots}
+use Rattle.files.proofs.Passing.{Passing}
 use Rattle.files.proofs.Tables.{rules-agree, proper-agree}
 use Rattle.files.proofs.RoundTrip.{said-canonical, said-length}
 
@@ -46,18 +47,18 @@ lengths-fit n d domains tables agenda e =
     let ds = eqb domains n in
     let ts = eqb tables (n * n * d) in
     let ws = wholeSlots n agenda in
-    let all = passed (ds && ts && ws) 3 (λ z. absurd (omega arith)) e in
+    let all = given-if (ds && ts && ws) 3 (λ z. absurd (omega arith)) e in
     record {
       domain-words = eqb-true domains n (and-left ds ts (and-left (ds && ts) ws all));
       table-words = eqb-true tables (n * n * d) (and-right ds ts (and-left (ds && ts) ws all));
-      slots = slots-whole n agenda (and-right (ds && ts) ws all);
+      slots = slots-true n agenda (and-right (ds && ts) ws all);
     }
 
 -- Lengths that fit pass 3.
 pub fit-lengths : (n d domains tables agenda : ℕ) → Fits n d domains tables agenda → refusalOfLengths n d domains tables agenda ≡ 0
 unfolding refusalOfLengths
 fit-lengths n d domains tables agenda h =
-    rw (eq-eqb domains n (h .domain-words), eq-eqb tables (n * n * d) (h .table-words), whole-slots n agenda (h .slots)) refl
+    rw (eq-eqb domains n (h .domain-words), eq-eqb tables (n * n * d) (h .table-words), slots-is n agenda (h .slots)) refl
 
 -- ---- the problem that a file says
 

@@ -16,9 +16,10 @@ use Rattle.splits.specs.Problem.{total}
 use Rattle.splits.specs.Splits.{below}
 use Rattle.splits.proofs.Masks.{bit-above}
 use Rattle.search.specs.Matrix.{Turned}
+use Rattle.search.proofs.Copies.{zeros-at}
 use Rattle.files.specs.Reading.{contentWord, saidN, saidD, saidAllowed, triangleWords, trianglePlace, gathered}
 use Rattle.files.specs.Work.Said.{Numbers, maskIn, allowedIn, columnOf, columnPart, pairPart, agendaStart, partIn, slotsPart}
-use Rattle.files.proofs.Lists.{map-is, map-same, total-below, zeros-at, padded-at}
+use Rattle.files.proofs.Lists.{map-is, map-same, total-below, padded-at}
 use Rattle.files.proofs.Triangle.{rest-total, place-lt}
 use Rattle.files.proofs.Gathered.{gathered-same, gathered-bits}
 

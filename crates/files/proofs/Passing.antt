@@ -6,7 +6,7 @@ use mathlib.Core.Bool.{Bool, true, false, cond, _&&_, _||_, or-true}
 use mathlib.Core.List.{List, List·Memᴰ}
 use Prim.Native.Nat.{ℕ, _+_, _-_, _*_, _%_, _^_, _≤_, _<_}
 use native.Mathlib.Omega.{arith}
-use native.Mathlib.Nat.{lt-of-lt-of-le, mul-div-cancel, mul-mod-left, div-add-mod'}
+use native.Mathlib.Nat.{lt-of-lt-of-le, mul-div-cancel, mul-mod-left}
 use native.Mathlib.Decide.{ℕ-discrete}
 use lib.ListN.{length, getD}
 use lib.Pow.{pow-mono}
@@ -17,43 +17,19 @@ use Rattle.splits.specs.Problem.{Problem, Proper, Table}
 use Rattle.splits.specs.Subproblems.{Rules, every}
 use Rattle.splits.specs.declared.subproblem.Subproblem.{Subproblem}
 use Rattle.splits.proofs.Tests.{and-left, and-right, or-left, or-right, or-cases, every-at, every-all, same-test}
+use Rattle.splits.proofs.Refusals.{every-same}
 use Rattle.search.specs.Agenda.{problemOf, stackOf, slotsIn}
 use Rattle.search.specs.FirstChecks.{WholeSlots, WholeRequests, orElse, refusalOfNumbers, wholeSlots, refusalOfLengths, refusalOfRequests, masksBelow, symmetric, refusalOfProblem, allObey, zerosFrom, refusalOfSearch, openRefusal, searchRefusal, runRefusal}
+use Rattle.search.proofs.FirstParts.{given-not, given-if, else-pass}
+use Rattle.search.proofs.Deserved.{slots-true, slots-is}
 use Rattle.files.specs.Promises.{Allow-same}
-use Rattle.files.proofs.Tests.{passed, else-pass}
 use Rattle.files.proofs.Rules.{all-rules, rules-all}
 
--- A refusal that is given if its test passes.
-given-not : (b : Bool) (k x : ℕ) → (k ≡ 0 → ⊥) → cond b k x ≡ 0 → (b ≡ false) × (x ≡ 0)
-given-not true k x f e = absurd (f e)
-given-not false k x f e = (refl, e)
-
 -- ---- 3
-
--- Whole slots, and whole requests.
-pub slots-whole : (n words : ℕ) → wholeSlots n words ≡ true → WholeSlots n words
-unfolding wholeSlots
-slots-whole n words e =
-    let even = eqb (words % (n + 2)) 0 in
-    let some = leb 1 (slotsIn n words) in
-    let few = leb (slotsIn n words) 512 in
-    let both = and-left (even && some) few e in
-    let none : words % (n + 2) ≡ 0 = eqb-true (words % (n + 2)) 0 (and-left even some both) in (
-      slotsIn n words,
-      leb-true 1 (slotsIn n words) (and-right even some both),
-      leb-true (slotsIn n words) 512 (and-right (even && some) few e),
-      omega (arith, div-add-mod' words (n + 2)),
-    )
 
 -- Whole slots are as many as they are.
 pub slots-in : (n slots : ℕ) → slotsIn n (slots * (n + 2)) ≡ slots
 slots-in n slots = mul-div-cancel slots (omega arith)
-
--- Whole slots pass.
-pub whole-slots : (n words : ℕ) → WholeSlots n words → wholeSlots n words ≡ true
-unfolding wholeSlots
-whole-slots n words (slots, some, few, e) =
-    rw e (rw (slots-in n slots, eq-eqb (slots * (n + 2) % (n + 2)) 0 (mul-mod-left slots (n + 2)), le-leb 1 slots some) (le-leb slots 512 few))
 
 -- Whole requests pass.
 pub requests-whole : (n words : ℕ) → WholeRequests n words → refusalOfRequests n words ≡ 0
@@ -79,11 +55,6 @@ pairs-all n t h =
       | yes e ↦ simp (eq-eqb i j e)
       | no f ↦ simp (h i j l k f, or-true)
     ]))
-
--- Tests that are the same at each number are the same.
-every-same : (n : ℕ) (f g : ℕ → Bool) → ((i : ℕ) → i < n → f i ≡ g i) → every n f ≡ every n g
-every-same n f g h =
-    same-test (every n f) (every n g) (λ e. every-all g n (λ i l. sym (h i l) ∙ every-at f n i l e)) (λ e. every-all f n (λ i l. h i l ∙ every-at g n i l e))
 
 pairs-same : (n : ℕ) (t u : ℕ → ℕ → Bool) → ((i j : ℕ) → i < n → j < n → (i ≡ j → ⊥) → t i j ≡ u i j) → pairs n t ≡ pairs n u
 pairs-same n t u h =
@@ -155,15 +126,15 @@ module _ (p : Problem) where
   problem-agree g a =
       let masks : pairs (p .n) (λ i j. every (p .d) (λ v. ltb (p .allowed i j v) (2 ^ p .d))) ≡ pairs (p .n) (λ i j. every (p .d) (λ v. ltb (g i j v) (2 ^ p .d))) =
       pairs-same (p .n) (λ i j. every (p .d) (λ v. ltb (p .allowed i j v) (2 ^ p .d))) (λ i j. every (p .d) (λ v. ltb (g i j v) (2 ^ p .d)))
-      (λ i j l k f. every-same (p .d) (λ v. ltb (p .allowed i j v) (2 ^ p .d)) (λ v. ltb (g i j v) (2 ^ p .d))
+      (λ i j l k f. every-same (λ v. ltb (p .allowed i j v) (2 ^ p .d)) (λ v. ltb (g i j v) (2 ^ p .d)) (p .d)
       (λ v m. ap (λ (x : ℕ). ltb x (2 ^ p .d)) (a i j v l k f m))) in
       let mirrors : pairs (p .n) (λ i j. every (p .d) (λ v. every (p .d) (λ w. eqb (bit (p .allowed i j v) w) (bit (p .allowed j i w) v))))
       ≡ pairs (p .n) (λ i j. every (p .d) (λ v. every (p .d) (λ w. eqb (bit (g i j v) w) (bit (g j i w) v)))) =
       pairs-same (p .n) (λ i j. every (p .d) (λ v. every (p .d) (λ w. eqb (bit (p .allowed i j v) w) (bit (p .allowed j i w) v))))
       (λ i j. every (p .d) (λ v. every (p .d) (λ w. eqb (bit (g i j v) w) (bit (g j i w) v))))
-      (λ i j l k f. every-same (p .d) (λ v. every (p .d) (λ w. eqb (bit (p .allowed i j v) w) (bit (p .allowed j i w) v)))
-      (λ v. every (p .d) (λ w. eqb (bit (g i j v) w) (bit (g j i w) v)))
-      (λ v m. every-same (p .d) (λ w. eqb (bit (p .allowed i j v) w) (bit (p .allowed j i w) v)) (λ w. eqb (bit (g i j v) w) (bit (g j i w) v))
+      (λ i j l k f. every-same (λ v. every (p .d) (λ w. eqb (bit (p .allowed i j v) w) (bit (p .allowed j i w) v)))
+      (λ v. every (p .d) (λ w. eqb (bit (g i j v) w) (bit (g j i w) v))) (p .d)
+      (λ v m. every-same (λ w. eqb (bit (p .allowed i j v) w) (bit (p .allowed j i w) v)) (λ w. eqb (bit (g i j v) w) (bit (g j i w) v)) (p .d)
       (λ w o. ap₂ (λ (x y : ℕ). eqb (bit x w) (bit y v)) (a i j v l k f m) (a j i w k l (λ e. f (sym e)) o)))) in
       ap₂ (λ (x y : Bool). cond (every (p .n) (λ i. ltb (p .domain i) (2 ^ p .d)) && x) (cond y 0 5) 4) masks mirrors
 
@@ -236,12 +207,12 @@ module _ (n d : ℕ) (domains tables agenda : List ℕ) (steps checks subproblem
       let ds = eqb (length domains) n in
       let ts = eqb (length tables) (n * n * d) in
       let ws = wholeSlots n (length agenda) in
-      let lens = passed (ds && ts && ws) 3 (λ z. absurd (omega arith)) (sym lengths-are ∙ three) in
+      let lens = given-if (ds && ts && ws) 3 (λ z. absurd (omega arith)) (sym lengths-are ∙ three) in
       let fit = leb subproblems (slotsIn n (length agenda)) in
       let obey = allObey P (stackOf n agenda subproblems) in
       let zs = every (length agenda - subproblems * (n + 2)) zero-test in
       let cs = leb checks (496 * steps) in
-      let all = passed (fit && obey && zs && cs) 6 (λ z. absurd (omega arith)) (sym search-are ∙ six) in
+      let all = given-if (fit && obey && zs && cs) 6 (λ z. absurd (omega arith)) (sym search-are ∙ six) in
       let all3 = and-left (fit && obey && zs) cs all in
       let all2 = and-left (fit && obey) zs all3 in
       let proper : Proper P = open-proper n d domains tables agenda numbers four in
@@ -249,7 +220,7 @@ module _ (n d : ℕ) (domains tables agenda : List ℕ) (steps checks subproblem
         proper = proper;
         domain-words = eqb-true (length domains) n (and-left ds ts (and-left (ds && ts) ws lens));
         table-words = eqb-true (length tables) (n * n * d) (and-right ds ts (and-left (ds && ts) ws lens));
-        slots = slots-whole n (length agenda) (and-right (ds && ts) ws lens);
+        slots = slots-true n (length agenda) (and-right (ds && ts) ws lens);
         rules = all-rules P (proper-small P proper) (stackOf n agenda subproblems) (and-right fit obey all2);
         fits = leb-true subproblems (slotsIn n (length agenda)) (and-left fit obey all2);
         unused = λ k l m.
@@ -267,7 +238,7 @@ module _ (n d : ℕ) (domains tables agenda : List ℕ) (steps checks subproblem
     lengths-pass : refusalOfLengths n d (length domains) (length tables) (length agenda) ≡ 0
     lengths-pass =
         lengths-are
-        ∙ rw (eq-eqb (length domains) n (h .domain-words), eq-eqb (length tables) (n * n * d) (h .table-words), whole-slots n (length agenda) (h .slots)) refl
+        ∙ rw (eq-eqb (length domains) n (h .domain-words), eq-eqb (length tables) (n * n * d) (h .table-words), slots-is n (length agenda) (h .slots)) refl
 
     search-pass : refusalOfSearch (problemOf n d domains tables) agenda steps checks subproblems ≡ 0
     unfolding zero-test

@@ -5,7 +5,6 @@ use mathlib.Core.List.{List, map}
 use Prim.Native.Nat.{ℕ, _+_, _-_, _*_, _/_, _%_, _≤_, _<_}
 use native.Mathlib.Omega.{arith}
 use native.Mathlib.Nat.{zero-add}
-use native.Mathlib.Numerals.{add-one}
 use lib.ListN.{length, getD, List·getD-eq-default}
 use Rattle.splits.specs.Problem.{total}
 use Rattle.splits.specs.Splits.{below}
@@ -58,11 +57,6 @@ block-word-small file s b k = word-small file s (256 * b + k)
 pub content-word-small : (file : List ℕ) → ((i : ℕ) → getD file i 0 < 256) → (k : ℕ) → contentWord file k < 65536
 unfolding contentWord
 content-word-small file s k = block-word-small file s (k / 253) (2 + k % 253)
-
--- One word more of a sum.
-pub total-more : (f : ℕ → ℕ) (k s x : ℕ) → s ≡ total k f → x ≡ f k → s + x ≡ total (k + 1) f
-unfolding total
-total-more f k s x e h = rw (add-one, e, h) refl
 
 -- The sum of no words.
 pub total-none : (f : ℕ → ℕ) → 0 ≡ total 0 f

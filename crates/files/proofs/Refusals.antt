@@ -2,71 +2,28 @@
 -- Assumes nothing.
 use mathlib.Core.Path.{_≡_, refl, sym, _∙_}
 use mathlib.Core.Logic.{_⊎_, inl, inr, ⊎-elim, _↔_}
-use mathlib.Core.Bool.{Bool, true, false, cond, _&&_, _||_}
+use mathlib.Core.Bool.{cond, _&&_}
 use mathlib.Core.List.{List}
-use Prim.Native.Nat.{ℕ, _+_, _*_, _≤_, _<_}
+use Prim.Native.Nat.{ℕ, _*_, _≤_, _<_}
 use native.Mathlib.Omega.{arith}
 use native.Mathlib.Decide.{ℕ-discrete, decLt}
 use lib.ListN.{length}
-use lib.Dec.{eqb, leb, ltb}
+use lib.Dec.{eqb, ltb}
 use borrow.Author.Tests.{lt-ltb, le-ltb}
-use Rattle.splits.specs.Problem.{Problem}
-use Rattle.search.specs.Agenda.{problemOf, stackOf, slotsIn}
-use Rattle.search.specs.FirstChecks.{orElse, refusalOfNumbers, refusalOfLengths, refusalOfProblem, refusalOfSearch, openRefusal, searchRefusal}
-use Rattle.files.proofs.Tests.{else-none, else-some}
-use Rattle.search.specs.FirstChecks.{Deserves-3, masksBelow, symmetric, wholeSlots, allObey, zerosFrom}
+use Rattle.search.specs.Agenda.{slotsIn}
+use Rattle.search.specs.FirstChecks.{Deserves-3, orElse, wholeSlots, refusalOfLengths, searchRefusal}
 use Rattle.search.specs.declared.state.State.{State}
+use Rattle.search.proofs.Exactly.{search-refusal-few}
 use Rattle.files.specs.Blocks.{blocksFor}
 use Rattle.files.specs.Reading.{saidN, saidD, saidSubproblems, Deserves-14, Deserves-15, refusalOfFile, refusalOfWords}
 use Rattle.files.specs.Calls.{handedContent, saveRefusal, loadRefusal}
 use Rattle.files.specs.Promises.{Deserves-13, Deserves-12-load}
+use Rattle.files.proofs.Tests.{one-of, else-none, else-some}
 use Rattle.files.proofs.Whole.{refusal-14, refusal-not-14, file-either}
 use Rattle.files.proofs.Accepted.{refusal-15, refusal-not-15, words-either}
 use Rattle.files.proofs.Loading.{Fits, lengths-fit, fit-lengths}
 
--- A choice of two numbers.
-one-of : (b : Bool) (x y : ℕ) → (cond b x y ≡ x) ⊎ (cond b x y ≡ y)
-one-of true x y = inl refl
-one-of false x y = inr refl
-
-up-to : (k : ℕ) (b : Bool) (x y : ℕ) → x ≤ k → y ≤ k → cond b x y ≤ k
-up-to k true x y h l = h
-up-to k false x y h l = l
-
 -- ---- save: 1 to 6, then 13
-
-else-le : (a b : ℕ) → a ≤ 6 → b ≤ 6 → orElse a b ≤ 6
-else-le a b h l = up-to 6 (eqb a 0) b a l h
-
-numbers-le : (n d : ℕ) → refusalOfNumbers n d ≤ 6
-unfolding refusalOfNumbers
-numbers-le n d =
-    up-to 6 (ltb n 1 || ltb 32 n) 1 (cond (ltb d 1 || ltb 16 d) 2 0) (omega arith) (up-to 6 (ltb d 1 || ltb 16 d) 2 0 (omega arith) (omega arith))
-
-lengths-le : (n d a b c : ℕ) → refusalOfLengths n d a b c ≤ 6
-unfolding refusalOfLengths
-lengths-le n d a b c = up-to 6 (eqb a n && eqb b (n * n * d) && wholeSlots n c) 0 3 (omega arith) (omega arith)
-
-problem-le : (p : Problem) → refusalOfProblem p ≤ 6
-unfolding refusalOfProblem
-problem-le p = up-to 6 (masksBelow p) (cond (symmetric p) 0 5) 4 (up-to 6 (symmetric p) 0 5 (omega arith) (omega arith)) (omega arith)
-
-search-le : (p : Problem) (agenda : List ℕ) (steps checks subproblems : ℕ) → refusalOfSearch p agenda steps checks subproblems ≤ 6
-unfolding refusalOfSearch
-search-le p agenda steps checks subproblems =
-    up-to 6 (leb subproblems (slotsIn (p .n) (length agenda)) && allObey p (stackOf (p .n) agenda subproblems)
-    && zerosFrom (subproblems * (p .n + 2)) agenda && leb checks (496 * steps)) 0 6 (omega arith) (omega arith)
-
-first-le : (n d : ℕ) (domains tables agenda : List ℕ) (steps checks subproblems : ℕ) → searchRefusal n d domains tables agenda steps checks subproblems ≤ 6
-unfolding searchRefusal openRefusal
-first-le n d domains tables agenda steps checks subproblems =
-    let three = refusalOfLengths n d (length domains) (length tables) (length agenda) in
-    let five = refusalOfProblem (problemOf n d domains tables) in
-    let six = refusalOfSearch (problemOf n d domains tables) agenda steps checks subproblems in
-    else-le (orElse (refusalOfNumbers n d) (orElse three five)) six
-    (else-le (refusalOfNumbers n d) (orElse three five) (numbers-le n d)
-    (else-le three five (lengths-le n d (length domains) (length tables) (length agenda)) (problem-le (problemOf n d domains tables))))
-    (search-le (problemOf n d domains tables) agenda steps checks subproblems)
 
 module _ (n d : ℕ) (domains tables agenda : List ℕ) (s : State) (file : List ℕ) where
   first : ℕ
@@ -96,7 +53,7 @@ module _ (n d : ℕ) (domains tables agenda : List ℕ) (s : State) (file : List
 
   small : first ≤ 6
   unfolding first
-  small = first-le n d domains tables agenda (s .counts .steps .0) (s .counts .checks .0) (s .subproblems)
+  small = search-refusal-few n d domains tables agenda (s .counts .steps .0) (s .counts .checks .0) (s .subproblems)
 
   -- 1 to 6 are those of the first checks.
   pub save-first : (j : ℕ) → 1 ≤ j → j ≤ 6 → (saveRefusal n d domains tables agenda s file ≡ j)

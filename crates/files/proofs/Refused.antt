@@ -11,7 +11,7 @@ use Rattle.splits.specs.Subproblems.{every}
 use Rattle.splits.proofs.Tests.{and-left, and-right}
 use Rattle.search.specs.Agenda.{slotsIn}
 use Rattle.search.specs.FirstChecks.{allObey, refusalOfNumbers, refusalOfLengths, sizesRefusal}
-use Rattle.search.proofs.FirstParts.{else-first, else-rest}
+use Rattle.search.proofs.FirstParts.{given-if, else-first, else-rest}
 use Rattle.files.specs.Blocks.{blocksFor}
 use Rattle.files.specs.Reading.{
   blocksIn,
@@ -30,7 +30,6 @@ use Rattle.files.specs.Reading.{
 }
 use Rattle.files.specs.Calls.{loadRefusal}
 use Rattle.files.specs.Work.Said.{Numbers, numbersSaid, zeroIn, filled, agendaStart, wordsOf, sizedIn}
-use Rattle.files.proofs.Tests.{passed}
 
 -- Tests in a row, in groups.
 grouped : (t a b c d e f : Bool) → (t && a && b && c && d && e && f) ≡ ((t && (a && b)) && (c && d && e && f))
@@ -78,7 +77,7 @@ module _ (file : List ℕ) where
 
   -- What was found of them, and that 15 is given if they do not fit.
   pub sized-found : (r : ℕ) → r ≡ cond (sizedIn file) 0 15 → r ≡ 0 → sizedIn file ≡ true
-  sized-found r e z = passed (sizedIn file) 15 (λ x. absurd (omega arith)) (sym e ∙ z)
+  sized-found r e z = given-if (sizedIn file) 15 (λ x. absurd (omega arith)) (sym e ∙ z)
 
   pub sized-refused : (r : ℕ) → r ≡ cond (sizedIn file) 0 15 → (r ≡ 0 → ⊥) → r ≡ refusalOfWords file
   sized-refused r e f = go (sizedIn file) refl
@@ -124,7 +123,7 @@ module _ (file : List ℕ) where
 
     -- What passing 15 leaves of them.
     pub numbers-passed : refusalOfWords file ≡ 0 → Numbers n d × (m ≤ 512)
-    numbers-passed e = sized-numbers (and-left (sizedIn file) rest (passed (sizedIn file && rest) 15 (λ z. absurd (omega arith)) (sym words-tests ∙ e)))
+    numbers-passed e = sized-numbers (and-left (sizedIn file) rest (given-if (sizedIn file && rest) 15 (λ z. absurd (omega arith)) (sym words-tests ∙ e)))
 
 -- ---- the refusal of load
 

@@ -12,13 +12,12 @@ use Rattle.splits.proofs.Tests.{and-left, and-right}
 use Rattle.search.specs.Agenda.{problemOf, slotsIn, stackOf}
 use Rattle.search.specs.FirstChecks.{wholeSlots, refusalOfLengths, allObey, zerosFrom, refusalOfSearch, openRefusal, searchRefusal}
 use Rattle.search.specs.declared.state.State.{State}
-use Rattle.search.proofs.FirstParts.{else-first, else-rest, else-pass, numbers-pass, lengths-pass, open-parts, slots-within}
+use Rattle.search.proofs.FirstParts.{given-if, else-first, else-rest, else-pass, numbers-pass, lengths-pass, open-parts, slots-within}
 use Rattle.files.specs.Blocks.{blocksFor, firstBlocks, fileOf}
 use Rattle.files.specs.Calls.{handedContent, saveRefusal, Saves}
 use Rattle.files.specs.Work.Said.{agendaStart, wordsOf}
 use Rattle.files.specs.Work.Saved.{Handed, handed, filePart}
 use Rattle.files.specs.declared.saved.Saved.{Saved}
-use Rattle.files.proofs.Tests.{passed}
 use Rattle.files.proofs.Blocks.{blocks-length}
 use Rattle.files.proofs.Written.{handed-length, file-same}
 use Rattle.files.proofs.LoadOutcomes.{given, not-given}
@@ -36,7 +35,7 @@ module _ (n d : ℕ) (domains tables agenda : List ℕ) (s : State) where
   unfolding refusalOfLengths
   whole e =
       and-right (eqb (length domains) n && eqb (length tables) (n * n * d)) (wholeSlots n (length agenda))
-      (passed (eqb (length domains) n && eqb (length tables) (n * n * d) && wholeSlots n (length agenda)) 3 (λ z. absurd (omega arith)) e)
+      (given-if (eqb (length domains) n && eqb (length tables) (n * n * d) && wholeSlots n (length agenda)) 3 (λ z. absurd (omega arith)) e)
 
   -- There is a slot for each subproblem.
   room : refusalOfSearch (problemOf n d domains tables) agenda (s .counts .steps .0) (s .counts .checks .0) (s .subproblems) ≡ 0
@@ -48,7 +47,7 @@ module _ (n d : ℕ) (domains tables agenda : List ℕ) (s : State) where
       let c : Bool = zerosFrom (s .subproblems * (n + 2)) agenda in
       let f : Bool = leb (s .counts .checks .0) (496 * s .counts .steps .0) in
       leb-true (s .subproblems) (slotsIn n (length agenda))
-      (and-left a b (and-left (a && b) c (and-left (a && b && c) f (passed (a && b && c && f) 6 (λ z. absurd (omega arith)) e))))
+      (and-left a b (and-left (a && b) c (and-left (a && b && c) f (given-if (a && b && c && f) 6 (λ z. absurd (omega arith)) e))))
 
   -- What the first checks leave where they pass.
   pub first-passed : searchRefusal n d domains tables agenda (s .counts .steps .0) (s .counts .checks .0) (s .subproblems) ≡ 0 → Handed n d domains tables agenda s

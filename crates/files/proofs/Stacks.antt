@@ -12,8 +12,9 @@ use lib.ListN.{length, getD, take, drop, replicate, length-append, length-take, 
 use lib.Seq.{length-take-le, take-suc, take-all, take-at, drop-at, take-add, getD-at, getD-append-add, getD-drop, getD-take, ext-getD}
 use Rattle.splits.specs.declared.subproblem.Subproblem.{Subproblem}
 use Rattle.search.specs.Agenda.{holding, slotWords, subproblemOf, slotAt, stackOf, stackWords, agendaOf}
+use Rattle.search.proofs.Copies.{zeros-at}
 use Rattle.files.specs.Promises.{Canonical}
-use Rattle.files.proofs.Lists.{zeros-at, padded-at}
+use Rattle.files.proofs.Lists.{padded-at}
 
 -- ---- one slot
 

@@ -17,12 +17,14 @@ use Rattle.splits.specs.Problem.{total}
 use Rattle.splits.specs.Subproblems.{every}
 use Rattle.splits.specs.Splits.{below}
 use Rattle.splits.proofs.Tests.{and-left, and-right, every-at}
+use Rattle.search.proofs.Decisions.{Refutes, every-fails}
+use Rattle.search.proofs.FirstParts.{given-if}
 use Rattle.files.specs.Blocks.{fileBytes, wordAt, checkOf, blocksFor, headedBlock, blockWords, firstBlocks, fileOf}
 use Rattle.files.specs.Content.{each}
 use Rattle.files.specs.Reading.{blocksIn, blockWord, headOf, contentWord, Deserves-14, goodBlock, refusalOfFile}
 use Rattle.files.proofs.Lists.{total-const, each-same, map-is, map-same, seq, seq-is, seq-each}
 use Rattle.files.proofs.Words.{bytes-read}
-use Rattle.files.proofs.Tests.{and-cases, every-found, refused, passed, either}
+use Rattle.files.proofs.Tests.{and-cases, one-of, given-exactly, not-given-exactly}
 use Rattle.files.proofs.Blocks.{content-at, headed-length, block-length, block-headed, block-check, blocks-words}
 
 -- A file of 1 to 101 whole blocks, each with the number, count and check that are right.
@@ -80,7 +82,7 @@ module _ (file : List ℕ) where
       (λ x. ⊎-elim
       (λ y. ⊎-elim (λ z. inl (inl (eqb-false (length file) (blocksIn file * 512) z))) (λ z. inl (inr (inl (leb-false 1 (blocksIn file) z)))) (and-cases sized least y))
       (λ y. inl (inr (inr (leb-false (blocksIn file) 101 y)))) (and-cases (sized && least) most x))
-      (λ x. let (b, l, bad) = every-found (goodBlock file) (blocksIn file) x in inr (b, l, wrong b bad))
+      (λ x. let (b, l, bad) = every-fails (goodBlock file) (blocksIn file) x in inr (b, l, wrong b bad))
       (and-cases (sized && least && most) all e)
     where
       wrong : (b : ℕ) → goodBlock file b ≡ false
@@ -94,7 +96,7 @@ module _ (file : List ℕ) where
           (and-cases number count x))
           (λ x. inr (inr (eqb-false (blockWord file b 255) (checkOf (headOf file b)) x))) (and-cases (number && count) check e)
 
-  -- 14 is given exactly if it is deserved.
+  -- A whole file does not deserve 14.
   pub whole-deserves-not : Whole file → Deserves-14 file → ⊥
   whole-deserves-not w (inl (inl f)) = f (w .whole)
   whole-deserves-not w (inl (inr (inl l))) = omega (arith, w .some)
@@ -105,27 +107,23 @@ module _ (file : List ℕ) where
 
   -- Passing 14 says that the file is whole.
   pub file-whole : refusalOfFile file ≡ 0 → Whole file
-  file-whole e = tests-whole (passed tests 14 (λ z. absurd (omega arith)) (sym is-tests ∙ e))
+  file-whole e = tests-whole (given-if tests 14 (λ z. absurd (omega arith)) (sym is-tests ∙ e))
+
+  -- The tests fail exactly where 14 is deserved.
+  tests-refute : Refutes tests (Deserves-14 file)
+  tests-refute = record { holds = tests-deserve; fails = λ e. whole-deserves-not (tests-whole e) }
 
   -- 14 is given exactly if it is deserved.
   pub refusal-14 : (refusalOfFile file ≡ 14) ↔ Deserves-14 file
-  refusal-14 = (λ e. tests-deserve (refused tests 14 (λ z. absurd (omega arith)) (sym is-tests ∙ e)), λ g. is-tests ∙ go tests refl g)
-    where
-      go : (b : Bool) → tests ≡ b → Deserves-14 file → _≡_ {A = ℕ} (cond b 0 14) 14
-      go true e g = absurd (whole-deserves-not (tests-whole e) g)
-      go false e g = refl
+  refusal-14 = rw is-tests (given-exactly tests 14 (Deserves-14 file) (λ z. absurd (omega arith)) tests-refute)
 
   -- And 0 exactly if it is not.
   pub refusal-not-14 : (refusalOfFile file ≡ 0) ↔ (Deserves-14 file → ⊥)
-  refusal-not-14 = (λ e. whole-deserves-not (file-whole e), λ g. is-tests ∙ go tests refl g)
-    where
-      go : (b : Bool) → tests ≡ b → (Deserves-14 file → ⊥) → _≡_ {A = ℕ} (cond b 0 14) 0
-      go true e g = refl
-      go false e g = absurd (g (tests-deserve e))
+  refusal-not-14 = rw is-tests (not-given-exactly tests 14 (Deserves-14 file) (λ z. absurd (omega arith)) tests-refute)
 
   -- The answer is 0 or 14.
   pub file-either : (refusalOfFile file ≡ 0) ⊎ (refusalOfFile file ≡ 14)
-  file-either = ⊎-elim (λ e. inl (is-tests ∙ rw e refl)) (λ e. inr (is-tests ∙ rw e refl)) (either tests)
+  file-either = rw is-tests (one-of tests 0 14)
 
   -- ---- the blocks of what was read
 

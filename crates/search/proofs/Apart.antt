@@ -30,7 +30,7 @@ same-refuted true false A B s t f g = absurd (s .fails refl (g (t .holds refl)))
 same-refuted false true A B s t f g = absurd (t .fails refl (f (s .holds refl)))
 
 -- where the first of two refusals passes, the second decides
-else-same : (a b c : ℕ) → (a ≡ 0 → b ≡ c) → orElse a b ≡ orElse a c
+pub else-same : (a b c : ℕ) → (a ≡ 0 → b ≡ c) → orElse a b ≡ orElse a c
 else-same a b c f = elim (ℕ-discrete a 0) [ yes e ↦ simp (f e) | no g ↦ simp (ne-eqb a 0 g) ]
 
 module _ (n d : ℕ) (domains : List ℕ) where

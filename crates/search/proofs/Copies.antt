@@ -27,6 +27,12 @@ drop-zeros zero (suc i) = let e : 0 ≡ 0 - suc i = omega arith in ap (λ (j : �
 drop-zeros (suc k) zero = let e : suc k ≡ suc k - 0 = omega arith in ap (λ (j : ℕ). replicate {A = ℕ} j 0) e
 drop-zeros (suc k) (suc i) = let e : k - i ≡ suc k - suc i = omega arith in drop-zeros k i ∙ ap (λ (j : ℕ). replicate {A = ℕ} j 0) e
 
+-- Zeros are 0 everywhere, past their end too.
+pub zeros-at : (k i : ℕ) → _≡_ {A = ℕ} (getD (replicate k 0) i 0) 0
+zeros-at zero i = refl
+zeros-at (suc k) zero = refl
+zeros-at (suc k) (suc i) = zeros-at k i
+
 -- Zeros of a number of words.
 pub zeros-end : (d m : List ℕ) (i : ℕ) → m ≡ replicate i 0 ++ drop i d → i ≡ length d → m ≡ replicate (length d) 0
 zeros-end d m i e h = rw (e, h, drop-length, append-nil) refl

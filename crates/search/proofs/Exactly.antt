@@ -61,7 +61,7 @@ requests-few n words = cond-few (eqb (words % (n + 3)) 0) 0 3 6 (omega arith) (o
 else-few : (a b : ℕ) → a ≤ 6 → b ≤ 6 → orElse a b ≤ 6
 else-few a b h k = cond-few (eqb a 0) b a 6 k h
 
-search-refusal-few : (n d : ℕ) (domains tables agenda : List ℕ) (steps checks subproblems : ℕ) → searchRefusal n d domains tables agenda steps checks subproblems ≤ 6
+pub search-refusal-few : (n d : ℕ) (domains tables agenda : List ℕ) (steps checks subproblems : ℕ) → searchRefusal n d domains tables agenda steps checks subproblems ≤ 6
 unfolding searchRefusal openRefusal
 search-refusal-few n d domains tables agenda steps checks subproblems =
     let p : Problem = problemOf n d domains tables in

@@ -3,11 +3,10 @@
 use mathlib.Core.Path.{_≡_, refl, sym, ap, _∙_}
 use mathlib.Core.Bool.{true, cond}
 use mathlib.Core.List.{List, _++_}
-use Prim.Native.Nat.{ℕ, zero, suc, _+_, _-_, _*_, _/_, _%_, _^_, _≤_, _<_}
+use Prim.Native.Nat.{ℕ, _+_, _-_, _*_, _/_, _%_, _^_, _≤_, _<_}
 use native.Mathlib.Omega.{arith}
 use native.Mathlib.Decide.{decLt, ℕ-discrete}
 use native.Mathlib.Numerals.{add-one}
-use native.Mathlib.Nat.{one-mul, mod-eq-of-lt}
 use lib.ListN.{length, getD, set, take, drop, replicate, length-set, length-append, length-take, length-drop, length-replicate, List·getD-append}
 use lib.Seq.{length-take-le, getD-set-same, getD-set-other, getD-take, getD-drop, getD-append-add, take-take, ext-getD}
 use lib.Bits.{bitOr}
@@ -16,12 +15,14 @@ use lib.Dec.{eqb, ltb, leb}
 use borrow.Author.Tests.{lt-ltb, le-ltb, eqb-true, le-leb, lt-leb}
 use Rattle.splits.specs.Masks.{bit, common, minus, size}
 use Rattle.splits.specs.Subproblems.{every}
-use Rattle.splits.proofs.Masks.{common-none, not-minus, single-lt}
+use Rattle.splits.proofs.Masks.{common-none, not-minus}
 use Rattle.splits.proofs.Tests.{every-at}
 use Rattle.splits.proofs.Loops.{changed-more, changed-next}
+use Rattle.splits.proofs.Subproblems.{shifted}
 use Rattle.search.specs.Agenda.{holding, subproblemOf, slotAt}
 use Rattle.search.specs.Work.Slots.{SlotIn}
 use Rattle.search.specs.Work.Lanes.{Half, Beyond, Below, Kept, KeptTo, keyOf, Sides, joinedTo}
+use Rattle.search.proofs.Copies.{zeros-at}
 use Rattle.search.proofs.Joining.{bit-shr}
 use Rattle.search.proofs.Turning.{bit-low}
 
@@ -45,11 +46,8 @@ unfolding every bit
 all-beyond = refl
 
 -- As the code shifts.
-pub shift-is : (i : ℕ) → i ≤ 32 → 1 * 2 ^ i % 2 ^ 64 ≡ 2 ^ i
-shift-is i h = simp one-mul (mod-eq-of-lt (single-lt 64 i (omega arith)))
-
 pub shift-small : (i : ℕ) → i ≤ 32 → (1 ≤ 1 * 2 ^ i % 2 ^ 64) × (1 * 2 ^ i % 2 ^ 64 ≤ 4294967296)
-shift-small i h = rw (shift-is i h) (pow-pos i, pow-mono h)
+shift-small i h = rw (shifted i h) (pow-pos i, pow-mono h)
 
 pub beyond-is : (i : ℕ) → i ≤ 32 → Beyond i (4294967296 - 2 ^ i)
 beyond-is i h = record {
@@ -68,12 +66,6 @@ beyond-is i h = record {
 pub all-common : (x : ℕ) → x < 2 ^ 16 → common x 65535 ≡ x
 unfolding minus
 all-common x h = not-minus 16 x 0 h (omega arith) ∙ rw (common-none x) (omega arith)
-
--- A word of zeros.
-zeros-at : (k i : ℕ) → getD (replicate {A = ℕ} k 0) i 0 ≡ 0
-zeros-at zero i = refl
-zeros-at (suc k) zero = refl
-zeros-at (suc k) (suc i) = zeros-at k i
 
 -- No lane yet, and one more.
 pub below-none : Below 0 (replicate 32 0)

@@ -8,7 +8,7 @@ use Prim.Native.Nat.{ℕ, zero, suc, _+_, _-_, _*_, _/_, _%_, _^_, _≤_, _<_}
 use native.Mathlib.Omega.{arith}
 use native.Mathlib.Decide.{ℕ-discrete, decLt}
 use native.Mathlib.Nat.{mul-le-mul-right, mod-lt, div-lt-iff-lt-mul, lt-of-lt-of-le, mul-div-cancel, le-of-eq}
-use lib.ListN.{length, getD, take, drop, replicate, length-append, length-replicate, List·getD-eq-default}
+use lib.ListN.{length, getD, take, drop, length-append, length-replicate, List·getD-eq-default}
 use lib.Seq.{getD-append-add, length-take-le}
 use lib.Pow.{pow-mono, pow-pos}
 use lib.Dec.{eqb}
@@ -38,6 +38,7 @@ use Rattle.search.proofs.Runs.{run-ind}
 use Rattle.search.proofs.Refusals.{is-none}
 use Rattle.search.proofs.Passing.{step-is, step-passes, run-passes, top-held}
 use Rattle.search.proofs.Shapes.{pieces-regular}
+use Rattle.search.proofs.Copies.{zeros-at}
 use Rattle.search.proofs.Encoding.{length-stack, length-stackOf, length-agenda, agenda-back}
 
 -- Every subproblem of a stack has the shape of a slot.
@@ -69,7 +70,8 @@ module _ (n d : ℕ) (domains tables : List ℕ) (room : ℕ) (fit : Fitting n d
 
 -- ---- words of 16 bits
 
-append-small : (B : ℕ) (a b : List ℕ) → ((i : ℕ) → getD a i 0 < B) → ((i : ℕ) → getD b i 0 < B) → (i : ℕ) → getD (a ++ b) i 0 < B
+-- two lists of numbers below B, one after the other, are such a list
+pub append-small : (B : ℕ) (a b : List ℕ) → ((i : ℕ) → getD a i 0 < B) → ((i : ℕ) → getD b i 0 < B) → (i : ℕ) → getD (a ++ b) i 0 < B
 append-small B [] b h k i = k i
 append-small B (x ∷ a) b h k zero = h 0
 append-small B (x ∷ a) b h k (suc i) = append-small B a b (λ j. h (suc j)) k i
@@ -79,11 +81,6 @@ take-small B zero a z h i = z
 take-small B (suc n) [] z h i = z
 take-small B (suc n) (x ∷ a) z h zero = h 0
 take-small B (suc n) (x ∷ a) z h (suc i) = take-small B n a z (λ j. h (suc j)) i
-
-zeros-none : (k i : ℕ) → _≡_ {A = ℕ} (getD (replicate k 0) i 0) 0
-zeros-none zero i = refl
-zeros-none (suc k) zero = refl
-zeros-none (suc k) (suc i) = zeros-none k i
 
 two-small : (B a b : ℕ) → a < B → b < B → (i : ℕ) → getD (a ∷ b ∷ []) i 0 < B
 two-small B a b h k zero = h
@@ -107,7 +104,7 @@ stack-small n d (P ∷ S) small h =
 pub agenda-small : (n d L : ℕ) (S : List Subproblem) → d ≤ 16 → Shaped n d S → (i : ℕ) → getD (agendaOf n L S) i 0 < 2 ^ 16
 unfolding agendaOf
 agenda-small n d L S small h =
-    append-small (2 ^ 16) (stackWords n S) _ (stack-small n d S small h) (λ i. rw (zeros-none (L - length (stackWords n S)) i) (omega arith))
+    append-small (2 ^ 16) (stackWords n S) _ (stack-small n d S small h) (λ i. rw (zeros-at (L - length (stackWords n S)) i) (omega arith))
 
 -- past the stack's words stand zeros
 pub agenda-zeros : (n d L : ℕ) (S : List Subproblem) → n ≤ 32 → Shaped n d S → (k : ℕ) → length S * (n + 2) ≤ k
@@ -116,7 +113,7 @@ unfolding agendaOf
 agenda-zeros n d L S few h k l =
     let long : length (stackWords n S) ≡ length S * (n + 2) = length-stack n S (λ P m. omega (arith, h P m .long)) in
     let at : k ≡ length (stackWords n S) + (k - length (stackWords n S)) = omega arith in
-    rw at (getD-append-add (stackWords n S) _ (k - length (stackWords n S)) 0 ∙ zeros-none (L - length (stackWords n S)) (k - length (stackWords n S)))
+    rw at (getD-append-add (stackWords n S) _ (k - length (stackWords n S)) 0 ∙ zeros-at (L - length (stackWords n S)) (k - length (stackWords n S)))
 
 -- ---- what a call leaves
 
@@ -302,10 +299,10 @@ holding-shape n d domains few long small =
     let part : length (take n domains) ≡ n = length-take-le n domains (le-of-eq (sym long)) in
     record {
       long = simp (length-append, length-replicate, part) (omega arith);
-      masks = append-small (2 ^ d) (take n domains) _ (take-small (2 ^ d) n domains (pow-pos d) each) (λ i. rw (zeros-none (32 - n) i) (pow-pos d));
+      masks = append-small (2 ^ d) (take n domains) _ (take-small (2 ^ d) n domains (pow-pos d) each) (λ i. rw (zeros-at (32 - n) i) (pow-pos d));
       past = λ i h.
           let at : i ≡ length (take n domains) + (i - n) = omega arith in
-          rw at (getD-append-add (take n domains) _ (i - n) 0 ∙ zeros-none (32 - n) (i - n));
+          rw at (getD-append-add (take n domains) _ (i - n) 0 ∙ zeros-at (32 - n) (i - n));
       marks = omega arith;
     }
 

@@ -23,14 +23,10 @@ use Rattle.splits.specs.Work.Ranges.{Sized}
 use Rattle.splits.proofs.Ranges.{word-at}
 use Rattle.splits.proofs.Masks.{bit-or, bit-above, bit-lt, bit-none, bit-ext}
 use Rattle.splits.proofs.Tests.{and-left, and-right, or-cases, every-at, every-all, same-test}
+use Rattle.splits.proofs.Refusals.{every-same}
 use Rattle.search.specs.FirstChecks.{zerosFrom}
 use Rattle.search.specs.Work.Matrices.{rowIn}
 use Rattle.search.specs.Work.FirstTests.{joined, domainBelow, maskBelow, pairBelow, spanBelow, rowBelow}
-
-pub every-same : (f g : ℕ → Bool) (n : ℕ) → ((i : ℕ) → i < n → f i ≡ g i) → every n f ≡ every n g
-unfolding every
-every-same f g zero h = refl
-every-same f g (suc n) h = rw (every-same f g n (λ i l. h i (omega arith)), h n (omega arith))
 
 -- a digit of a word shifted down
 pub bit-shr : (m s p : ℕ) → bit (m / 2 ^ s) p ≡ bit m (s + p)

@@ -4,7 +4,7 @@ use mathlib.Core.Path.{_≡_, refl, sym, ap, _∙_, subst}
 use mathlib.Core.Bool.{Bool, true, or-true}
 use mathlib.Core.List.{List, _++_}
 use mathlib.Core.Logic.{⊎-elim}
-use Prim.Native.Nat.{ℕ, zero, suc, _+_, _-_, _*_, _/_, _%_, _^_, _≤_, _<_}
+use Prim.Native.Nat.{ℕ, _+_, _-_, _*_, _/_, _%_, _^_, _≤_, _<_}
 use native.Mathlib.Omega.{arith}
 use native.Mathlib.Decide.{decLt}
 use native.Mathlib.Nat.{lt-of-lt-of-le, mul-le-mul-right}
@@ -21,11 +21,12 @@ use Rattle.splits.specs.Work.Ranges.{Sized}
 use Rattle.splits.proofs.Masks.{bit-none, bit-above}
 use Rattle.splits.proofs.Ranges.{word-at}
 use Rattle.splits.proofs.Tests.{or-cases, every-at, every-all, same-test}
+use Rattle.splits.proofs.Refusals.{every-same}
 use Rattle.search.specs.declared.matrix.Matrix.{Matrix}
 use Rattle.search.specs.Work.Matrices.{Words, rowIn, four, matrixOf, columns, difference}
 use Rattle.search.specs.Work.FirstTests.{Narrow, maskBelow, pairBelow, rowBelow, bothWays, valueBothWays, pairBothWays, rowBothWays, joined, padded, oneWay}
-use Rattle.search.proofs.Copies.{drop-zeros}
-use Rattle.search.proofs.Joining.{joined-zero, every-same}
+use Rattle.search.proofs.Copies.{drop-zeros, zeros-at}
+use Rattle.search.proofs.Joining.{joined-zero}
 use Rattle.search.proofs.Turning.{cell, matrix-cell, matrix-words, four-lt, mirror, same-cells, same-words, quarters-same, turned-lt}
 
 -- a copy of all rows, and zeros
@@ -122,11 +123,6 @@ unfolding oneWay
 one-way-found d i j r allowed m u o em eu eo e = rw (eu, em, eo) at e
 
 -- ---- the words of two variables
-
-zeros-at : (k i : ℕ) → _≡_ {A = ℕ} (getD {A = ℕ} (replicate k 0) i 0) 0
-zeros-at zero i = refl
-zeros-at (suc k) zero = refl
-zeros-at (suc k) (suc i) = zeros-at k i
 
 -- a row past so many is zero, and each before them is theirs
 padded-row : (x : List ℕ) (d a : ℕ) (f : ℕ → ℕ) → length x ≡ d → ((v : ℕ) → v < d → getD x v 0 ≡ f v)

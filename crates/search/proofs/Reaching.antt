@@ -27,6 +27,7 @@ use Rattle.search.specs.Runs.{Search, step, refusalOfRequest, run}
 use Rattle.search.specs.Chooser.{choose}
 use Rattle.search.specs.Calls.{opening}
 use Rattle.search.specs.Promises.{Passes, Reached, opened, ran, chose, moved, Has-solution, picks}
+use Rattle.search.proofs.Copies.{zeros-at}
 use Rattle.search.proofs.Verdicts.{running-top}
 use Rattle.search.proofs.Runs.{run-ind}
 use Rattle.search.proofs.Passing.{step-is, splits, step-passes}
@@ -112,14 +113,9 @@ move-holds p limit room other s l h = record {
 -- ---- opening
 
 -- A list of n and zeros after it holds at a place below n what the list does.
-zeros : (k i : ℕ) → _≡_ {A = ℕ} (getD (replicate k 0) i 0) 0
-zeros zero i = refl
-zeros (suc k) zero = refl
-zeros (suc k) (suc i) = zeros k i
-
 padded : (n k : ℕ) (l : List ℕ) (i : ℕ) → i < n → getD (take n l ++ replicate k 0) i 0 ≡ getD l i 0
 padded zero k l i h = absurd (omega arith)
-padded (suc n) k [] i h = zeros k i
+padded (suc n) k [] i h = zeros-at k i
 padded (suc n) k (x ∷ l) zero h = refl
 padded (suc n) k (x ∷ l) (suc i) h = padded n k l i (le-of-suc-le-suc h)
 

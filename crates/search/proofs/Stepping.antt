@@ -18,11 +18,12 @@ use Rattle.splits.specs.Problem.{Problem, tableOf, total}
 use Rattle.splits.specs.Subproblems.{domain}
 use Rattle.splits.specs.Requests.{kindOf, variableOf, valueOf}
 use Rattle.splits.specs.Splits.{below, keep, forbids, pieces}
-use Rattle.splits.specs.Checks.{lookedAt, others, tried, valuesIn, checks}
+use Rattle.splits.specs.Checks.{others, tried, valuesIn, checks}
 use Rattle.splits.specs.Calls.{readable}
 use Rattle.splits.specs.declared.subproblem.Subproblem.{Subproblem}
 use Rattle.splits.proofs.ByKind.{kind-any}
 use Rattle.splits.proofs.Looking.{keep-append}
+use Rattle.splits.proofs.CheckLimit.{looked-le}
 use Rattle.search.specs.Agenda.{problemOf, subproblemOf, slotAt, stackOf, stackWords, slotsIn, agendaOf}
 use Rattle.search.specs.Verdicts.{finished}
 use Rattle.search.specs.Runs.{Search, splitTop, step, refusalOfTop, refusalOfRequest, runFrom}
@@ -42,16 +43,6 @@ total-up-to : (c n : ℕ) (g : ℕ → ℕ) → ((i : ℕ) → g i ≤ c) → to
 unfolding total
 total-up-to c zero g h = omega arith
 total-up-to c (suc n) g h = omega (arith, total-up-to c n g h, h n)
-
--- Those looked at are at most those kept, and those at most all.
-looked-le : (f : ℕ → Bool) (l : List ℕ) → lookedAt f l ≤ length l
-unfolding lookedAt
-looked-le f [] = omega arith
-looked-le f (i ∷ is) = go (f i) (looked-le f is)
-  where
-    go : (b : Bool) → lookedAt f is ≤ length is → suc (cond b 0 (lookedAt f is)) ≤ suc (length is)
-    go true h = omega arith
-    go false h = omega arith
 
 -- Those kept are at most all.
 kept-le : (t : ℕ → Bool) (n : ℕ) → length (keep t (below n)) ≤ n

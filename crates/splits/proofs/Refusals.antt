@@ -255,7 +255,7 @@ module _ (n d : ℕ) (P : Subproblem) (r : List ℕ) where
 -- ---- the words that a kind reads
 
 -- what is worked out alike of functions that agree below n
-every-same : (f g : ℕ → Bool) (n : ℕ) → ((i : ℕ) → i < n → f i ≡ g i) → every n f ≡ every n g
+pub every-same : (f g : ℕ → Bool) (n : ℕ) → ((i : ℕ) → i < n → f i ≡ g i) → every n f ≡ every n g
 unfolding every
 every-same f g zero h = refl
 every-same f g (suc n) h = rw (every-same f g n (λ i l. h i (omega arith)), h n (omega arith))

@@ -5,8 +5,9 @@ use mathlib.Core.Path.{_≡_, refl}
 use Prim.Native.Nat.{_-_, _*_, _≤_}
 use native.Mathlib.Omega.{arith}
 use Rattle.splits.specs.Problem.{total}
+use Rattle.search.proofs.AtOnce.{total-turn}
 use Rattle.files.specs.Work.Said.{valueAt}
-use Rattle.files.proofs.Places.{total-none, total-more, total-end}
+use Rattle.files.proofs.Places.{total-none, total-end}
 use Rattle.files.proofs.Found.{value-of}
 use Rattle.files.proofs.checksum.sum.Statement.{statement}
 use Rattle.files.proofs.checksum.sum.Tie as tie
@@ -41,7 +42,7 @@ loop-less c = search needs
 loop-again : tie.Need-loop-again Inv-loop μ-loop
 loop-again c =
     let inv = c .before .before .loop .inv in
-    (omega arith, (total-more _ _ _ _ (inv .1 .0) (value-of _ _ _ refl), omega (arith, c .shared-slice-known .given (c .before .before .loop .k))))
+    (omega arith, (total-turn _ _ _ _ (inv .1 .0) (value-of _ _ _ refl), omega (arith, c .shared-slice-known .given (c .before .before .loop .k))))
 
 returns : tie.Need-returns Inv-loop μ-loop
 returns c =
