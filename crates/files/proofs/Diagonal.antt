@@ -22,7 +22,7 @@ use Rattle.search.specs.declared.state.State.{State}
 use Rattle.search.specs.declared.state.Opened.{Opened}
 use Rattle.search.specs.declared.state.Ran.{Ran}
 use Rattle.search.proofs.FirstParts.{else-pass}
-use Rattle.search.proofs.Apart.{else-same}
+use Rattle.search.proofs.Apart.{apart-open, apart-search, apart-run}
 use Rattle.files.specs.Content.{contentOf}
 use Rattle.files.specs.Calls.{handedContent, saveRefusal, Saves}
 use Rattle.search.specs.Promises.{AgreeApart}
@@ -65,66 +65,17 @@ ends-swap first n before after s x y r h e = elim (ℕ-discrete first 0) [
 ]
 
 module _ (n d : ℕ) (domains tables tables′ : List ℕ) (same : AgreeApart n d tables tables′) where
-  four-same : refusalOfProblem (problemOf n d domains tables) ≡ refusalOfProblem (problemOf n d domains tables′)
-  four-same = problem-agree (problemOf n d domains tables) (tableOf n d tables′) (same .masks)
-
-  three-same : (agenda : ℕ) → refusalOfLengths n d (length domains) (length tables) agenda ≡ refusalOfLengths n d (length domains) (length tables′) agenda
-  three-same agenda = ap (λ (x : ℕ). refusalOfLengths n d (length domains) x agenda) (same .words)
-
-  obey-same : Proper (problemOf n d domains tables) → (S : List Subproblem) → allObey (problemOf n d domains tables) S ≡ allObey (problemOf n d domains tables′) S
-  obey-same proper S =
-      let whole : ℕ → ℕ = λ i. getD domains i 0 in
-      let small = proper-small (problemOf n d domains tables) proper in
-      same-test (allObey (problemOf n d domains tables) S) (allObey (problemOf n d domains tables′) S)
-      (λ e. rules-all (problemOf n d domains tables′) small S (λ P m.
-      rules-agree n d whole (tableOf n d tables) (tableOf n d tables′) (same .masks) (proper .domains) P (all-rules (problemOf n d domains tables) small S e P m)))
-      (λ e. rules-all (problemOf n d domains tables) small S (λ P m.
-      rules-agree n d whole (tableOf n d tables′) (tableOf n d tables) (agree-back (tableOf n d tables) (tableOf n d tables′) (same .masks)) (proper .domains) P
-      (all-rules (problemOf n d domains tables′) small S e P m)))
-
-  six-same : Proper (problemOf n d domains tables) → (agenda : List ℕ) (steps checks subproblems : ℕ)
-      → refusalOfSearch (problemOf n d domains tables) agenda steps checks subproblems ≡ refusalOfSearch (problemOf n d domains tables′) agenda steps checks subproblems
-  unfolding refusalOfSearch
-  six-same proper agenda steps checks subproblems = rw (obey-same proper (stackOf n agenda subproblems)) refl
-
-  -- The first checks.
+  -- The first checks: of opening, of chooser and save, of a run.
   pub open-same : (agenda : List ℕ) → openRefusal n d domains tables agenda ≡ openRefusal n d domains tables′ agenda
-  unfolding openRefusal
-  open-same agenda = rw (three-same (length agenda), four-same) refl
+  open-same agenda = apart-open n d domains tables tables′ agenda same
 
-  -- Those of chooser and save.
   pub search-same : (agenda : List ℕ) (steps checks subproblems : ℕ)
       → searchRefusal n d domains tables agenda steps checks subproblems ≡ searchRefusal n d domains tables′ agenda steps checks subproblems
-  unfolding searchRefusal openRefusal
-  search-same agenda steps checks subproblems =
-      let six = refusalOfSearch (problemOf n d domains tables) agenda steps checks subproblems in
-      let six′ = refusalOfSearch (problemOf n d domains tables′) agenda steps checks subproblems in
-      else-same (openRefusal n d domains tables agenda) six six′
-      (λ e.
-      let three = refusalOfLengths n d (length domains) (length tables) (length agenda) in
-      let five = refusalOfProblem (problemOf n d domains tables) in
-      let (a, x) = else-pass (refusalOfNumbers n d) (orElse three five) e in
-      let (b, y) = else-pass three five x in
-      six-same (open-proper n d domains tables agenda a y) agenda steps checks subproblems)
-      ∙ ap (λ (x : ℕ). orElse x six′) (open-same agenda)
+  search-same agenda steps checks subproblems = apart-search n d domains tables tables′ agenda steps checks subproblems same
 
-  -- Those of a run.
   pub run-refusal-same : (agenda requests : List ℕ) (steps checks subproblems : ℕ)
       → runRefusal n d domains tables agenda requests steps checks subproblems ≡ runRefusal n d domains tables′ agenda requests steps checks subproblems
-  unfolding runRefusal
-  run-refusal-same agenda requests steps checks subproblems =
-      let six = refusalOfSearch (problemOf n d domains tables) agenda steps checks subproblems in
-      let six′ = refusalOfSearch (problemOf n d domains tables′) agenda steps checks subproblems in
-      let five = refusalOfProblem (problemOf n d domains tables) in
-      let five′ = refusalOfProblem (problemOf n d domains tables′) in
-      let three : ℕ = refusalOfLengths n d (length domains) (length tables) (length agenda) in
-      let three′ : ℕ = refusalOfLengths n d (length domains) (length tables′) (length agenda) in
-      let also : ℕ = refusalOfRequests n (length requests) in
-      else-same (refusalOfNumbers n d) (orElse three (orElse also (orElse five six))) (orElse three′ (orElse also (orElse five′ six′)))
-      (λ a. ap (λ (x : ℕ). orElse x (orElse also (orElse five six))) (three-same (length agenda))
-      ∙ else-same three′ (orElse also (orElse five six)) (orElse also (orElse five′ six′))
-      (λ b. else-same also (orElse five six) (orElse five′ six′)
-      (λ c. else-same five six six′ (λ e. six-same (open-proper n d domains tables agenda a e) agenda steps checks subproblems) ∙ ap (λ (x : ℕ). orElse x six′) four-same)))
+  run-refusal-same agenda requests steps checks subproblems = apart-run n d domains tables tables′ agenda requests steps checks subproblems same
 
   -- The content.
   pub content-same : (agenda : List ℕ) (s : State) → handedContent n d domains tables agenda s ≡ handedContent n d domains tables′ agenda s
