@@ -5,15 +5,15 @@ use native.Mathlib.Nat.{mul-div-cancel, mul-le-mul-right, div-mul-le-self, le-tr
 use native.Mathlib.Decide.{ℕ-discrete}
 use mathlib.Core.Path.{_≡_, refl, sym, ap, _∙_}
 use mathlib.Core.Logic.{inl, inr}
-use mathlib.Core.Bool.{true, cond}
-use mathlib.Core.List.{List, _++_}
-use Prim.Native.Nat.{ℕ, _+_, _*_, _/_, _≤_, _<_}
+use mathlib.Core.Bool.{true}
+use mathlib.Core.List.{List}
+use Prim.Native.Nat.{ℕ, _+_, _*_, _/_, _≤_}
 use lib.ListN.{length}
-use lib.Dec.{eqb, ltb}
+use lib.Dec.{eqb}
 use borrow.Author.Tests.{eq-eqb, ne-eqb}
 use Rattle.splits.specs.Problem.{Problem}
 use Rattle.search.specs.Agenda.{problemOf, stackOf, slotsIn}
-use Rattle.search.specs.FirstChecks.{orElse, refusalOfLengths, searchRefusal}
+use Rattle.search.specs.FirstChecks.{searchRefusal}
 use Rattle.search.specs.Runs.{Search, Stopped, run}
 use Rattle.search.specs.Verdicts.{numberOf, verdictOf}
 use Rattle.search.specs.Chooser.{choose}
@@ -23,13 +23,13 @@ use Rattle.search.specs.declared.state.Ran.{Ran}
 use Rattle.search.proofs.FirstPassing.{search-is-passed}
 use Rattle.search.specs.declared.state.Verdict.the-variants.{Solved}
 use Rattle.search.proofs.Promises.{chooser-leaves, stops, picks as picks-run}
-use Rattle.files.specs.Reading.{saidN, saidD, saidSubproblems, saidDomains, saidAllowed, saidSearch, tableWords, refusalOfFile, refusalOfWords}
+use Rattle.files.specs.Reading.{saidN, saidSearch, refusalOfFile, refusalOfWords}
 use Rattle.files.specs.Calls.{loadRefusal, Loads}
 use Rattle.files.specs.Promises.{Bytes, Left-by-load}
 use Rattle.files.specs.declared.saved.Loaded.{Loaded}
 use Rattle.files.proofs.Accepted.{words-accept}
 use Rattle.files.proofs.Promises.{load-leaves}
-use Rattle.answer.specs.Text.{verdictLine, countsLine, planLines, refusedLine, textOf}
+use Rattle.answer.specs.Text.{refusedLine, textOf}
 use Rattle.answer.specs.Calls.{refusalOfLoad, loadedProblem, ranOf, answer, Answers}
 use Rattle.answer.specs.Work.Writing.{Holds, Shows, textFrom}
 use Rattle.answer.specs.Work.Lending.{Lends}

@@ -2,10 +2,8 @@
 -- Assumes nothing.
 use native.Mathlib.Omega.{arith}
 use mathlib.Core.Path.{_≡_, refl, sym, ap, _∙_}
-use mathlib.Core.Bool.{cond}
-use mathlib.Core.List.{List, [], _∷_, _++_}
-use Prim.Native.Nat.{ℕ, suc, _+_, _*_, _≤_, _<_}
-use lib.ListN.{length, take}
+use mathlib.Core.List.{List}
+use Prim.Native.Nat.{ℕ, suc, _<_}
 use borrow.Author.Tests.{eq-eqb}
 use lib.Count.{ones, onesIn, trailingZeros}
 use Rattle.splits.specs.Masks.{bit, minus, smallest, smallerHalf}
@@ -14,15 +12,15 @@ use Rattle.splits.specs.Subproblems.{empty, instantiated, some, every}
 use Rattle.splits.specs.Splits.{below, keep, changed, instantiate, without, cutBeside, forbids, instantiatedOther, forbidden, precluded, disjunct, forwardChecking, idc, named, pieces, filled}
 use Rattle.splits.specs.Checks.{lookedAt, others, tried, valuesIn, checks}
 use Rattle.splits.specs.Refusals.{refused-7, refused-8, refused-9, bad, someBad, allSame, refused-10, refusalOf}
-use Rattle.search.specs.Agenda.{problemOf, holding, stackOf}
+use Rattle.search.specs.Agenda.{problemOf, holding}
 use Rattle.search.specs.FirstChecks.{wholeSlots, refusalOfLengths}
 use Rattle.search.specs.Verdicts.{ascii, wordOf, verdictOf, finished}
-use Rattle.search.specs.Runs.{Search, Stopped, splitTop, step, refusalOfTop, refusalOfRequest}
+use Rattle.search.specs.Runs.{Search, splitTop, step, refusalOfTop, refusalOfRequest}
 use Rattle.search.specs.Chooser.{fewestOf, chosen, chooseFrom, choose}
-use Rattle.search.specs.Calls.{opening, searchOf}
+use Rattle.search.specs.Calls.{opening}
 use Rattle.search.proofs.Promises.{open-leaves}
 use Rattle.files.specs.Content.{each}
-use Rattle.files.specs.Reading.{saidN, saidD, saidDomains, saidAllowed, saidSearch, tableWords, refusalOfFile, refusalOfWords}
+use Rattle.files.specs.Reading.{saidN, saidD, saidAllowed, tableWords}
 use Rattle.files.specs.Calls.{loadRefusal}
 use Rattle.files.specs.Promises.{Says}
 use Rattle.files.proofs.Back.{written-blocks}

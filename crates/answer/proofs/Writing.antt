@@ -3,8 +3,8 @@
 use native.Mathlib.Omega.{arith}
 use mathlib.Core.Path.{_≡_, refl, sym, ap, subst, _∙_}
 use mathlib.Core.List.{List, [], _∷_, _++_, append-assoc, append-nil}
-use Prim.Native.Nat.{ℕ, zero, suc, _+_, _-_, _≤_, _<_}
-use lib.ListN.{length, replicate, set, getD, take, drop, length-append}
+use Prim.Native.Nat.{ℕ, suc, _+_, _-_, _≤_, _<_}
+use lib.ListN.{length, replicate, set, getD, take, length-append}
 use lib.Seq.{set-at, append-snoc, take-suc, take-length}
 use Rattle.answer.specs.Work.Writing.{Holds, Adds, valueLine, valueLines}
 use Rattle.answer.specs.declared.text.Text.{Text}

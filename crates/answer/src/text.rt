@@ -3,7 +3,7 @@ use search::state::Verdict;
 use splits::mask;
 ghost use mathlib.Core.Path.{_≡_};
 ghost use mathlib.Core.List.{[], _∷_};
-ghost use Prim.Native.Nat.{_+_, _-_, _*_, _<_, _≤_};
+ghost use Prim.Native.Nat.{_+_, _-_, _<_, _≤_};
 ghost use lib.ListN.{length};
 ghost use Rattle.answer.specs.Text.{decimal, verdictLine, countsLine, refusedLine};
 ghost use Rattle.answer.specs.Work.Writing.{Holds, Adds, valueLine, valueLines};

@@ -7,23 +7,23 @@ use native.Mathlib.Omega.{arith}
 use native.Mathlib.Nat.{mul-le-mul-right, div-mul-le-self, le-trans}
 use lib.ListN.{length, getD, take, drop, length-append}
 use lib.Seq.{take-at}
-use Rattle.splits.specs.Problem.{Problem, Proper, Table, tableOf}
+use Rattle.splits.specs.Problem.{Problem, Proper, tableOf}
 use Rattle.splits.specs.declared.subproblem.Subproblem.{Subproblem}
 use Rattle.search.specs.Agenda.{problemOf, stackOf, slotsIn, agendaOf}
 use Rattle.search.specs.FirstChecks.{WholeSlots, WholeRequests, runRefusal}
 use Rattle.search.specs.Verdicts.{verdictOf}
 use Rattle.search.specs.Runs.{Search, Stopped, run, requestsIn}
 use Rattle.search.specs.Calls.{searchOf, Ends, Runs}
-use Rattle.search.specs.Promises.{Passes, Reached, moved}
+use Rattle.search.specs.Promises.{Passes, Reached}
 use Rattle.search.specs.declared.state.State.{State}
 use Rattle.search.specs.declared.state.Ran.{Ran}
 use Rattle.search.proofs.Runs.{after, two-lists, stops}
 use Rattle.files.specs.Blocks.{blocksFor, fileOf}
 use Rattle.files.specs.Content.{contentOf}
-use Rattle.files.specs.Reading.{saidN, saidD, saidDomains, saidAllowed, saidSearch, tableWords}
+use Rattle.files.specs.Reading.{saidAllowed, tableWords}
 use Rattle.files.specs.Calls.{handedContent, saveRefusal}
 use Rattle.files.specs.Promises.{Canonical, Allow-same, Says, Held-in, Trip, Same-end}
-use Rattle.files.proofs.Triangle.{table-length, table-other}
+use Rattle.files.proofs.Triangle.{table-length}
 use Rattle.files.proofs.Blocks.{file-length}
 use Rattle.files.proofs.Stacks.{agenda-length, agenda-read, agenda-zero}
 use Rattle.files.proofs.Passing.{Passing, slots-in, passing-search, passing-run}
@@ -35,7 +35,7 @@ use Rattle.search.proofs.Promises.{run-passes}
 use Rattle.files.proofs.Steps.{All-tidy, tidy-canonical, run-tidy}
 use Rattle.files.proofs.AgreeingRuns.{run-same}
 use Rattle.files.proofs.Requests.{whole-append, requests-append, whole-drop, requests-drop}
-use Rattle.files.proofs.Reaching.{reached-good, reached-canonical, reached-agree}
+use Rattle.files.proofs.Reaching.{reached-good, reached-canonical}
 use Rattle.files.proofs.Diagonal.{passing-passes}
 
 -- ---- a call whose first checks pass

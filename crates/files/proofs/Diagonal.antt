@@ -1,19 +1,17 @@
 -- No result depends on what stands at a variable with itself: the first checks, a run, the chooser and the content.
 -- Assumes nothing.
-use mathlib.Core.Path.{_≡_, refl, ap, _∙_}
+use mathlib.Core.Path.{_≡_, refl}
 use mathlib.Core.Bool.{false}
 use mathlib.Core.List.{List}
 use Prim.Native.Nat.{ℕ, _^_, _<_}
 use native.Mathlib.Omega.{arith}
 use native.Mathlib.Decide.{ℕ-discrete}
-use lib.ListN.{length, getD}
+use lib.ListN.{length}
 use lib.Dec.{eqb}
 use borrow.Author.Tests.{ne-eqb}
-use Rattle.splits.specs.Problem.{Proper, tableOf}
-use Rattle.splits.specs.declared.subproblem.Subproblem.{Subproblem}
-use Rattle.splits.proofs.Tests.{same-test}
-use Rattle.search.specs.Agenda.{problemOf, stackOf, slotsIn}
-use Rattle.search.specs.FirstChecks.{orElse, refusalOfNumbers, refusalOfLengths, refusalOfRequests, refusalOfProblem, allObey, refusalOfSearch, openRefusal, searchRefusal, runRefusal}
+use Rattle.splits.specs.Problem.{tableOf}
+use Rattle.search.specs.Agenda.{problemOf, slotsIn}
+use Rattle.search.specs.FirstChecks.{openRefusal, searchRefusal, runRefusal}
 use Rattle.search.specs.Runs.{Stopped, run, requestsIn}
 use Rattle.search.specs.Chooser.{choose}
 use Rattle.search.specs.Calls.{searchOf, Opens, Ends, Runs, Chooses}
@@ -21,7 +19,6 @@ use Rattle.search.specs.Promises.{Passes}
 use Rattle.search.specs.declared.state.State.{State}
 use Rattle.search.specs.declared.state.Opened.{Opened}
 use Rattle.search.specs.declared.state.Ran.{Ran}
-use Rattle.search.proofs.FirstParts.{else-pass}
 use Rattle.search.proofs.Apart.{apart-open, apart-search, apart-run}
 use Rattle.files.specs.Content.{contentOf}
 use Rattle.files.specs.Calls.{handedContent, saveRefusal, Saves}
@@ -29,9 +26,7 @@ use Rattle.search.specs.Promises.{AgreeApart}
 use Rattle.files.specs.declared.saved.Saved.{Saved}
 use Rattle.files.proofs.Stacks.{of-length}
 use Rattle.files.proofs.Triangle.{triangle-same}
-use Rattle.files.proofs.Rules.{all-rules, rules-all}
-use Rattle.files.proofs.Passing.{Passing, problem-agree, proper-small, open-proper, search-passing, run-search}
-use Rattle.files.proofs.Tables.{rules-agree, agree-back}
+use Rattle.files.proofs.Passing.{Passing, search-passing, run-search}
 use Rattle.files.proofs.AgreeingRuns.{run-same, choose-same}
 
 -- A search that passed the first checks, as the search crate says it.

@@ -9,7 +9,7 @@ use native.Mathlib.Nat.{add-mul, mul-assoc, add-assoc, zero-mul, zero-add}
 use lib.Arith.{digits-lt}
 use lib.ListN.{length, getD}
 use lib.Dec.{eqb}
-use borrow.Author.Tests.{eq-eqb, ne-eqb}
+use borrow.Author.Tests.{ne-eqb}
 use Rattle.splits.specs.Problem.{Table, tableOf, total}
 use Rattle.splits.specs.Splits.{below}
 use Rattle.splits.proofs.Ranges.{word-at}

@@ -2,7 +2,7 @@
 -- Assumes nothing.
 use mathlib.Core.Path.{_≡_, refl, sym, _∙_}
 use mathlib.Core.Logic.{_⊎_, inl, inr}
-use mathlib.Core.Bool.{Bool, true, false, not, cond, _||_}
+use mathlib.Core.Bool.{Bool, true, false, cond, _||_}
 use mathlib.Core.List.{List}
 use Prim.Native.Nat.{ℕ, _-_, _≤_, _<_}
 use native.Mathlib.Omega.{arith}
@@ -14,7 +14,6 @@ use Rattle.splits.specs.Problem.{tableOf}
 use Rattle.splits.specs.Subproblems.{domain}
 use Rattle.splits.specs.Requests.{kindOf, variableOf, valueOf, targetOf}
 use Rattle.splits.specs.Splits.{pieces}
-use Rattle.splits.specs.Checks.{checks}
 use Rattle.splits.specs.Refusals.{refusalOf, refused-7, refused-8, refused-9, refused-10, someBad, allSame, bad}
 use Rattle.splits.specs.Calls.{readable, inside, Refusal-of}
 use Rattle.splits.specs.declared.subproblem.Subproblem.{Subproblem}

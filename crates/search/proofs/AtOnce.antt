@@ -17,7 +17,7 @@ use lib.Dec.{eqb}
 use borrow.Author.Tests.{eq-eqb, ne-eqb}
 use Rattle.splits.specs.Masks.{bit, common, minus, size}
 use Rattle.splits.specs.Problem.{total}
-use Rattle.splits.specs.Subproblems.{domain, some, instantiated}
+use Rattle.splits.specs.Subproblems.{domain, some}
 use Rattle.splits.specs.Checks.{valuesIn, others}
 use Rattle.splits.specs.declared.subproblem.Subproblem.{Subproblem}
 use Rattle.splits.proofs.Masks.{bit-le, bit-none, bit-ext, bit-common, bit-minus, bit-or, bit-single-same, member-some, size-of-none}

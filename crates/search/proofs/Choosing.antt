@@ -2,26 +2,22 @@
 -- Assumes nothing.
 use mathlib.Core.Path.{_≡_, refl, sym, _∙_}
 use mathlib.Core.Logic.{_⊎_, inl, inr, ⊎-elim}
-use mathlib.Core.Bool.{Bool, true, false, not, cond, _&&_, _||_}
+use mathlib.Core.Bool.{Bool, true, false, cond, _&&_, _||_}
 use mathlib.Core.List.{List, [], _∷_, _++_}
 use Prim.Native.Nat.{ℕ, zero, suc, _+_, _-_, _^_, _≤_, _<_}
 use native.Mathlib.Omega.{arith}
-use native.Mathlib.Numerals.{add-one}
 use native.Mathlib.Nat.{lt-of-lt-of-le, le-refl}
 use lib.ListN.{length, length-append}
 use lib.Pow.{pow-mono}
 use lib.Dec.{eqb, ltb}
-use borrow.Author.Tests.{eq-eqb, ne-eqb, eqb-false}
+use borrow.Author.Tests.{eq-eqb, eqb-false}
 use Rattle.splits.specs.Masks.{bit, size, lowest}
 use Rattle.splits.specs.Problem.{tableOf}
 use Rattle.splits.specs.Subproblems.{domain, empty, every, instantiated}
 use Rattle.splits.specs.Splits.{precluded, pieces}
-use Rattle.splits.specs.Calls.{inside, readable, Is-instantiated, Precluded-empty}
 use Rattle.splits.specs.declared.subproblem.Subproblem.{Subproblem}
 use Rattle.splits.proofs.Masks.{bit-le, lowest-member, member-lt}
 use Rattle.splits.proofs.Tests.{true-false}
-use Rattle.splits.proofs.Ranges.{inside-is}
-use Rattle.splits.proofs.Refusals.{lacks}
 use Rattle.search.specs.Agenda.{problemOf}
 use Rattle.search.specs.Runs.{splitTop}
 use Rattle.search.specs.Chooser.{fewestOf, fewest, request, chosen}

@@ -10,7 +10,7 @@ use borrow.Author.Tests.{eq-eqb, ne-eqb}
 use Rattle.splits.specs.declared.subproblem.Subproblem.{Subproblem}
 use Rattle.search.specs.Agenda.{problemOf, stackOf, agendaOf}
 use Rattle.search.specs.Verdicts.{verdictOf}
-use Rattle.search.specs.Runs.{Search, Stopped, step, splitTop, refusalOfTop, refusalOfRequest, runFrom, run}
+use Rattle.search.specs.Runs.{Search, Stopped, step, splitTop, refusalOfTop, refusalOfRequest, runFrom}
 use Rattle.search.specs.Chooser.{chosen, chooseFrom}
 use Rattle.search.specs.FirstChecks.{openRefusal}
 use Rattle.search.specs.Calls.{opening, Opens, Ends}

@@ -1,7 +1,7 @@
 -- The refusal and the verdict that run and chooser return, exactly.
 -- Assumes nothing.
 use mathlib.Core.Path.{_≡_, refl, sym, ap, _∙_}
-use mathlib.Core.Logic.{_⊎_, inl, inr, ⊎-elim, _↔_}
+use mathlib.Core.Logic.{_⊎_, inl, inr, ⊎-elim}
 use mathlib.Core.Bool.{Bool, true, false, cond, _&&_, _||_}
 use mathlib.Core.List.{List, [], _∷_}
 use Prim.Native.Nat.{ℕ, zero, suc, _+_, _*_, _%_, _≤_, _<_}
@@ -9,7 +9,7 @@ use native.Mathlib.Omega.{arith}
 use native.Mathlib.Decide.{ℕ-discrete}
 use lib.ListN.{length, getD}
 use lib.Dec.{eqb, leb, ltb}
-use borrow.Author.Tests.{eq-eqb, ne-eqb, eqb-true, eqb-false}
+use borrow.Author.Tests.{eq-eqb, ne-eqb, eqb-false}
 use Rattle.splits.specs.Problem.{Problem}
 use Rattle.splits.specs.Subproblems.{instantiated}
 use Rattle.splits.specs.Refusals.{refused-7, refused-8, refused-9, refused-10, refusalOf}
@@ -19,7 +19,7 @@ use Rattle.search.specs.FirstChecks.{orElse, masksBelow, symmetric, allO
 use Rattle.search.specs.Verdicts.{numberOf, verdictOf, finished}
 use Rattle.search.specs.Runs.{Search, Stopped, step, splitTop, refusalOfTop, refusalOfRequest, run, requestsIn}
 use Rattle.search.specs.Chooser.{chosen, chooseFrom, choose}
-use Rattle.search.specs.Calls.{searchOf, Ends, Runs, Chooses}
+use Rattle.search.specs.Calls.{searchOf, Ends}
 use Rattle.search.specs.Promises.{None-if, Exact-refusal, Run-exact, Choose-exact}
 use Rattle.search.specs.declared.state.State.{State}
 use Rattle.search.specs.declared.state.Ran.{Ran}

@@ -4,20 +4,20 @@ use mathlib.Core.Path.{_≡_, refl, sym, ap, _∙_}
 use mathlib.Core.Bool.{Bool, true, false, not, cond, _&&_, _||_, and-false, and-true, or-true}
 use mathlib.Core.List.{List}
 use mathlib.Core.Logic.{_⊎_, inl, inr, ⊎-elim}
-use Prim.Native.Nat.{ℕ, zero, suc, _+_, _*_, _^_, _≤_, _<_}
+use Prim.Native.Nat.{ℕ, zero, suc, _+_, _*_, _≤_, _<_}
 use native.Mathlib.Omega.{arith}
 use native.Mathlib.Nat.{mul-le-mul-right, div-mul-le-self, le-trans, lt-of-not-le}
 use native.Mathlib.Decide.{ℕ-discrete, decLt}
 use lib.ListN.{length}
 use lib.Dec.{eqb, ltb}
-use borrow.Author.Tests.{lt-ltb, le-ltb, le-leb, lt-leb, eq-eqb, ne-eqb, eqb-true, ltb-false, not-true, not-false}
+use borrow.Author.Tests.{le-leb, lt-leb, eq-eqb, ne-eqb, eqb-true, ltb-false, not-true, not-false}
 use Rattle.splits.specs.Masks.{bit}
 use Rattle.splits.specs.Problem.{Problem, tableOf}
 use Rattle.splits.specs.Subproblems.{every}
 use Rattle.splits.specs.declared.subproblem.Subproblem.{Subproblem}
 use Rattle.splits.proofs.Tests.{and-left, and-right, or-left, or-right, or-cases, every-at, every-all, same-test}
 use Rattle.search.specs.Agenda.{problemOf, stackOf, slotsIn, slotAt, subproblemOf}
-use Rattle.search.specs.FirstChecks.{refusalOfNumbers, wholeSlots, refusalOfLengths, masksBelow, symmetric, refusalOfProblem, domainObeys, valuesAgree, obeys, allObey, zerosFrom, refusalOfSearch, orElse, sizesRefusal, openRefusal}
+use Rattle.search.specs.FirstChecks.{refusalOfNumbers, wholeSlots, refusalOfLengths, masksBelow, symmetric, refusalOfProblem, obeys, allObey, zerosFrom, refusalOfSearch, orElse, sizesRefusal, openRefusal}
 use Rattle.search.specs.Work.FirstTests.{Fitting, domainBelow, maskBelow, pairBelow, rowBelow, bothWays, valueBothWays, pairBothWays, rowBothWays, slotObeys}
 
 -- ---- symmetry

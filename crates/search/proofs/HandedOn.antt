@@ -4,24 +4,24 @@ use mathlib.Core.Path.{_≡_, refl, sym, ap, _∙_}
 use mathlib.Core.Logic.{_⊎_, ⊎-elim}
 use mathlib.Core.Bool.{Bool, true, false, cond}
 use mathlib.Core.List.{List, List·Memᴰ, List·Memᴰ·head, List·Memᴰ·tail, List·Memᴰ·append-cases, List·Memᴰ·not-nil, List·Memᴰ·eq-of-singleton, [], _∷_, _++_}
-use Prim.Native.Nat.{ℕ, zero, suc, _+_, _-_, _*_, _/_, _%_, _^_, _≤_, _<_}
+use Prim.Native.Nat.{ℕ, zero, suc, _+_, _-_, _*_, _^_, _≤_, _<_}
 use native.Mathlib.Omega.{arith}
 use native.Mathlib.Decide.{ℕ-discrete, decLt}
-use native.Mathlib.Nat.{mul-le-mul-right, mod-lt, div-lt-iff-lt-mul, lt-of-lt-of-le, mul-div-cancel, le-of-eq}
-use lib.ListN.{length, getD, take, drop, length-append, length-replicate, List·getD-eq-default}
+use native.Mathlib.Nat.{mul-le-mul-right, lt-of-lt-of-le, mul-div-cancel, le-of-eq}
+use lib.ListN.{length, getD, take, length-append, length-replicate, List·getD-eq-default}
 use lib.Seq.{getD-append-add, length-take-le}
 use lib.Pow.{pow-mono, pow-pos}
 use lib.Dec.{eqb}
 use borrow.Author.Tests.{eq-eqb, ne-eqb}
 use Rattle.splits.specs.Problem.{Problem, Proper, tableOf}
-use Rattle.splits.specs.Subproblems.{domain, some, Rules}
+use Rattle.splits.specs.Subproblems.{some}
 use Rattle.splits.specs.Splits.{pieces}
 use Rattle.splits.specs.declared.subproblem.Subproblem.{Subproblem}
 use Rattle.splits.proofs.Promises.{refusal-none}
 use Rattle.search.specs.Agenda.{problemOf, holding, stackOf, slotWords, stackWords, slotsIn, agendaOf}
 use Rattle.search.specs.Runs.{Search, Stopped, step, refusalOfRequest, run, requestsIn}
 use Rattle.search.specs.Chooser.{choose}
-use Rattle.search.specs.FirstChecks.{openRefusal, WholeSlots, WholeRequests, searchRefusal, refusalOfRequests}
+use Rattle.search.specs.FirstChecks.{openRefusal, WholeSlots, WholeRequests, refusalOfRequests}
 use Rattle.search.specs.Calls.{searchOf, opening, Opens, Ends, Runs, Chooses}
 use Rattle.search.specs.declared.state.Ran.{Ran}
 use Rattle.search.specs.declared.state.Opened.{Opened}

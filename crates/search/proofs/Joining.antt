@@ -1,10 +1,10 @@
 -- The bits of many words together: they are below a bound, or zero, where each word is.
 -- Assumes nothing.
 use mathlib.Core.Path.{_≡_, refl, sym, ap, _∙_}
-use mathlib.Core.Bool.{Bool, true, false, not, _&&_, _||_, and-true, or-true}
+use mathlib.Core.Bool.{Bool, true, false, not, _&&_, and-true, or-true}
 use mathlib.Core.List.{List}
-use mathlib.Core.Logic.{_⊎_, inl, inr, ⊎-elim}
-use Prim.Native.Nat.{ℕ, zero, suc, _+_, _-_, _*_, _/_, _%_, _^_, _≤_, _<_, max}
+use mathlib.Core.Logic.{_⊎_, ⊎-elim}
+use Prim.Native.Nat.{ℕ, zero, suc, _+_, _-_, _*_, _/_, _%_, _^_, _≤_, _<_}
 use native.Mathlib.Omega.{arith}
 use native.Mathlib.Decide.{ℕ-discrete, decLt}
 use native.Mathlib.Numerals.{add-one}
@@ -21,7 +21,7 @@ use Rattle.splits.specs.Problem.{Table, tableOf}
 use Rattle.splits.specs.Subproblems.{every}
 use Rattle.splits.specs.Work.Ranges.{Sized}
 use Rattle.splits.proofs.Ranges.{word-at}
-use Rattle.splits.proofs.Masks.{bit-or, bit-above, bit-lt, bit-none, bit-ext}
+use Rattle.splits.proofs.Masks.{bit-or, bit-above, bit-lt}
 use Rattle.splits.proofs.Tests.{and-left, and-right, or-cases, every-at, every-all, same-test}
 use Rattle.splits.proofs.Refusals.{every-same}
 use Rattle.search.specs.FirstChecks.{zerosFrom}

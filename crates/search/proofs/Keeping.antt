@@ -2,7 +2,7 @@
 -- Assumes nothing.
 use mathlib.Core.Path.{_≡_, refl, sym, ap, ap₂, _∙_}
 use mathlib.Core.Logic.{_⊎_, ⊎-elim}
-use mathlib.Core.Bool.{Bool, true, false, cond}
+use mathlib.Core.Bool.{true, false, cond}
 use mathlib.Core.List.{List}
 use Prim.Native.Nat.{ℕ, _+_, _-_, _≤_, _<_}
 use native.Mathlib.Omega.{arith}
@@ -16,7 +16,7 @@ use Rattle.splits.specs.Masks.{minus, common, single}
 use Rattle.splits.specs.Problem.{tableOf}
 use Rattle.splits.specs.Subproblems.{domain, empty}
 use Rattle.splits.specs.Requests.{kindOf, variableOf, valueOf, targetOf}
-use Rattle.splits.specs.Splits.{changed, candidates, candidate, inferred, extracted, without, cut, cutBeside, atTargets, disjunct, extract}
+use Rattle.splits.specs.Splits.{candidates, candidate, inferred, extracted, without, cut, cutBeside, atTargets, disjunct, extract}
 use Rattle.splits.specs.Calls.{readable}
 use Rattle.splits.specs.Work.Ranges.{Inside, Sized, Place}
 use Rattle.splits.specs.declared.subproblem.Subproblem.{Subproblem}

@@ -9,16 +9,16 @@ use native.Mathlib.Decide.{ℕ-discrete, decLt}
 use native.Mathlib.Nat.{lt-of-lt-of-le, div-le-self}
 use lib.Pow.{pow-mono}
 use lib.Bits.{bitAnd, bitOr, and-le-r}
-use lib.Count.{trailingZeros, trailing-le, trailing-of-zero}
+use lib.Count.{trailingZeros, trailing-of-zero}
 use lib.Dec.{eqb, ltb}
 use lib.ListN.{length, getD, take, replicate, length-take, List·getD-append}
 use lib.Seq.{getD-take}
-use borrow.Author.Tests.{eq-eqb, ne-eqb, eqb-true, ltb-true, lt-ltb, le-ltb, not-true, not-false}
+use borrow.Author.Tests.{eq-eqb, ne-eqb, eqb-true, ltb-true, lt-ltb, le-ltb}
 use Rattle.splits.specs.Masks.{bit, minus, size, lowest}
 use Rattle.splits.specs.Problem.{Problem, Table, tableOf}
 use Rattle.splits.specs.Subproblems.{domain, every}
 use Rattle.splits.specs.declared.subproblem.Subproblem.{Subproblem}
-use Rattle.splits.proofs.Masks.{bit-le, bit-above, not-minus, size-of-none, size-single, single-of, lowest-member, trailing-least, trailing-member}
+use Rattle.splits.proofs.Masks.{bit-le, bit-above, not-minus, lowest-member, trailing-least, trailing-member}
 use Rattle.splits.proofs.Refusals.{lacks}
 use Rattle.splits.proofs.Subproblems.{shifted}
 use Rattle.splits.proofs.Tests.{and-left, and-right, every-at, every-all, same-test}

@@ -1,21 +1,20 @@
 -- What the code finds of the values of two variables is what the tests say.
 -- Assumes nothing.
-use mathlib.Core.Path.{_≡_, sym, ap, _∙_}
-use mathlib.Core.Bool.{Bool, true, false, not, and-false, or-true}
+use mathlib.Core.Path.{_≡_, _∙_}
+use mathlib.Core.Bool.{Bool, true, false, not, or-true}
 use mathlib.Core.List.{List}
-use Prim.Native.Nat.{ℕ, _+_, _-_, _*_, _^_, _≤_, _<_}
+use Prim.Native.Nat.{ℕ, _+_, _-_, _*_, _≤_, _<_}
 use native.Mathlib.Omega.{arith}
 use native.Mathlib.Nat.{mul-le-mul}
 use lib.Arith.{digits-lt}
-use lib.Bits.{bitAnd}
 use lib.Dec.{eqb}
 use borrow.Author.Tests.{eq-eqb, ne-eqb}
-use Rattle.splits.specs.Masks.{bit, minus, size, lowest}
+use Rattle.splits.specs.Masks.{bit, lowest}
 use Rattle.splits.specs.Problem.{Table, tableOf}
 use Rattle.splits.specs.Subproblems.{domain}
 use Rattle.splits.specs.Work.Ranges.{Sized}
 use Rattle.splits.specs.declared.subproblem.Subproblem.{Subproblem}
-use Rattle.splits.proofs.Masks.{not-minus, bit-none}
+use Rattle.splits.proofs.Masks.{bit-none}
 use Rattle.splits.proofs.Ranges.{word-none}
 use Rattle.splits.proofs.Refusals.{lacks}
 use Rattle.search.specs.Work.FirstTests.{pairAllowed, pairAgrees}

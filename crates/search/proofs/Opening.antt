@@ -9,7 +9,7 @@ use native.Mathlib.Nat.{mul-le-mul-right, zero-mul}
 use lib.ListN.{length, getD, take, replicate, List·getD-append}
 use lib.Seq.{take-length}
 use lib.Dec.{eqb}
-use Rattle.splits.specs.Subproblems.{domain, empty, some}
+use Rattle.splits.specs.Subproblems.{empty, some}
 use Rattle.splits.specs.declared.subproblem.Subproblem.{Subproblem}
 use Rattle.splits.proofs.Tests.{some-same}
 use Rattle.search.specs.Agenda.{holding, slotWords, stackWords, agendaOf, slotsIn}

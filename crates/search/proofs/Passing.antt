@@ -1,18 +1,14 @@
 -- What a step leaves of a passing search passes.
 -- Assumes nothing.
 use mathlib.Core.Path.{_≡_, refl}
-use mathlib.Core.Logic.{inl, ⊎-elim}
-use mathlib.Core.Bool.{Bool, true, false, not, cond, _&&_, and-false}
-use mathlib.Core.List.{List, List·Memᴰ, List·Memᴰ·head, List·Memᴰ·tail, List·Memᴰ·append-cases, [], _∷_, _++_}
-use Prim.Native.Nat.{ℕ, zero, suc, _+_, _*_, _≤_, _<_}
+use mathlib.Core.Logic.{⊎-elim}
+use mathlib.Core.List.{List, List·Memᴰ, List·Memᴰ·head, List·Memᴰ·tail, List·Memᴰ·append-cases, _∷_, _++_}
+use Prim.Native.Nat.{ℕ, _+_, _≤_}
 use native.Mathlib.Omega.{arith}
-use native.Mathlib.Nat.{le-refl}
 use lib.ListN.{length, length-append}
-use Rattle.splits.specs.Problem.{Problem, total}
-use Rattle.splits.specs.Subproblems.{domain}
-use Rattle.splits.specs.Requests.{kindOf, variableOf, valueOf}
-use Rattle.splits.specs.Splits.{below, keep, forbids, byKind, pieces}
-use Rattle.splits.specs.Checks.{lookedAt, others, tried, valuesIn, checks}
+use Rattle.splits.specs.Problem.{Problem}
+use Rattle.splits.specs.Splits.{pieces}
+use Rattle.splits.specs.Checks.{checks}
 use Rattle.splits.specs.Promises.{Splits}
 use Rattle.splits.specs.declared.subproblem.Subproblem.{Subproblem}
 use Rattle.splits.proofs.Pieces.{Held}

@@ -2,7 +2,7 @@
 -- Assumes nothing.
 use mathlib.Core.Path.{_≡_, refl, sym, ap, _∙_}
 use mathlib.Core.Bool.{Bool, true, false}
-use mathlib.Core.List.{List, List·Memᴰ, List·Memᴰ·head, [], _∷_}
+use mathlib.Core.List.{List, List·Memᴰ·head, [], _∷_}
 use Prim.Native.Nat.{ℕ, zero, suc, _+_, _-_, _*_, _/_, _≤_, _<_}
 use native.Mathlib.Omega.{arith}
 use native.Mathlib.Numerals.{add-one}
@@ -15,7 +15,7 @@ use Rattle.splits.specs.Subproblems.{instantiated}
 use Rattle.splits.specs.declared.subproblem.Subproblem.{Subproblem}
 use Rattle.search.specs.Agenda.{problemOf, subproblemOf, slotAt, stackOf, slotsIn}
 use Rattle.search.specs.Verdicts.{finished, verdictOf}
-use Rattle.search.specs.Runs.{Search, Stopped, step, refusalOfRequest, runFrom, run, cutInto, requestsIn}
+use Rattle.search.specs.Runs.{Search, Stopped, refusalOfRequest, runFrom, run, cutInto, requestsIn}
 use Rattle.search.specs.Chooser.{chosen, chooseFrom, choose}
 use Rattle.search.specs.Calls.{searchOf}
 use Rattle.search.specs.Work.Slots.{SlotIn}

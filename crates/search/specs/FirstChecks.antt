@@ -2,14 +2,14 @@
 -- lengths (3), the problem (4, 5), the search (6).
 use mathlib.Core.Path.{_≡_}
 use mathlib.Core.Logic.{_⊎_}
-use mathlib.Core.Bool.{Bool, true, false, not, cond, _&&_, _||_}
+use mathlib.Core.Bool.{Bool, true, not, cond, _&&_, _||_}
 use mathlib.Core.List.{List, List·Memᴰ, [], _∷_}
-use Prim.Native.Nat.{ℕ, zero, suc, _+_, _-_, _*_, _/_, _%_, _^_, _≤_, _<_}
+use Prim.Native.Nat.{ℕ, _+_, _-_, _*_, _%_, _^_, _≤_, _<_}
 use lib.ListN.{length, getD}
 use lib.Dec.{eqb, leb, ltb}
 use Rattle.splits.specs.Masks.{bit, _∈_, minus, size, lowest}
 use Rattle.splits.specs.Problem.{Problem}
-use Rattle.splits.specs.Subproblems.{domain, Rules, every, some}
+use Rattle.splits.specs.Subproblems.{domain, Rules, every}
 use Rattle.splits.specs.declared.subproblem.Subproblem.{Subproblem}
 use Rattle.search.specs.Agenda.{problemOf, stackOf, slotsIn}
 

@@ -12,7 +12,7 @@ use Rattle.splits.specs.Requests.{kindOf, variableOf, valueOf}
 use Rattle.splits.specs.Splits.{precluded, pieces}
 use Rattle.splits.specs.Checks.{checks}
 use Rattle.splits.specs.Refusals.{Deserves-7, Deserves-8, Deserves-9, Deserves-10, Accepted}
-use Rattle.splits.specs.Promises.{Splits, Solvable, One}
+use Rattle.splits.specs.Promises.{Solvable, One}
 use Rattle.splits.specs.declared.subproblem.Subproblem.{Subproblem}
 use Rattle.search.specs.Agenda.{problemOf, slotsIn, stackOf}
 use Rattle.search.specs.Verdicts.{numberOf, verdictOf}

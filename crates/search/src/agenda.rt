@@ -2,7 +2,7 @@
 use crate::lanes;
 use splits::subproblem::Subproblem;
 ghost use mathlib.Core.Path.{_≡_};
-ghost use Prim.Native.Nat.{ℕ, _+_, _*_, _≤_, _<_};
+ghost use Prim.Native.Nat.{_+_, _*_, _≤_, _<_};
 ghost use mathlib.Core.List.{_++_};
 ghost use lib.ListN.{length, getD, take, drop, set, replicate};
 ghost use Rattle.search.specs.Agenda.{holding, slotWords, subproblemOf, slotAt, slotsIn};

@@ -9,7 +9,7 @@ ghost use Prim.Native.Nat.{_+_, _-_, _*_, _/_, _^_, _≤_, _<_};
 ghost use lib.Dec.{eqb, ltb};
 ghost use mathlib.Core.List.{_++_};
 ghost use lib.ListN.{length, replicate};
-ghost use Rattle.splits.specs.Masks.{bit, size};
+ghost use Rattle.splits.specs.Masks.{bit};
 ghost use Rattle.splits.specs.Problem.{tableOf};
 ghost use Rattle.splits.specs.Subproblems.{every};
 ghost use Rattle.splits.specs.Work.Ranges.{Sized, Place};

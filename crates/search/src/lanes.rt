@@ -1,7 +1,7 @@
 // Loops over all 32 masks of a subproblem; those of a step have a fixed number of turns and no way out, so that the machine takes eight masks at once.
 ghost use mathlib.Core.Path.{_≡_};
 ghost use mathlib.Core.Bool.{cond};
-ghost use Prim.Native.Nat.{ℕ, _+_, _*_, _<_, _≤_, min};
+ghost use Prim.Native.Nat.{_+_, _*_, _<_, _≤_, min};
 ghost use lib.ListN.{getD};
 ghost use lib.Dec.{eqb};
 ghost use Rattle.splits.specs.Masks.{bit, minus, size};

@@ -2,13 +2,13 @@
 use mathlib.Core.Path.{_≡_, refl, sym, ap, ap₂, _∙_}
 use mathlib.Core.Bool.{Bool, true, false, cond, _&&_, and-true, and-false}
 use mathlib.Core.List.{List}
-use Prim.Native.Nat.{ℕ, zero, suc, _+_, _≤_, _<_}
+use Prim.Native.Nat.{ℕ, _+_, _≤_, _<_}
 use native.Mathlib.Omega.{arith}
 use native.Mathlib.Nat.{lt-of-not-le}
 use native.Mathlib.Decide.{ℕ-discrete, decLt}
 use mathlib.Core.Logic.{_⊎_, inl, inr, ⊎-elim}
 use lib.Dec.{eqb, leb, ltb}
-use borrow.Author.Tests.{ne-eqb, eqb-true, leb-true, ltb-true, le-leb, lt-ltb, le-ltb}
+use borrow.Author.Tests.{ne-eqb, leb-true, le-leb, lt-ltb, le-ltb}
 use Rattle.splits.specs.Problem.{tableOf}
 use Rattle.splits.specs.Requests.{kindOf, variableOf, valueOf}
 use Rattle.splits.specs.Splits.{byKind, backtracked, checked, inferred, halved, extracted, candidate, candidates}
@@ -16,7 +16,7 @@ use Rattle.splits.specs.Checks.{checks, tried, valuesIn, others}
 use Rattle.splits.specs.Calls.{readable, inside, Piece, Checks-of}
 use Rattle.splits.specs.Work.Ranges.{Inside}
 use Rattle.splits.specs.declared.subproblem.Subproblem.{Subproblem}
-use Rattle.splits.proofs.Tests.{and-left, and-right}
+use Rattle.splits.proofs.Tests.{and-left}
 use Rattle.splits.proofs.Ranges.{inside-true}
 
 -- what holds of each of the five kinds and of any other number holds of every number

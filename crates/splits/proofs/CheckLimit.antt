@@ -1,19 +1,17 @@
 -- The checks of one accepted request are at most 496: at most 31 other variables of at most 16 values. Assumes nothing.
 use mathlib.Core.Path.{_≡_, refl, sym, ap, _∙_}
 use mathlib.Core.Bool.{Bool, true, false, not, cond, _&&_, and-false}
-use mathlib.Core.List.{List, [], _∷_, _++_}
-use Prim.Native.Nat.{ℕ, zero, suc, _+_, _*_, _^_, _≤_, _<_, zero-le}
+use mathlib.Core.List.{List, [], _∷_}
+use Prim.Native.Nat.{ℕ, zero, suc, _+_, _*_, _≤_, _<_, zero-le}
 use native.Mathlib.Omega.{arith}
-use native.Mathlib.Decide.{ℕ-discrete}
 use native.Mathlib.Nat.{le-refl, le-trans, mul-suc, eq-or-lt-of-le, le-of-suc-le-suc}
 use mathlib.Core.Logic.{⊎-elim}
 use lib.Count.{ones-le}
 use lib.ListN.{length, length-append}
-use lib.Pow.{pow-mono}
 use lib.Dec.{eqb}
-use borrow.Author.Tests.{eq-eqb, ne-eqb}
+use borrow.Author.Tests.{eq-eqb}
 use Rattle.splits.specs.Masks.{bit, size}
-use Rattle.splits.specs.Problem.{Table, Problem, total}
+use Rattle.splits.specs.Problem.{Problem, total}
 use Rattle.splits.specs.Subproblems.{domain}
 use Rattle.splits.specs.Requests.{kindOf, variableOf, valueOf}
 use Rattle.splits.specs.Splits.{below, keep, forbids, byKind}
@@ -24,7 +22,6 @@ use Rattle.splits.proofs.Masks.{part-lt}
 use Rattle.splits.proofs.ByKind.{five}
 use Rattle.splits.proofs.OneByOne.{variable-lt}
 use Rattle.splits.proofs.Looking.{keep-append}
-use Rattle.splits.proofs.Products.{total-le}
 
 -- a sum of n terms, each at most b
 total-most : (b : ℕ) (f : ℕ → ℕ) (n : ℕ) → ((i : ℕ) → i < n → f i ≤ b) → total n f ≤ b * n

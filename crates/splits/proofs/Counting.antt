@@ -1,8 +1,8 @@
 -- The loops that count checks find what the rules count. Assumes nothing.
 use mathlib.Core.Path.{_≡_, refl, sym, ap, _∙_}
-use mathlib.Core.Bool.{Bool, true, false, not, cond, _&&_}
+use mathlib.Core.Bool.{Bool, true, false, not, _&&_}
 use mathlib.Core.List.{List}
-use Prim.Native.Nat.{ℕ, zero, suc, _+_, _*_, _≤_, _<_}
+use Prim.Native.Nat.{ℕ, zero, suc, _+_, _≤_, _<_}
 use native.Mathlib.Omega.{arith}
 use native.Mathlib.Numerals.{add-one}
 use native.Mathlib.Nat.{add-zero, le-antisymm}
@@ -11,7 +11,7 @@ use lib.Dec.{eqb}
 use borrow.Author.Tests.{eq-eqb, ne-eqb}
 use Rattle.splits.specs.Masks.{bit, size, lowest}
 use Rattle.splits.specs.Problem.{Table, tableOf, total}
-use Rattle.splits.specs.Subproblems.{domain, some}
+use Rattle.splits.specs.Subproblems.{domain}
 use Rattle.splits.specs.Splits.{below, keep, forbids, forbidden, instantiatedOther}
 use Rattle.splits.specs.Checks.{valuesIn, others, tried}
 use Rattle.splits.specs.Work.Loops.{LookedAt}

@@ -1,11 +1,11 @@
 -- One turn of the loop that gathers the smallest values of a mask. Assumes nothing.
-use mathlib.Core.Path.{_≡_, refl, sym, ap, _∙_}
-use Prim.Native.Nat.{ℕ, suc, _+_, _-_, _/_, _^_, _≤_, _<_}
+use mathlib.Core.Path.{_≡_, sym, ap, _∙_}
+use Prim.Native.Nat.{ℕ, _+_, _-_, _^_, _<_}
 use native.Mathlib.Omega.{arith}
 use native.Mathlib.Numerals.{add-one}
 use native.Mathlib.Nat.{le-of-lt}
 use lib.Bits.{bitAnd, bitOr, or-disjoint}
-use Rattle.splits.specs.Masks.{bit, _∈_, single, common, minus, size, lowest, smallest}
+use Rattle.splits.specs.Masks.{bit, _∈_, single, minus, size, lowest, smallest}
 use Rattle.splits.proofs.Masks.{not-minus, part-lt, part-common, size-split, size-of-none, smallest-part, smallest-size, smallest-rest, lowest-member, common-single, bit-minus, bit-le, member-lt, minus-part}
 
 module _ (k m : ℕ) (word : m < 2 ^ 16) (more : k < size m) where

@@ -2,17 +2,15 @@
 -- Assumes nothing.
 use mathlib.Core.Path.{_≡_, refl, sym, ap, ap₂, _∙_}
 use mathlib.Core.Logic.{⊎-elim}
-use mathlib.Core.Bool.{Bool, true, false, cond, _||_, true≢false, false≢true}
+use mathlib.Core.Bool.{Bool, true, false, cond}
 use mathlib.Core.List.{List, [], _∷_, _++_, map, List·Memᴰ, List·Memᴰ·head, List·Memᴰ·tail, List·Memᴰ·cases-cons, List·Memᴰ·not-nil, List·Memᴰ·append-cases, List·Memᴰ·eq-of-singleton}
 use Prim.Native.Nat.{ℕ, zero, suc, _+_, _≤_, _<_}
 use native.Mathlib.Omega.{arith}
-use native.Mathlib.Nat.{le-refl, zero-add, add-zero, le-of-suc-le-suc}
+use native.Mathlib.Nat.{zero-add, add-zero, le-of-suc-le-suc}
 use lib.ListN.{length, getD}
 use Rattle.splits.specs.Problem.{total}
-use Rattle.splits.specs.Subproblems.{some}
 use Rattle.splits.specs.Splits.{below, keep}
 use Rattle.splits.specs.Measure.{sum}
-use Rattle.splits.proofs.Products.{last}
 
 module _ {A : Type 0} (g : A → ℕ) where
   -- What is not kept adds nothing.

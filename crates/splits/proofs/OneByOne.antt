@@ -1,17 +1,16 @@
 -- The pieces made one by one are the split's, those that are not named being empty. Assumes nothing.
 use mathlib.Core.Path.{_≡_, refl, sym, ap, ap₂, _∙_}
-use mathlib.Core.Logic.{_⊎_, inl, inr, ⊎-elim}
+use mathlib.Core.Logic.{inl}
 use mathlib.Core.Bool.{Bool, true, false, not, cond}
 use mathlib.Core.List.{List, [], _∷_, _++_, map, map-append}
 use Prim.Native.Nat.{ℕ, zero, suc, _+_, _-_, _≤_, _<_}
 use native.Mathlib.Omega.{arith}
 use native.Mathlib.Numerals.{add-one}
 use native.Mathlib.Nat.{le-refl, add-sub-cancel, lt-of-not-le}
-use lib.ListN.{length, getD, set}
-use lib.Seq.{getD-set-same, set-out}
+use lib.ListN.{getD, set}
 use lib.Dec.{eqb}
 use borrow.Author.Tests.{ne-eqb, eqb-true, not-true, not-false}
-use Rattle.splits.specs.Masks.{minus, common, single}
+use Rattle.splits.specs.Masks.{single}
 use Rattle.splits.specs.Problem.{Table}
 use Rattle.splits.specs.Subproblems.{domain, empty}
 use Rattle.splits.specs.Requests.{kindOf, variableOf, valueOf, targetOf}

@@ -1,11 +1,11 @@
 -- The tests of a call's numbers say what they test, and a place of the tables is inside them.
 -- Assumes nothing.
-use mathlib.Core.Path.{_≡_, refl, sym, ap, _∙_, subst}
-use mathlib.Core.Bool.{Bool, true, false, _&&_}
+use mathlib.Core.Path.{_≡_, refl, sym, subst}
+use mathlib.Core.Bool.{true, _&&_}
 use mathlib.Core.List.{List}
-use Prim.Native.Nat.{ℕ, zero, suc, _+_, _-_, _*_, _≤_, _<_}
+use Prim.Native.Nat.{ℕ, _+_, _-_, _*_, _≤_, _<_}
 use native.Mathlib.Omega.{arith}
-use native.Mathlib.Nat.{mul-le-mul, mul-assoc}
+use native.Mathlib.Nat.{mul-le-mul}
 use lib.ListN.{length, getD}
 use lib.Arith.{digits-lt}
 use lib.Dec.{leb, ltb, eqb}

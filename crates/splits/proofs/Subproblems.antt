@@ -12,7 +12,7 @@ use lib.Bits.{bitAnd, bitOr}
 use lib.Dec.{ltb, eqb}
 use borrow.Author.Tests.{lt-ltb, eq-eqb, ne-eqb, eqb-true}
 use Rattle.splits.specs.Masks.{bit, single, minus, common}
-use Rattle.splits.specs.Subproblems.{domain, empty, instantiated, some, every}
+use Rattle.splits.specs.Subproblems.{domain, empty, instantiated, every}
 use Rattle.splits.specs.Problem.{Table, tableOf}
 use Rattle.splits.specs.Requests.{targetOf}
 use Rattle.splits.specs.Calls.{inside}

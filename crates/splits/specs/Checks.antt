@@ -1,7 +1,7 @@
 -- The constraint checks that a request counts, over a set of counted variables.
 use mathlib.Core.Bool.{Bool, not, cond, _&&_}
 use mathlib.Core.List.{List, [], _∷_}
-use Prim.Native.Nat.{ℕ, zero, suc, _+_}
+use Prim.Native.Nat.{ℕ, suc}
 use lib.Dec.{eqb}
 use Rattle.splits.specs.Masks.{bit, size}
 use Rattle.splits.specs.Problem.{Table, total}

@@ -1,9 +1,9 @@
 -- Which requests deserve refusals 7 to 10, of n variables, d values and the top subproblem P.
 use mathlib.Core.Path.{_≡_}
 use mathlib.Core.Logic.{_⊎_}
-use mathlib.Core.Bool.{Bool, true, false, not, cond, _&&_, _||_}
+use mathlib.Core.Bool.{Bool, not, cond, _&&_, _||_}
 use mathlib.Core.List.{List}
-use Prim.Native.Nat.{ℕ, zero, suc, _+_, _≤_, _<_}
+use Prim.Native.Nat.{ℕ, _≤_, _<_}
 use lib.Dec.{eqb, leb, ltb}
 use Rattle.splits.specs.Masks.{bit, _∈_, Part, minus, size}
 use Rattle.splits.specs.Subproblems.{domain, Instantiated, some, every}

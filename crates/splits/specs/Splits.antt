@@ -1,10 +1,10 @@
 -- The five splits: what an accepted request makes of the top subproblem P.
-use mathlib.Core.Bool.{Bool, true, false, not, cond, _&&_}
+use mathlib.Core.Bool.{Bool, not, cond, _&&_}
 use mathlib.Core.List.{List, [], _∷_, _++_, map}
-use Prim.Native.Nat.{ℕ, zero, suc, _+_, _-_, _*_, _≤_, _<_}
+use Prim.Native.Nat.{ℕ, zero, suc, _+_, _-_}
 use lib.Bits.{bitOr}
-use lib.ListN.{getD, set}
-use lib.Dec.{eqb, ltb}
+use lib.ListN.{set}
+use lib.Dec.{eqb}
 use Rattle.splits.specs.Masks.{bit, single, common, minus, lowest, smallerHalf}
 use Rattle.splits.specs.Problem.{Table}
 use Rattle.splits.specs.Subproblems.{domain, some, empty}

@@ -1,12 +1,11 @@
 -- A subproblem: a domain for each variable and the set of those that a split instantiated.
 use mathlib.Core.Path.{_≡_}
-use mathlib.Core.Bool.{Bool, true, false, not, _&&_, _||_}
-use mathlib.Core.List.{List, [], _∷_}
+use mathlib.Core.Bool.{Bool, true, false, _&&_, _||_}
 use Prim.Native.Nat.{ℕ, zero, suc, _≤_, _<_}
 use lib.ListN.{getD}
 use lib.Dec.{eqb}
 use Rattle.splits.specs.Masks.{bit, _∈_, Part, size}
-use Rattle.splits.specs.Problem.{Problem, Table, Solution, possibilities}
+use Rattle.splits.specs.Problem.{Problem, Solution, possibilities}
 use Rattle.splits.specs.declared.subproblem.Subproblem.{Subproblem}
 
 -- The domain of variable i; past the last the empty mask.

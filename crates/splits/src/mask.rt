@@ -1,6 +1,6 @@
 // A mask: a set of values, bit v for value v.
 ghost use mathlib.Core.Path.{_≡_};
-ghost use Prim.Native.Nat.{ℕ, _+_, _-_, _/_, _<_, _≤_, _^_};
+ghost use Prim.Native.Nat.{_+_, _-_, _/_, _<_, _≤_};
 ghost use lib.Dec.{eqb};
 ghost use Rattle.splits.specs.Masks.{bit, single, size, smallest};
 ghost use Rattle.splits.specs.Calls.{Count, First, Smaller-half};

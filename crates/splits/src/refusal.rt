@@ -3,7 +3,7 @@ use crate::mask;
 use crate::subproblem::Subproblem;
 use crate::words;
 ghost use mathlib.Core.Path.{_≡_};
-ghost use Prim.Native.Nat.{ℕ, _≤_};
+ghost use Prim.Native.Nat.{_≤_};
 ghost use mathlib.Core.Bool.{cond, _||_};
 ghost use Rattle.splits.specs.Requests.{kindOf, variableOf, valueOf};
 ghost use Rattle.splits.specs.Refusals.{bad, someBad, allSame};

@@ -5,7 +5,7 @@ use crate::subproblem::Subproblem;
 use crate::tables;
 use crate::words;
 ghost use mathlib.Core.Path.{_≡_};
-ghost use Prim.Native.Nat.{ℕ, _+_, _≤_, _<_};
+ghost use Prim.Native.Nat.{_+_, _≤_, _<_};
 ghost use Rattle.splits.specs.Problem.{tableOf};
 ghost use Rattle.splits.specs.Splits.{backtracked, checked, inferred, halved, extracted};
 ghost use Rattle.splits.specs.Calls.{Piece, Candidates};

@@ -1,7 +1,7 @@
 // The problem's tables: for each two variables and each value of the first, the values allowed beside it.
 use crate::words;
 ghost use mathlib.Core.Path.{_≡_};
-ghost use Prim.Native.Nat.{ℕ, _+_, _*_, _<_, _≤_};
+ghost use Prim.Native.Nat.{_+_, _*_, _<_};
 ghost use Rattle.splits.specs.Problem.{tableOf};
 ghost use Rattle.splits.specs.Calls.{sized, inside, readable};
 ghost use Rattle.splits.specs.Work.Ranges.{Sized, Place};

@@ -1,6 +1,6 @@
 // Words in lent memory, and the words of a request: kind, variable, value, then a target for each variable.
 ghost use mathlib.Core.Path.{_≡_};
-ghost use Prim.Native.Nat.{_+_, _≤_, _<_};
+ghost use Prim.Native.Nat.{_+_, _<_};
 ghost use lib.ListN.{getD};
 ghost use Rattle.splits.specs.Requests.{kindOf, variableOf, valueOf, targetOf};
 

@@ -2,7 +2,6 @@
 -- Assumes nothing.
 use mathlib.Core.Path.{refl}
 use native.Mathlib.Omega.{arith}
-use borrow.Author.Needs.{needs}
 use Rattle.answer.proofs.at_most.Statement.{statement}
 use Rattle.answer.proofs.at_most.Tie as tie
 use Rattle.answer.proofs.at_most.Reads as reads

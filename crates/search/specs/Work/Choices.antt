@@ -1,10 +1,10 @@
 -- The request that the chooser's rule makes of a top subproblem, by the number of slots that its pieces may take.
-use mathlib.Core.Bool.{Bool, cond, _&&_, _||_}
+use mathlib.Core.Bool.{cond, _||_}
 use mathlib.Core.List.{List}
 use Prim.Native.Nat.{ℕ}
 use lib.ListN.{length}
-use lib.Dec.{eqb, ltb}
-use Rattle.splits.specs.Masks.{bit, size, lowest}
+use lib.Dec.{ltb}
+use Rattle.splits.specs.Masks.{lowest}
 use Rattle.splits.specs.Problem.{tableOf}
 use Rattle.splits.specs.Subproblems.{domain, empty}
 use Rattle.splits.specs.Splits.{precluded, pieces}

@@ -1,5 +1,4 @@
 -- 16 rows of 16 bits in four words of 64, and rows for columns in four steps.
-use mathlib.Core.Path.{_≡_}
 use mathlib.Core.List.{List, [], _∷_, _++_}
 use Prim.Native.Nat.{ℕ, _+_, _-_, _*_, _/_, _%_, _^_, _<_}
 use lib.Bits.{bitAnd, bitOr, bitXor}

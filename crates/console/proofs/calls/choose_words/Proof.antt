@@ -5,7 +5,6 @@ use Prim.Native.Nat.{ℕ, _<_}
 use native.Mathlib.Omega.{arith}
 use lib.ListN.{getD}
 use Rattle.console.proofs.Lending.{count-is, left-fits, left-count, left-bytes, chooses-words, choose-fits}
-use borrow.Author.Needs.{needs}
 use Rattle.console.proofs.Rooms.{half-fits}
 use Rattle.console.proofs.calls.choose_words.Statement.{statement}
 use Rattle.console.proofs.calls.choose_words.Tie as tie

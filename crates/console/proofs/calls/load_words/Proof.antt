@@ -2,7 +2,6 @@
 -- Assumes nothing.
 use mathlib.Core.Path.{refl}
 use Rattle.console.proofs.Lending.{count-is, left-fits, left-count, left-bytes, loads-words}
-use borrow.Author.Needs.{needs}
 use Rattle.console.proofs.Rooms.{half-fits}
 use Rattle.console.proofs.calls.load_words.Statement.{statement}
 use Rattle.console.proofs.calls.load_words.Tie as tie

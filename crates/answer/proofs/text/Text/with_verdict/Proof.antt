@@ -1,7 +1,7 @@
 -- `answer::text::Text::with_verdict` meets its contract.
 -- Assumes nothing.
-use mathlib.Core.Path.{_≡_, refl, sym, ap, _∙_}
-use mathlib.Core.List.{List, []}
+use mathlib.Core.Path.{_≡_, sym, ap}
+use mathlib.Core.List.{List}
 use Prim.Native.Nat.{ℕ, zero, suc}
 use denote.Enum.Declared.{tagOf}
 use Rattle.search.specs.Verdicts.{ascii, wordOf}
