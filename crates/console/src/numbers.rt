@@ -38,7 +38,7 @@ pub(crate) fn number_of(verdict: Verdict) -> u32
 }
 
 // 1 or 2 if n or d deserves it, else 3: the first checks of no words at all.
-pub(crate) fn unwhole(n: usize, d: usize) -> u32
+fn unwhole(n: usize, d: usize) -> u32
     ensures { λ r. ⌜ r ≡ unwhole n d ⌝ }
 {
     let word = [0u16; 1];

@@ -36,7 +36,7 @@ fn word(file: &[u8], k: usize) -> u16
 }
 
 // Word `k` of block `b`, from 0.
-pub(crate) fn block_word(file: &[u8], b: usize, k: usize) -> u16
+fn block_word(file: &[u8], b: usize, k: usize) -> u16
     requires { ⌜ (b < 65536) × (k < 65536) ⌝ }
     ensures { λ r. ⌜ r ≡ blockWord (now (file .entry)) b k ⌝ }
 {

@@ -10,15 +10,15 @@ ghost use lib.ListN.{length};
 ghost use Rattle.files.specs.Calls.{Saves, Loads};
 ghost use Rattle.files.specs.Work.Said.{Refused, Read, Ready};
 
-pub mod block;
+mod block;
 pub mod checksum;
-pub mod content;
-pub mod copying;
-pub mod filling;
-pub mod reading;
+mod content;
+mod copying;
+mod filling;
+mod reading;
 pub mod said;
 pub mod saved;
-pub mod writing;
+mod writing;
 
 // Writes the blocks of a search into the file buffer and leaves the rest of it; refused, changes nothing.
 pub fn save(

@@ -5,8 +5,10 @@ pub mod first;
 mod lanes;
 pub mod matrix;
 mod rows;
+mod rules;
 pub mod state;
 mod step;
+mod symmetry;
 
 use crate::state::Checks;
 use crate::state::Counts;

@@ -1,8 +1,19 @@
 // Rows: what is allowed beside a value of a variable, for all variables at once, each made when it is first asked for.
-use crate::first;
+ghost use mathlib.Core.Path.{_≡_};
 ghost use Rattle.splits.specs.Problem.{tableOf};
-ghost use Rattle.splits.specs.Work.Ranges.{Inside};
+ghost use Rattle.splits.specs.Work.Ranges.{Sized, Place, Inside};
 ghost use Rattle.search.specs.Work.Lanes.{RowOf, Rows};
+
+// The mask of the values of `j` allowed beside value `a` of `i`; all bits where `j` is `i`, whose place is not read.
+pub(crate) fn allowed(n: usize, d: usize, tables: &[u16], i: usize, j: usize, a: usize) -> u16
+    requires { ⌜ Sized n d (now tables) × Place n d i j a ⌝ }
+    ensures { λ r. ⌜ ((i ≡ j → ⊥) → r ≡ tableOf n d (now (tables .entry)) i j a) ⌝ }
+{
+    if i == j {
+        return 65535;
+    }
+    tables[(i * n + j) * d + a]
+}
 
 // The row of a value of a variable.
 fn made(n: usize, d: usize, tables: &[u16], variable: usize, value: usize) -> [u16; 32]
@@ -12,7 +23,7 @@ fn made(n: usize, d: usize, tables: &[u16], variable: usize, value: usize) -> [u
     let mut row = [0u16; 32];
     let mut j = 0;
     while j < n {
-        row[j] = first::allowed(n, d, tables, variable, j, value);
+        row[j] = allowed(n, d, tables, variable, j, value);
         j += 1;
     }
     row[variable] = 1 << value;

@@ -1,7 +1,7 @@
 // A step: the top subproblem gives way to the pieces of a request, in the lent agenda.
 use crate::agenda;
-use crate::first;
 use crate::lanes;
+use crate::rows;
 use crate::state::Checks;
 use crate::state::Counts;
 use crate::state::State;
@@ -51,7 +51,7 @@ fn exceed(top: Subproblem, n: usize, d: usize, tables: &[u16], request: &[u16], 
 }
 
 // The same. They are looked at only where the candidates of the kind exceed the free slots.
-pub(crate) fn has_no_room(
+fn has_no_room(
     top: Subproblem,
     n: usize,
     d: usize,
@@ -115,7 +115,7 @@ fn keeps_none(
     let j = k - 1;
     let domain = top.domain(j);
     if request[0] == 3 {
-        let beside = first::allowed(n, d, tables, request[1] as usize, j, request[2] as usize);
+        let beside = rows::allowed(n, d, tables, request[1] as usize, j, request[2] as usize);
         return lanes::outside(domain, beside) == 0;
     }
     if request[0] == 5 {

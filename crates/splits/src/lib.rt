@@ -4,5 +4,5 @@ pub mod mask;
 pub mod refusal;
 pub mod split;
 pub mod subproblem;
-pub mod tables;
-pub mod words;
+mod tables;
+mod words;

@@ -15,7 +15,7 @@ pub(crate) fn allowed(n: usize, d: usize, tables: &[u16], i: usize, j: usize, a:
 }
 
 // Whether n, d and the tables fit each other.
-pub(crate) fn fits(n: usize, d: usize, tables: &[u16]) -> bool
+fn fits(n: usize, d: usize, tables: &[u16]) -> bool
     ensures { λ r. ⌜ r ≡ sized n d (now (tables .entry)) ⌝ }
 {
     if 32 < n {

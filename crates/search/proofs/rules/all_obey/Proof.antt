@@ -1,0 +1,89 @@
+-- `rules::all_obey` meets its contract: the loop's invariant: the subproblem of every slot passed obeys the rules.
+-- Assumes nothing.
+use mathlib.Core.Bool.{true}
+use mathlib.Core.Path.{_≡_, refl, _∙_}
+use Prim.Native.Nat.{_-_, _≤_}
+use native.Mathlib.Omega.{arith}
+use Rattle.splits.specs.Subproblems.{every}
+use Rattle.search.specs.Agenda.{problemOf}
+use Rattle.search.specs.Work.FirstTests.{slotObeys}
+use Rattle.search.proofs.Copies.{slot-below}
+use Rattle.search.proofs.Encoding.{slot-read}
+use Rattle.search.proofs.FirstLoops.{every-start, every-stop, every-turn, every-end}
+use Rattle.search.proofs.FirstParts.{all-slots, slot-obeys}
+use borrow.Author.Needs.{needs}
+use Rattle.search.proofs.rules.all_obey.Statement.{statement}
+use Rattle.search.proofs.rules.all_obey.Tie as tie
+
+abbrev Inv-loop : tie.InvT-loop
+Inv-loop n d domains tables agenda count k₀ k = (k ≤ count) × (every k (slotObeys (problemOf n d domains tables) n agenda) ≡ true)
+
+abbrev μ-loop : tie.MeasureT-loop
+μ-loop n d domains tables agenda count k₀ k = count - k
+
+loop-holds : tie.Need-loop-holds Inv-loop μ-loop
+loop-holds c = (search needs, every-start _)
+
+add-at : tie.Need-add-at Inv-loop μ-loop
+add-at c = omega (arith, slot-below _ _ _ _ (c .before .before .before .before .before .pre .0 .fitting .sized .few) (c .loop-test .taken) (c .before .before .before .before .before .pre .1))
+
+mul-at : tie.Need-mul-at Inv-loop μ-loop
+mul-at c = omega (arith, slot-below _ _ _ _ (c .before .before .before .before .before .pre .0 .fitting .sized .few) (c .loop-test .taken) (c .before .before .before .before .before .pre .1))
+
+add-end : tie.Need-add-end Inv-loop μ-loop
+add-end c = omega (arith, slot-below _ _ _ _ (c .before .before .before .before .before .pre .0 .fitting .sized .few) (c .loop-test .taken) (c .before .before .before .before .before .pre .1))
+
+add-end-2 : tie.Need-add-end-2 Inv-loop μ-loop
+add-end-2 c = omega (arith, slot-below _ _ _ _ (c .before .before .before .before .before .pre .0 .fitting .sized .few) (c .loop-test .taken) (c .before .before .before .before .before .pre .1))
+
+mul-obeys : tie.Need-mul-obeys Inv-loop μ-loop
+mul-obeys c = omega (arith, slot-below _ _ _ _ (c .before .before .before .before .before .pre .0 .fitting .sized .few) (c .loop-test .taken) (c .before .before .before .before .before .pre .1))
+
+sub-obeys : tie.Need-sub-obeys Inv-loop μ-loop
+sub-obeys c = omega (arith, slot-below _ _ _ _ (c .before .before .before .before .before .pre .0 .fitting .sized .few) (c .loop-test .taken) (c .before .before .before .before .before .pre .1))
+
+part-obeys-start : tie.Need-part-obeys-start Inv-loop μ-loop
+part-obeys-start c = omega (arith, slot-below _ _ _ _ (c .before .before .before .before .before .pre .0 .fitting .sized .few) (c .loop-test .taken) (c .before .before .before .before .before .pre .1))
+
+part-obeys-end : tie.Need-part-obeys-end Inv-loop μ-loop
+part-obeys-end c = omega (arith, slot-below _ _ _ _ (c .before .before .before .before .before .pre .0 .fitting .sized .few) (c .loop-test .taken) (c .before .before .before .before .before .pre .1))
+
+obeys-requires : tie.Need-obeys-requires Inv-loop μ-loop
+obeys-requires c κs = search needs
+
+returns : tie.Need-returns Inv-loop μ-loop
+returns c = every-stop _ _ _ _ (c .before .before .before .loop-test .taken) (slot-obeys _ _ _ _ _ _ (slot-read _ _ _ _ refl) (c .before .obeys .ensures)) (c .if1 .taken) ∙ all-slots _ _ _ _
+
+add-k : tie.Need-add-k Inv-loop μ-loop
+add-k c = search needs
+
+loop-less : tie.Need-loop-less Inv-loop μ-loop
+loop-less c = search needs
+
+loop-again : tie.Need-loop-again Inv-loop μ-loop
+loop-again c = (omega arith, every-turn _ _ _ (c .before .before .before .before .loop .inv .1) (slot-obeys _ _ _ _ _ _ (slot-read _ _ _ _ refl) (c .before .obeys .ensures)) (c .if1 .left))
+
+returns-2 : tie.Need-returns-2 Inv-loop μ-loop
+returns-2 c = every-end _ _ _ (c .before .loop .inv .0) (c .loop-test .left) (c .before .loop .inv .1) ∙ all-slots _ _ _ _
+
+pub all-obey-spec : {M : Type 1} → statement M
+all-obey-spec =
+    tie.close
+    (tie.spec
+    Inv-loop
+    μ-loop
+    loop-holds
+    add-at
+    mul-at
+    add-end
+    add-end-2
+    mul-obeys
+    sub-obeys
+    part-obeys-start
+    part-obeys-end
+    obeys-requires
+    returns
+    add-k
+    loop-less
+    loop-again
+    returns-2)

@@ -1,0 +1,24 @@
+-- `rules::has` meets its contract: a digit of a word, and none past the sixteenth.
+-- Assumes nothing.
+use mathlib.Core.Path.{refl}
+use borrow.Author.Needs.{needs}
+use Rattle.splits.specs.Masks.{bit}
+use Rattle.splits.proofs.Masks.{bit-above}
+use Rattle.search.proofs.rules.has.Statement.{statement}
+use Rattle.search.proofs.rules.has.Tie as tie
+
+cast-result : tie.Need-cast-result
+cast-result c = search needs
+
+shr-result : tie.Need-shr-result
+shr-result c = search needs
+
+returns : tie.Need-returns
+unfolding bit
+returns c = refl
+
+returns-2 : tie.Need-returns-2
+returns-2 c = simp (bit-above 16 (c .before .args .mask) (c .before .args .value) (c .before .fits .mask .fits) (c .if1 .left))
+
+pub has-spec : {M : Type 1} → statement M
+has-spec = tie.close (tie.spec cast-result shr-result returns returns-2)
