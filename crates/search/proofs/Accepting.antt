@@ -21,7 +21,7 @@ use Rattle.splits.proofs.Masks.{minus-part-of}
 use Rattle.splits.proofs.Tests.{or-left, or-right, some-none, true-false}
 use Rattle.splits.proofs.Ranges.{inside-is}
 use Rattle.splits.proofs.ByKind.{kinds}
-use Rattle.search.specs.Work.Kept.{Fitting}
+use Rattle.splits.specs.Work.Ranges.{Sized}
 use Rattle.search.specs.Work.Steps.{refusalFor}
 
 -- A refusal that is none was not given by the first test, and not by those after it.
@@ -86,7 +86,7 @@ module _ (n d : ℕ) (P : Subproblem) (r : List ℕ) (accepted : refusalOf n d P
   a-kind k e (inr h) = true-false (sym (lt-ltb 5 k h) ∙ or-right (ltb k 1) (ltb 5 k) (rw e at unrefused-7))
 
   -- The words that its kind reads fit.
-  pub accepted-reads : (t : List ℕ) → Fitting n d t → readable n d t r ≡ true
+  pub accepted-reads : (t : List ℕ) → Sized n d t → readable n d t r ≡ true
   unfolding readable
   accepted-reads t f = kinds (λ k. kindOf r ≡ k → readable n d t r ≡ true)
       (λ e. rw e (both (its-variable 1 e (omega arith)) (its-value 1 e (omega arith))))

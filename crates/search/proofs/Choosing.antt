@@ -18,10 +18,11 @@ use Rattle.splits.specs.Splits.{precluded, pieces}
 use Rattle.splits.specs.declared.subproblem.Subproblem.{Subproblem}
 use Rattle.splits.proofs.Masks.{bit-le, lowest-member, member-lt}
 use Rattle.splits.proofs.Tests.{true-false}
+use Rattle.splits.specs.Work.Ranges.{Sized}
 use Rattle.search.specs.Agenda.{problemOf}
 use Rattle.search.specs.Runs.{splitTop}
 use Rattle.search.specs.Chooser.{fewestOf, fewest, request, chosen}
-use Rattle.search.specs.Work.Kept.{Fitting, Regular}
+use Rattle.search.specs.Work.Kept.{Regular}
 use Rattle.search.specs.Work.Choices.{kindFor, chosenFor}
 use Rattle.search.proofs.Stepping.{room-shift}
 
@@ -48,7 +49,7 @@ unfolding instantiated
 variable-below n P h = ⊎-elim (λ (l : fewestOf n P n < n). l) (λ r. absurd (true-false (sym (r .1) ∙ h))) (found n P n (le-refl n))
 
 -- The value is one of the d.
-pub value-below : (n d : ℕ) (t : List ℕ) (P : Subproblem) (V′ : ℕ) → Fitting n d t → Regular n d P → V′ < n → lowest (domain P V′) < d
+pub value-below : (n d : ℕ) (t : List ℕ) (P : Subproblem) (V′ : ℕ) → Sized n d t → Regular n d P → V′ < n → lowest (domain P V′) < d
 value-below n d t P V′ fit reg h =
     let small : domain P V′ < 2 ^ d = reg .shape .masks V′ in
     member-lt d (domain P V′) (lowest (domain P V′)) small

@@ -18,6 +18,7 @@ use Rattle.splits.specs.Subproblems.{some}
 use Rattle.splits.specs.Splits.{pieces}
 use Rattle.splits.specs.declared.subproblem.Subproblem.{Subproblem}
 use Rattle.splits.proofs.Promises.{refusal-none}
+use Rattle.splits.specs.Work.Ranges.{Sized}
 use Rattle.search.specs.Agenda.{problemOf, holding, stackOf, slotWords, stackWords, slotsIn, agendaOf}
 use Rattle.search.specs.Runs.{Search, Stopped, step, refusalOfRequest, run, requestsIn}
 use Rattle.search.specs.Chooser.{choose}
@@ -31,7 +32,7 @@ use Rattle.search.proofs.FirstPassing.{requests-none, open-is-passed, s
 use Rattle.search.proofs.Admitting.{search-ready}
 use Rattle.search.proofs.Picking.{picked}
 use Rattle.search.proofs.Reaching.{reached-holds}
-use Rattle.search.specs.Work.Kept.{Shape, Fitting}
+use Rattle.search.specs.Work.Kept.{Shape}
 use Rattle.search.specs.Verdicts.{numberOf, verdictOf}
 use Rattle.search.proofs.Verdicts.{running-top, is-unsolvable, is-solved, unsolvable-if, solved-top, shown, all-instantiated}
 use Rattle.search.proofs.Runs.{run-ind}
@@ -46,7 +47,7 @@ abbrev pub Shaped : ℕ → ℕ → List Subproblem → Type 0
 Shaped n d S = (P : Subproblem) → List·Memᴰ P S → Shape n d P
 
 -- The subproblems that a run leaves have the shape of a slot, if those that it found have.
-module _ (n d : ℕ) (domains tables : List ℕ) (room : ℕ) (fit : Fitting n d tables) where
+module _ (n d : ℕ) (domains tables : List ℕ) (room : ℕ) (fit : Sized n d tables) where
   step-shaped : (P : Subproblem) (S : List Subproblem) (s : Search) (r : List ℕ) → Passes (problemOf n d domains tables) room s → s .stack ≡ P ∷ S
       → refusalOfRequest (problemOf n d domains tables) room r s ≡ 0 → Shaped n d (s .stack) → Shaped n d (step (problemOf n d domains tables) r s .stack)
   step-shaped P S s r h top none shaped =
@@ -160,7 +161,7 @@ module _ (n d : ℕ) (domains tables before after : List ℕ) (s : State) (x : S
 pub record Known (n d : ℕ) (domains tables agenda : List ℕ) (s : State) : Type 0 where
   pub passed : PassedSearch n d domains tables agenda (s .counts .steps .0) (s .counts .checks .0) (s .subproblems)
   pub passes : Passes (problemOf n d domains tables) (slotsIn n (length agenda)) (searchOf n agenda s)
-  pub fit : Fitting n d tables
+  pub fit : Sized n d tables
   pub shaped : Shaped n d (searchOf n agenda s .stack)
 
 pub known : (n d : ℕ) (domains tables agenda : List ℕ) (s : State) → Handed n d domains tables agenda s → Known n d domains tables agenda s

@@ -18,7 +18,7 @@ use Rattle.splits.specs.Splits.{pieces, precluded, without}
 use Rattle.splits.specs.Checks.{checks, valuesIn, others}
 use Rattle.splits.specs.Refusals.{refusalOf}
 use Rattle.splits.specs.Calls.{inside, readable}
-use Rattle.splits.specs.Work.Ranges.{Inside}
+use Rattle.splits.specs.Work.Ranges.{Sized, Inside}
 use Rattle.splits.specs.declared.subproblem.Subproblem.{Subproblem}
 use Rattle.splits.proofs.Masks.{bit-le, bit-or, single-lt, lowest-member}
 use Rattle.splits.proofs.Tests.{true-false}
@@ -27,7 +27,7 @@ use Rattle.splits.proofs.Refusals.{is-none}
 use Rattle.search.specs.Agenda.{slotWords, stackWords, slotsIn}
 use Rattle.search.specs.Chooser.{fewest, request}
 use Rattle.search.specs.Work.Slots.{splice, SlotIn}
-use Rattle.search.specs.Work.Kept.{Fitting, Regular}
+use Rattle.search.specs.Work.Kept.{Regular}
 use Rattle.search.specs.Work.Choices.{kindFor, chosenFor}
 use Rattle.search.specs.Work.Steps.{Replaced, Taking, refusalFor}
 use Rattle.search.specs.Work.Lanes.{Beyond, RowOf, LeastKey, loses, cutTo}
@@ -128,7 +128,7 @@ left-few P c = go (c .lost) (eqb (c .values) 1)
 
 -- ---- what is found
 
-module _ (n d : ℕ) (t : List ℕ) (P : Subproblem) (fit : Fitting n d t) (reg : Regular n d P) (runs : instantiated n P ≡ false) where
+module _ (n d : ℕ) (t : List ℕ) (P : Subproblem) (fit : Sized n d t) (reg : Regular n d P) (runs : instantiated n P ≡ false) where
   -- The variable is one of the n, and the value is in its domain.
   its-variable : (V′ : ℕ) → V′ ≡ fewest n P → V′ < n
   its-variable V′ e = rw e (variable-below n P runs)

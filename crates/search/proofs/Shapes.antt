@@ -24,7 +24,8 @@ use Rattle.splits.proofs.Masks.{common-part, minus-part, part-lt, single-lt}
 use Rattle.splits.proofs.Domains.{Within, length-changed, within-changed, within-set}
 use Rattle.splits.proofs.Tests.{some-none}
 use Rattle.splits.proofs.ByKind.{kinds}
-use Rattle.search.specs.Work.Kept.{Shape, Regular, Fitting}
+use Rattle.splits.specs.Work.Ranges.{Sized}
+use Rattle.search.specs.Work.Kept.{Shape, Regular}
 use Rattle.search.proofs.Candidates.{one, firsts, pieces-are}
 use Rattle.search.proofs.Accepting.{its-variable, its-value, its-target, a-kind, accepted-reads}
 
@@ -126,7 +127,7 @@ pick : (C : Subproblem → Type 0) (b : Bool) (Q R : Subproblem) → C Q → C R
 pick C true Q R q r = q
 pick C false Q R q r = r
 
-module _ (n d : ℕ) (t : List ℕ) (P : Subproblem) (r : List ℕ) (fit : Fitting n d t) (s : Shape n d P) (accepted : refusalOf n d P r ≡ 0) where
+module _ (n d : ℕ) (t : List ℕ) (P : Subproblem) (r : List ℕ) (fit : Sized n d t) (s : Shape n d P) (accepted : refusalOf n d P r ≡ 0) where
   -- Whether the candidate has the shape.
   Shaped : ℕ → Type 0
   Shaped k = Shape n d (candidate n (tableOf n d t) P r k)

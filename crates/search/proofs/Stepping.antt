@@ -24,11 +24,12 @@ use Rattle.splits.specs.declared.subproblem.Subproblem.{Subproblem}
 use Rattle.splits.proofs.ByKind.{kind-any}
 use Rattle.splits.proofs.Looking.{keep-append}
 use Rattle.splits.proofs.CheckLimit.{looked-le}
+use Rattle.splits.specs.Work.Ranges.{Sized}
 use Rattle.search.specs.Agenda.{problemOf, subproblemOf, slotAt, stackOf, stackWords, slotsIn, agendaOf}
 use Rattle.search.specs.Verdicts.{finished}
 use Rattle.search.specs.Runs.{Search, splitTop, step, refusalOfTop, refusalOfRequest, runFrom}
 use Rattle.search.specs.Work.Slots.{splice}
-use Rattle.search.specs.Work.Kept.{Shape, Regular, Fitting, Ready}
+use Rattle.search.specs.Work.Kept.{Shape, Regular, Ready}
 use Rattle.search.specs.Work.Steps.{Replaced, Taking, Stops, refusalFor}
 use Rattle.search.specs.Calls.{searchOf}
 use Rattle.search.specs.declared.state.State.{State}
@@ -59,7 +60,7 @@ one-of : (b : Bool) (x c : ℕ) → x ≤ c → cond b x 0 ≤ c
 one-of true x c h = h
 one-of false x c h = omega arith
 
-module _ (n d : ℕ) (t : List ℕ) (P : Subproblem) (r : List ℕ) (fit : Fitting n d t) (s : Shape n d P) where
+module _ (n d : ℕ) (t : List ℕ) (P : Subproblem) (r : List ℕ) (fit : Sized n d t) (s : Shape n d P) where
   -- Kind 1.
   tried-few : tried (others (variableOf r)) n (tableOf n d t) P (variableOf r) (valueOf r) ≤ 512
   unfolding tried

@@ -17,8 +17,9 @@ ghost use Rattle.splits.specs.Masks.{size};
 ghost use Rattle.splits.specs.Problem.{tableOf, total};
 ghost use Rattle.splits.specs.Subproblems.{domain, instantiated};
 ghost use Rattle.splits.specs.Splits.{without, pieces};
+ghost use Rattle.splits.specs.Work.Ranges.{Sized};
 ghost use Rattle.search.specs.Work.Slots.{SlotIn};
-ghost use Rattle.search.specs.Work.Kept.{Fitting, Regular};
+ghost use Rattle.search.specs.Work.Kept.{Regular};
 ghost use Rattle.search.specs.Work.Steps.{Replaced, Taking};
 ghost use Rattle.search.specs.Work.Lanes.{Rows};
 ghost use Rattle.search.specs.Work.Found.{Found, AtTop, RoomFor, innerBy, outerBy, Spread, Puts, requestBy, precludedBy, leftBy, several, TakesChosen};
@@ -35,7 +36,7 @@ pub(crate) struct Choice {
 
 // Finds it.
 fn look(top: Subproblem, n: usize, d: usize, tables: &[u16], rows: &mut [[u16; 32]]) -> Choice
-    requires { ⌜ Fitting n d (now tables) × (Regular n d top × ((instantiated n top ≡ false) × Rows n d (now tables) (now rows))) ⌝ }
+    requires { ⌜ Sized n d (now tables) × (Regular n d top × ((instantiated n top ≡ false) × Rows n d (now tables) (now rows))) ⌝ }
     ensures { λ r. ⌜ Found n d (now (tables .entry)) top r × Rows n d (now (tables .entry)) (now (rows .exit)) ⌝ }
 {
     let domains = top.domains;

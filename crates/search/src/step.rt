@@ -19,7 +19,7 @@ ghost use Rattle.splits.specs.Problem.{tableOf};
 ghost use Rattle.splits.specs.Splits.{pieces, candidates};
 ghost use Rattle.splits.specs.Checks.{checks};
 ghost use Rattle.splits.specs.Calls.{readable};
-ghost use Rattle.search.specs.Work.Kept.{Fitting};
+ghost use Rattle.splits.specs.Work.Ranges.{Sized};
 ghost use Rattle.search.specs.Work.Steps.{TellsEmpty, Placing, Placed, Replaced, Taking, TakesOne, refusalFor};
 
 // Where a run stops: the refusal, the requests taken and the state it leaves.
@@ -78,7 +78,7 @@ fn refusal_of(
     steps: u32,
     free: usize,
 ) -> u32
-    requires { ⌜ Fitting n d (now tables) ⌝ }
+    requires { ⌜ Sized n d (now tables) ⌝ }
     ensures { λ r. ⌜ r ≡ refusalFor n d (now (tables .entry)) top (now (request .entry)) steps free ⌝ }
 {
     if steps == 4294967295 {

@@ -11,10 +11,11 @@ use Rattle.splits.specs.Problem.{tableOf}
 use Rattle.splits.specs.Subproblems.{domain, empty, instantiated}
 use Rattle.splits.specs.Splits.{precluded, without, pieces}
 use Rattle.splits.specs.declared.subproblem.Subproblem.{Subproblem}
+use Rattle.splits.specs.Work.Ranges.{Sized}
 use Rattle.search.specs.Agenda.{slotsIn}
 use Rattle.search.specs.Chooser.{fewest, request}
 use Rattle.search.specs.Work.Slots.{SlotIn}
-use Rattle.search.specs.Work.Kept.{Fitting, Regular}
+use Rattle.search.specs.Work.Kept.{Regular}
 use Rattle.search.specs.Work.Choices.{chosenFor}
 use Rattle.search.specs.Work.Steps.{TakesOne, Replaced}
 use Rattle.search.specs.Work.Lanes.{RowOf, cutTo, outsideTo}
@@ -50,7 +51,7 @@ requestBy c kind = request kind (c .variable) (c .value)
 
 -- A top P that runs stands in a slot, with what is found of it.
 pub record AtTop (n d : ℕ) (tables : List ℕ) (P : Subproblem) (c : Choice) (below words : ℕ) : Type 0 where
-  pub fitting : Fitting n d tables
+  pub fitting : Sized n d tables
   pub regular : Regular n d P
   pub runs : instantiated n P ≡ false
   pub found : Found n d tables P c

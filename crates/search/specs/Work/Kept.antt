@@ -5,6 +5,7 @@ use Prim.Native.Nat.{ℕ, _+_, _*_, _^_, _≤_, _<_}
 use lib.ListN.{length}
 use Rattle.splits.specs.Subproblems.{domain}
 use Rattle.splits.specs.declared.subproblem.Subproblem.{Subproblem}
+use Rattle.splits.specs.Work.Ranges.{Sized}
 use Rattle.search.specs.Agenda.{slotsIn, agendaOf}
 use Rattle.search.specs.Runs.{Search}
 
@@ -20,15 +21,9 @@ pub record Regular (n d : ℕ) (P : Subproblem) : Type 0 where
   pub shape : Shape n d P
   pub filled : (i : ℕ) → i < n → domain P i ≡ 0 → ⊥
 
--- The numbers and the tables fit each other.
-pub record Fitting (n d : ℕ) (tables : List ℕ) : Type 0 where
-  pub few : n ≤ 32
-  pub small : d ≤ 16
-  pub words : length tables ≡ n * n * d
-
 -- Memory of whole slots holds the search of a stack and two counts.
 pub record Ready (n d : ℕ) (tables agenda : List ℕ) (s : Search) : Type 0 where
-  pub fitting : Fitting n d tables
+  pub fitting : Sized n d tables
   pub whole : length agenda ≡ slotsIn n (length agenda) * (n + 2)
   pub fits : length (s .stack) ≤ slotsIn n (length agenda)
   pub words : agenda ≡ agendaOf n (length agenda) (s .stack)
