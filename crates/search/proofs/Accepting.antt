@@ -98,7 +98,7 @@ module _ (n d : ℕ) (P : Subproblem) (r : List ℕ) (accepted : refusalOf n d P
       both : variableOf r < n → valueOf r < d → inside n d t (variableOf r) (valueOf r) ≡ true
       both h k =
           inside-is n d t (variableOf r) (valueOf r)
-          (record { fit = record { few = f .few; small = f .small; words = f .words }; a-variable = h; a-value = k })
+          (record { fit = f; a-variable = h; a-value = k })
 
 -- ---- the refusal, test by test
 module _ (n d : ℕ) (t : List ℕ) (P : Subproblem) (r : List ℕ) (steps free : ℕ) where

@@ -150,7 +150,7 @@ module _ (n d : ℕ) (t : List ℕ) (P : Subproblem) (fit : Sized n d t) (reg : 
     -- They lie within the tables.
     pub found-inside : Inside n d t V′ v
     found-inside = record {
-      fit = record { few = fit .few; small = fit .small; words = fit .words };
+      fit = fit;
       a-variable = its-variable V′ is-fewest;
       a-value = rw (low, its) (value-below n d t P V′ fit reg (its-variable V′ is-fewest));
     }
@@ -181,7 +181,7 @@ module _ (n d : ℕ) (t : List ℕ) (P : Subproblem) (fit : Sized n d t) (reg : 
     its-words k e =
         let all : inside n d t (c .variable) (c .value) ≡ true =
         inside-is n d t (c .variable) (c .value) (record {
-          fit = record { few = fit .few; small = fit .small; words = fit .words };
+          fit = fit;
           a-variable = variable-is;
           a-value = rw (h .value) (value-below n d t P (c .variable) fit reg variable-is);
         }) in
