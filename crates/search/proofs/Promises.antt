@@ -26,7 +26,6 @@ use Rattle.search.proofs.Planners
 use Rattle.search.proofs.HandedOn
 use Rattle.search.proofs.Exactly
 use Rattle.search.proofs.Turning
-use Rattle.search.specs.FirstChecks.{Deserves-1, Deserves-2, Deserves-3, Deserves-3-run, Deserves-4, Deserves-5, Deserves-6, openRefusal, searchRefusal, runRefusal}
 use Rattle.search.proofs.FirstOrder.{is-0, is-1, is-2, is-3, is-4, is-5, is-6, open-ordered, search-ordered, run-ordered}
 use Rattle.search.proofs.FirstPassing.{numbers-none, lengths-none, requests-none, problem-none, search-none, proper-is-passed, open-is-passed, search-is-passed, run-is-passed}
 use Rattle.search.proofs.Apart.{apart-open, apart-search, apart-run}
@@ -193,105 +192,66 @@ not-invented after r h w = ⊎-elim (λ k. k (Planners.says after r w .steps)) (
 -- ---- the first checks of each call
 
 pub open-refusal-1 : Open-refusal-1
-open-refusal-1 n d domains tables agenda =
-    is-1 (Deserves-1 n) (Deserves-2 d) (Deserves-3 n d domains tables agenda) (Deserves-4 (problemOf n d domains tables)) (Deserves-5 (problemOf n d domains tables))
-    ⊥ (openRefusal n d domains tables agenda) (open-ordered n d domains tables agenda)
+open-refusal-1 n d domains tables agenda = is-1 _ _ _ _ _ _ _ (open-ordered n d domains tables agenda)
 
 pub open-refusal-2 : Open-refusal-2
-open-refusal-2 n d domains tables agenda =
-    is-2 (Deserves-1 n) (Deserves-2 d) (Deserves-3 n d domains tables agenda) (Deserves-4 (problemOf n d domains tables)) (Deserves-5 (problemOf n d domains tables))
-    ⊥ (openRefusal n d domains tables agenda) (open-ordered n d domains tables agenda)
+open-refusal-2 n d domains tables agenda = is-2 _ _ _ _ _ _ _ (open-ordered n d domains tables agenda)
 
 pub open-refusal-3 : Open-refusal-3
-open-refusal-3 n d domains tables agenda =
-    is-3 (Deserves-1 n) (Deserves-2 d) (Deserves-3 n d domains tables agenda) (Deserves-4 (problemOf n d domains tables)) (Deserves-5 (problemOf n d domains tables))
-    ⊥ (openRefusal n d domains tables agenda) (open-ordered n d domains tables agenda)
+open-refusal-3 n d domains tables agenda = is-3 _ _ _ _ _ _ _ (open-ordered n d domains tables agenda)
 
 pub open-refusal-4 : Open-refusal-4
-open-refusal-4 n d domains tables agenda =
-    is-4 (Deserves-1 n) (Deserves-2 d) (Deserves-3 n d domains tables agenda) (Deserves-4 (problemOf n d domains tables)) (Deserves-5 (problemOf n d domains tables))
-    ⊥ (openRefusal n d domains tables agenda) (open-ordered n d domains tables agenda)
+open-refusal-4 n d domains tables agenda = is-4 _ _ _ _ _ _ _ (open-ordered n d domains tables agenda)
 
 pub open-refusal-5 : Open-refusal-5
-open-refusal-5 n d domains tables agenda =
-    is-5 (Deserves-1 n) (Deserves-2 d) (Deserves-3 n d domains tables agenda) (Deserves-4 (problemOf n d domains tables)) (Deserves-5 (problemOf n d domains tables))
-    ⊥ (openRefusal n d domains tables agenda) (open-ordered n d domains tables agenda)
+open-refusal-5 n d domains tables agenda = is-5 _ _ _ _ _ _ _ (open-ordered n d domains tables agenda)
 
 pub open-refusal-none : Open-refusal-none
 open-refusal-none n d domains tables agenda =
-    let none = is-0 (Deserves-1 n) (Deserves-2 d) (Deserves-3 n d domains tables agenda) (Deserves-4 (problemOf n d domains tables)) (Deserves-5 (problemOf n d domains tables))
-    ⊥ (openRefusal n d domains tables agenda) (open-ordered n d domains tables agenda) in
+    let none = is-0 _ _ _ _ _ _ _ (open-ordered n d domains tables agenda) in
     ((λ e. let t = none .0 e in (t .0, t .1, t .2, t .3, t .4)), (λ t. none .1 (t .0, t .1, t .2, t .3, t .4, (λ x. x))))
 
 pub search-refusal-1 : Search-refusal-1
-search-refusal-1 n d domains tables agenda steps checks subproblems =
-    is-1 (Deserves-1 n) (Deserves-2 d) (Deserves-3 n d domains tables agenda) (Deserves-4 (problemOf n d domains tables)) (Deserves-5 (problemOf n d domains tables))
-    (Deserves-6 (problemOf n d domains tables) agenda steps checks subproblems) (searchRefusal n d domains tables agenda steps checks subproblems) (search-ordered n d domains tables agenda steps checks subproblems)
+search-refusal-1 n d domains tables agenda steps checks subproblems = is-1 _ _ _ _ _ _ _ (search-ordered n d domains tables agenda steps checks subproblems)
 
 pub search-refusal-2 : Search-refusal-2
-search-refusal-2 n d domains tables agenda steps checks subproblems =
-    is-2 (Deserves-1 n) (Deserves-2 d) (Deserves-3 n d domains tables agenda) (Deserves-4 (problemOf n d domains tables)) (Deserves-5 (problemOf n d domains tables))
-    (Deserves-6 (problemOf n d domains tables) agenda steps checks subproblems) (searchRefusal n d domains tables agenda steps checks subproblems) (search-ordered n d domains tables agenda steps checks subproblems)
+search-refusal-2 n d domains tables agenda steps checks subproblems = is-2 _ _ _ _ _ _ _ (search-ordered n d domains tables agenda steps checks subproblems)
 
 pub search-refusal-3 : Search-refusal-3
-search-refusal-3 n d domains tables agenda steps checks subproblems =
-    is-3 (Deserves-1 n) (Deserves-2 d) (Deserves-3 n d domains tables agenda) (Deserves-4 (problemOf n d domains tables)) (Deserves-5 (problemOf n d domains tables))
-    (Deserves-6 (problemOf n d domains tables) agenda steps checks subproblems) (searchRefusal n d domains tables agenda steps checks subproblems) (search-ordered n d domains tables agenda steps checks subproblems)
+search-refusal-3 n d domains tables agenda steps checks subproblems = is-3 _ _ _ _ _ _ _ (search-ordered n d domains tables agenda steps checks subproblems)
 
 pub search-refusal-4 : Search-refusal-4
-search-refusal-4 n d domains tables agenda steps checks subproblems =
-    is-4 (Deserves-1 n) (Deserves-2 d) (Deserves-3 n d domains tables agenda) (Deserves-4 (problemOf n d domains tables)) (Deserves-5 (problemOf n d domains tables))
-    (Deserves-6 (problemOf n d domains tables) agenda steps checks subproblems) (searchRefusal n d domains tables agenda steps checks subproblems) (search-ordered n d domains tables agenda steps checks subproblems)
+search-refusal-4 n d domains tables agenda steps checks subproblems = is-4 _ _ _ _ _ _ _ (search-ordered n d domains tables agenda steps checks subproblems)
 
 pub search-refusal-5 : Search-refusal-5
-search-refusal-5 n d domains tables agenda steps checks subproblems =
-    is-5 (Deserves-1 n) (Deserves-2 d) (Deserves-3 n d domains tables agenda) (Deserves-4 (problemOf n d domains tables)) (Deserves-5 (problemOf n d domains tables))
-    (Deserves-6 (problemOf n d domains tables) agenda steps checks subproblems) (searchRefusal n d domains tables agenda steps checks subproblems) (search-ordered n d domains tables agenda steps checks subproblems)
+search-refusal-5 n d domains tables agenda steps checks subproblems = is-5 _ _ _ _ _ _ _ (search-ordered n d domains tables agenda steps checks subproblems)
 
 pub search-refusal-6 : Search-refusal-6
-search-refusal-6 n d domains tables agenda steps checks subproblems =
-    is-6 (Deserves-1 n) (Deserves-2 d) (Deserves-3 n d domains tables agenda) (Deserves-4 (problemOf n d domains tables)) (Deserves-5 (problemOf n d domains tables))
-    (Deserves-6 (problemOf n d domains tables) agenda steps checks subproblems) (searchRefusal n d domains tables agenda steps checks subproblems) (search-ordered n d domains tables agenda steps checks subproblems)
+search-refusal-6 n d domains tables agenda steps checks subproblems = is-6 _ _ _ _ _ _ _ (search-ordered n d domains tables agenda steps checks subproblems)
 
 pub search-refusal-none : Search-refusal-none
-search-refusal-none n d domains tables agenda steps checks subproblems =
-    is-0 (Deserves-1 n) (Deserves-2 d) (Deserves-3 n d domains tables agenda) (Deserves-4 (problemOf n d domains tables)) (Deserves-5 (problemOf n d domains tables))
-    (Deserves-6 (problemOf n d domains tables) agenda steps checks subproblems) (searchRefusal n d domains tables agenda steps checks subproblems) (search-ordered n d domains tables agenda steps checks subproblems)
+search-refusal-none n d domains tables agenda steps checks subproblems = is-0 _ _ _ _ _ _ _ (search-ordered n d domains tables agenda steps checks subproblems)
 
 pub run-refusal-1 : Run-refusal-1
-run-refusal-1 n d domains tables agenda requests steps checks subproblems =
-    is-1 (Deserves-1 n) (Deserves-2 d) (Deserves-3-run n d domains tables agenda requests) (Deserves-4 (problemOf n d domains tables)) (Deserves-5 (problemOf n d domains tables))
-    (Deserves-6 (problemOf n d domains tables) agenda steps checks subproblems) (runRefusal n d domains tables agenda requests steps checks subproblems) (run-ordered n d domains tables agenda steps checks subproblems requests)
+run-refusal-1 n d domains tables agenda requests steps checks subproblems = is-1 _ _ _ _ _ _ _ (run-ordered n d domains tables agenda steps checks subproblems requests)
 
 pub run-refusal-2 : Run-refusal-2
-run-refusal-2 n d domains tables agenda requests steps checks subproblems =
-    is-2 (Deserves-1 n) (Deserves-2 d) (Deserves-3-run n d domains tables agenda requests) (Deserves-4 (problemOf n d domains tables)) (Deserves-5 (problemOf n d domains tables))
-    (Deserves-6 (problemOf n d domains tables) agenda steps checks subproblems) (runRefusal n d domains tables agenda requests steps checks subproblems) (run-ordered n d domains tables agenda steps checks subproblems requests)
+run-refusal-2 n d domains tables agenda requests steps checks subproblems = is-2 _ _ _ _ _ _ _ (run-ordered n d domains tables agenda steps checks subproblems requests)
 
 pub run-refusal-3 : Run-refusal-3
-run-refusal-3 n d domains tables agenda requests steps checks subproblems =
-    is-3 (Deserves-1 n) (Deserves-2 d) (Deserves-3-run n d domains tables agenda requests) (Deserves-4 (problemOf n d domains tables)) (Deserves-5 (problemOf n d domains tables))
-    (Deserves-6 (problemOf n d domains tables) agenda steps checks subproblems) (runRefusal n d domains tables agenda requests steps checks subproblems) (run-ordered n d domains tables agenda steps checks subproblems requests)
+run-refusal-3 n d domains tables agenda requests steps checks subproblems = is-3 _ _ _ _ _ _ _ (run-ordered n d domains tables agenda steps checks subproblems requests)
 
 pub run-refusal-4 : Run-refusal-4
-run-refusal-4 n d domains tables agenda requests steps checks subproblems =
-    is-4 (Deserves-1 n) (Deserves-2 d) (Deserves-3-run n d domains tables agenda requests) (Deserves-4 (problemOf n d domains tables)) (Deserves-5 (problemOf n d domains tables))
-    (Deserves-6 (problemOf n d domains tables) agenda steps checks subproblems) (runRefusal n d domains tables agenda requests steps checks subproblems) (run-ordered n d domains tables agenda steps checks subproblems requests)
+run-refusal-4 n d domains tables agenda requests steps checks subproblems = is-4 _ _ _ _ _ _ _ (run-ordered n d domains tables agenda steps checks subproblems requests)
 
 pub run-refusal-5 : Run-refusal-5
-run-refusal-5 n d domains tables agenda requests steps checks subproblems =
-    is-5 (Deserves-1 n) (Deserves-2 d) (Deserves-3-run n d domains tables agenda requests) (Deserves-4 (problemOf n d domains tables)) (Deserves-5 (problemOf n d domains tables))
-    (Deserves-6 (problemOf n d domains tables) agenda steps checks subproblems) (runRefusal n d domains tables agenda requests steps checks subproblems) (run-ordered n d domains tables agenda steps checks subproblems requests)
+run-refusal-5 n d domains tables agenda requests steps checks subproblems = is-5 _ _ _ _ _ _ _ (run-ordered n d domains tables agenda steps checks subproblems requests)
 
 pub run-refusal-6 : Run-refusal-6
-run-refusal-6 n d domains tables agenda requests steps checks subproblems =
-    is-6 (Deserves-1 n) (Deserves-2 d) (Deserves-3-run n d domains tables agenda requests) (Deserves-4 (problemOf n d domains tables)) (Deserves-5 (problemOf n d domains tables))
-    (Deserves-6 (problemOf n d domains tables) agenda steps checks subproblems) (runRefusal n d domains tables agenda requests steps checks subproblems) (run-ordered n d domains tables agenda steps checks subproblems requests)
+run-refusal-6 n d domains tables agenda requests steps checks subproblems = is-6 _ _ _ _ _ _ _ (run-ordered n d domains tables agenda steps checks subproblems requests)
 
 pub run-refusal-none : Run-refusal-none
-run-refusal-none n d domains tables agenda requests steps checks subproblems =
-    is-0 (Deserves-1 n) (Deserves-2 d) (Deserves-3-run n d domains tables agenda requests) (Deserves-4 (problemOf n d domains tables)) (Deserves-5 (problemOf n d domains tables))
-    (Deserves-6 (problemOf n d domains tables) agenda steps checks subproblems) (runRefusal n d domains tables agenda requests steps checks subproblems) (run-ordered n d domains tables agenda steps checks subproblems requests)
+run-refusal-none n d domains tables agenda requests steps checks subproblems = is-0 _ _ _ _ _ _ _ (run-ordered n d domains tables agenda steps checks subproblems requests)
 
 -- ---- each part, and what passing gives
 
