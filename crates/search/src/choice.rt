@@ -125,7 +125,8 @@ fn outer(whole: [u16; 32], row: [u16; 32], variable: usize) -> [u16; 32]
     out
 }
 
-// Kind 3's pieces, the last named in the place of the top, the others above; the number of subproblems then.
+// Kind 3's pieces, the last named in the place of the top, the others above; the number of subproblems then. Here and below `d` and `tables` are
+// what the contract speaks of: the code has the choice's row.
 fn spread(
     top: Subproblem,
     n: usize,
