@@ -21,6 +21,7 @@ use Rattle.splits.proofs.Tests.{true-false}
 use Rattle.splits.proofs.Products.{last}
 use Rattle.splits.proofs.Pieces.{Held}
 use Rattle.splits.proofs.Splitting.{lowest-in}
+use Rattle.splits.proofs.Apart.{precluded-same}
 use Rattle.search.specs.Verdicts.{finished}
 use Rattle.search.specs.Runs.{Search, Stopped, splitTop, step, refusalOfTop, refusalOfRequest, runFrom, run}
 use Rattle.search.specs.Chooser.{fewestOf, fewest, request, chosen, chooseFrom, choose}
@@ -30,7 +31,7 @@ use Rattle.search.proofs.Runs.{stop, after, run-finished, run-taken, run-refuse
 use Rattle.files.specs.Promises.{Allow-same}
 use Rattle.splits.proofs.Promises.{refusal-none}
 use Rattle.search.proofs.Passing.{step-is, splits, step-passes}
-use Rattle.files.proofs.Agreeing.{precluded-same, pieces-same, checks-same}
+use Rattle.files.proofs.Agreeing.{pieces-same, checks-same}
 
 -- ---- the variable chosen
 
@@ -139,7 +140,7 @@ module _ (p : Problem) (g : Table) (agree : Allow-same (p .n) (p .d) (p .allowed
       let has : v ∈ domain P V′ = lowest-in held V′ l in
       let m : v < p .d = member-lt (p .d) (p .domain V′) v (h .proper .domains V′ l) (rules .part V′ l v has) in
       let split : Splits p P (request 3 V′ v) = record { proper = h .proper; rules = rules; accepted = three-accepted P V′ v l free m has } in
-      rw (precluded-same (p .n) (p .d) (p .allowed) g agree P V′ v l m, pieces-same split g agree) refl
+      rw (precluded-same (p .n) (p .allowed) g P V′ v (λ i k f. agree V′ i v l k f m), pieces-same split g agree) refl
 
   choose-from : (m : ℕ) (s : Search) (k : ℕ) → Passes p room s → chooseFrom p room m s k ≡ chooseFrom other room m s k
   unfolding chooseFrom finished

@@ -10,6 +10,7 @@ use lib.ListN.{length}
 use lib.Dec.{eqb}
 use borrow.Author.Tests.{ne-eqb}
 use Rattle.splits.specs.Problem.{tableOf}
+use Rattle.splits.specs.Promises.{AgreeApart}
 use Rattle.search.specs.Agenda.{problemOf, slotsIn}
 use Rattle.search.specs.FirstChecks.{openRefusal, searchRefusal, runRefusal}
 use Rattle.search.specs.Runs.{Stopped, run, requestsIn}
@@ -22,7 +23,6 @@ use Rattle.search.specs.declared.state.Ran.{Ran}
 use Rattle.search.proofs.Apart.{apart-open, apart-search, apart-run}
 use Rattle.files.specs.Content.{contentOf}
 use Rattle.files.specs.Calls.{handedContent, saveRefusal, Saves}
-use Rattle.search.specs.Promises.{AgreeApart}
 use Rattle.files.specs.declared.saved.Saved.{Saved}
 use Rattle.files.proofs.Stacks.{of-length}
 use Rattle.files.proofs.Triangle.{triangle-same}

@@ -10,12 +10,13 @@ use lib.ListN.{length, getD, take}
 use lib.Dec.{eqb}
 use borrow.Author.Tests.{ne-eqb}
 use Rattle.splits.specs.Problem.{Proper, tableOf}
+use Rattle.splits.specs.Promises.{AgreeApart}
 use Rattle.search.specs.Agenda.{problemOf, stackOf, slotsIn}
 use Rattle.search.specs.Runs.{requestsIn}
 use Rattle.search.specs.FirstChecks.{runRefusal}
 use Rattle.search.specs.Verdicts.{numberOf, verdictOf}
 use Rattle.search.specs.Calls.{searchOf, Runs}
-use Rattle.search.specs.Promises.{Passed, Handed, Leaves, Reached, Has-solution, AgreeApart}
+use Rattle.search.specs.Promises.{Passed, Handed, Leaves, Reached, Has-solution}
 use Rattle.search.specs.declared.state.State.{State}
 use Rattle.search.specs.declared.state.Ran.{Ran}
 use Rattle.search.specs.declared.state.Verdict.{Verdict}

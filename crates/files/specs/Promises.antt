@@ -8,13 +8,13 @@ use Rattle.splits.specs.Problem.{Problem, Proper, Table, Solution, possibilitie
 use Rattle.splits.specs.Masks.{lowest, single}
 use Rattle.splits.specs.Subproblems.{domain}
 use Rattle.splits.specs.Measure.{sum}
-use Rattle.splits.specs.Promises.{Solvable, One}
+use Rattle.splits.specs.Promises.{Solvable, AgreeApart, One}
 use Rattle.splits.specs.declared.subproblem.Subproblem.{Subproblem}
 use Rattle.search.specs.Agenda.{problemOf, stackOf, slotsIn, agendaOf}
 use Rattle.search.specs.FirstChecks.{WholeSlots, WholeRequests, Deserves-3, searchRefusal}
 use Rattle.search.specs.Runs.{Search}
 use Rattle.search.specs.Calls.{searchOf, Opens, Runs, Chooses}
-use Rattle.search.specs.Promises.{Handed, Reached, Has-solution, AgreeApart}
+use Rattle.search.specs.Promises.{Handed, Reached, Has-solution}
 use Rattle.search.specs.Verdicts.{numberOf}
 use Rattle.search.specs.declared.state.State.{State}
 use Rattle.search.specs.declared.state.Opened.{Opened}

@@ -11,12 +11,12 @@ use borrow.Author.Tests.{ne-eqb}
 use Rattle.splits.specs.Masks.{_∈_}
 use Rattle.splits.specs.Problem.{Problem, Proper}
 use Rattle.splits.specs.Subproblems.{Rules}
+use Rattle.splits.specs.Promises.{AgreeApart}
 use Rattle.splits.specs.declared.subproblem.Subproblem.{Subproblem}
 use Rattle.splits.proofs.Masks.{member-lt}
 use Rattle.splits.proofs.Tests.{same-test}
 use Rattle.search.specs.Agenda.{problemOf, stackOf}
 use Rattle.search.specs.FirstChecks.{Over, Deserves-4, Deserves-5, refusalOfNumbers, refusalOfLengths, refusalOfRequests, masksBelow, symmetric, refusalOfProblem, allObey, refusalOfSearch, orElse, openRefusal, searchRefusal, runRefusal}
-use Rattle.search.specs.Promises.{AgreeApart}
 use Rattle.search.proofs.Decisions.{Refutes}
 use Rattle.search.proofs.Deserved.{refutes-4, refutes-5, all-rules, all-obey}
 use Rattle.search.proofs.FirstParts.{open-parts}

@@ -12,7 +12,7 @@ use Rattle.splits.specs.Requests.{kindOf, variableOf, valueOf}
 use Rattle.splits.specs.Splits.{precluded, pieces}
 use Rattle.splits.specs.Checks.{checks}
 use Rattle.splits.specs.Refusals.{Deserves-7, Deserves-8, Deserves-9, Deserves-10, Accepted}
-use Rattle.splits.specs.Promises.{Solvable, One}
+use Rattle.splits.specs.Promises.{Solvable, AgreeApart, One}
 use Rattle.splits.specs.declared.subproblem.Subproblem.{Subproblem}
 use Rattle.search.specs.Agenda.{problemOf, slotsIn, stackOf}
 use Rattle.search.specs.Verdicts.{numberOf, verdictOf}
@@ -667,11 +667,6 @@ Run-passed =
     ↔ (PassedSearch n d domains tables agenda steps checks subproblems × WholeRequests n (length requests))
 
 -- ---- a variable with itself
-
--- Tables of as many words that agree wherever two different variables meet.
-pub record AgreeApart (n d : ℕ) (tables others : List ℕ) : Type 0 where
-  pub words : length tables ≡ length others
-  pub masks : (i j a : ℕ) → i < n → j < n → (i ≡ j → ⊥) → a < d → tableOf n d tables i j a ≡ tableOf n d others i j a
 
 -- The places for i with itself are never read: no refusal of opening depends on them.
 abbrev pub Open-apart : Type 0

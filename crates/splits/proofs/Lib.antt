@@ -20,6 +20,7 @@ pub mod Divided
 pub mod Placed
 pub mod OneByOne
 pub mod CheckLimit
+pub mod Apart
 pub mod Measures
 pub mod Consequences
 pub mod Shortcuts

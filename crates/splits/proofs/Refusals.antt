@@ -260,7 +260,7 @@ unfolding every
 every-same f g zero h = refl
 every-same f g (suc n) h = rw (every-same f g n (λ i l. h i (omega arith)), h n (omega arith))
 
-changed-same : {A : Type 0} (n : ℕ) (f g : ℕ → A → A) (l : List A) → ((i : ℕ) → i < n → (m : A) → f i m ≡ g i m) → changed n f l ≡ changed n g l
+pub changed-same : {A : Type 0} (n : ℕ) (f g : ℕ → A → A) (l : List A) → ((i : ℕ) → i < n → (m : A) → f i m ≡ g i m) → changed n f l ≡ changed n g l
 unfolding changed
 changed-same zero f g l h = refl
 changed-same (suc n) f g [] h = refl

@@ -5,7 +5,7 @@ use mathlib.Core.List.{List, [], _∷_, map, List·Memᴰ}
 use Prim.Native.Nat.{ℕ, _+_, _-_, _/_, _^_, _≤_, _<_}
 use lib.ListN.{length, getD}
 use Rattle.splits.specs.Masks.{_∈_, Part, single, size, lowest, smallerHalf}
-use Rattle.splits.specs.Problem.{Table, Problem, Proper, Possibility}
+use Rattle.splits.specs.Problem.{Table, Problem, Proper, Possibility, tableOf}
 use Rattle.splits.specs.Subproblems.{domain, Instantiated, Rules, SolutionOf, sizeOf}
 use Rattle.splits.specs.Requests.{kindOf, variableOf, valueOf, targetOf}
 use Rattle.splits.specs.Splits.{below, without, cutBeside, precluded, filled, pieces, candidates, candidate}
@@ -200,6 +200,25 @@ Reads-pieces = (n : ℕ) (allowed : Table) (P : Subproblem) (r s : List ℕ) →
 -- They have the same checks.
 abbrev pub Reads-checks : Type 0
 Reads-checks = (n : ℕ) (allowed : Table) (P : Subproblem) (r s : List ℕ) → Agree n r s → checks n allowed P r ≡ checks n allowed P s
+
+-- ---- a variable with itself
+
+-- Tables of as many words that agree wherever two different variables meet.
+pub record AgreeApart (n d : ℕ) (tables others : List ℕ) : Type 0 where
+  pub words : length tables ≡ length others
+  pub masks : (i j a : ℕ) → i < n → j < n → (i ≡ j → ⊥) → a < d → tableOf n d tables i j a ≡ tableOf n d others i j a
+
+-- The places for i with itself are never read: no piece depends on them.
+abbrev pub Diagonal-piece : Type 0
+Diagonal-piece =
+    (P : Subproblem) (n d : ℕ) (tables others request : List ℕ) (k : ℕ) (r : Subproblem) → AgreeApart n d tables others
+    → Piece P n d tables request k r → Piece P n d others request k r
+
+-- Nor does a count of checks.
+abbrev pub Diagonal-checks : Type 0
+Diagonal-checks =
+    (P : Subproblem) (n d : ℕ) (tables others request : List ℕ) (r : ℕ) → AgreeApart n d tables others
+    → Checks-of P n d tables request r → Checks-of P n d others request r
 
 -- ---- one answer
 
