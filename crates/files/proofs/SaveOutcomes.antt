@@ -16,7 +16,7 @@ use Rattle.search.proofs.FirstParts.{given-if, else-first, else-rest, else-pass
 use Rattle.files.specs.Blocks.{blocksFor, firstBlocks, fileOf}
 use Rattle.files.specs.Calls.{handedContent, saveRefusal, Saves}
 use Rattle.files.specs.Work.Said.{agendaStart, wordsOf}
-use Rattle.files.specs.Work.Saved.{Handed, handed, filePart}
+use Rattle.files.specs.Work.Saved.{Savable, handed, filePart}
 use Rattle.files.specs.declared.saved.Saved.{Saved}
 use Rattle.files.proofs.Blocks.{blocks-length}
 use Rattle.files.proofs.Written.{handed-length, file-same}
@@ -50,7 +50,7 @@ module _ (n d : ℕ) (domains tables agenda : List ℕ) (s : State) where
       (and-left a b (and-left (a && b) c (and-left (a && b && c) f (given-if (a && b && c && f) 6 (λ z. absurd (omega arith)) e))))
 
   -- What the first checks leave where they pass.
-  pub first-passed : searchRefusal n d domains tables agenda (s .counts .steps .0) (s .counts .checks .0) (s .subproblems) ≡ 0 → Handed n d domains tables agenda s
+  pub first-passed : searchRefusal n d domains tables agenda (s .counts .steps .0) (s .counts .checks .0) (s .subproblems) ≡ 0 → Savable n d domains tables agenda s
   unfolding searchRefusal
   first-passed e =
       let search : ℕ = refusalOfSearch (problemOf n d domains tables) agenda (s .counts .steps .0) (s .counts .checks .0) (s .subproblems) in

@@ -17,7 +17,7 @@ use Rattle.files.specs.Blocks.{fileBytes, wordAt, checkOf, contentOfBloc
 use Rattle.files.specs.Content.{each, triangle, contentOf}
 use Rattle.files.specs.Reading.{blockWord, headOf, triangleWords}
 use Rattle.files.specs.Work.Said.{Numbers, agendaStart, wordsOf}
-use Rattle.files.specs.Work.Saved.{Handed, handed, header, Tail, tail, blockPart, filePart}
+use Rattle.files.specs.Work.Saved.{Savable, handed, header, Tail, tail, blockPart, filePart}
 use Rattle.files.proofs.Lists.{map-is, each-length, each-none, each-more, total-below, seq, seq-is, padded-at}
 use Rattle.files.proofs.Words.{bytes-length, bytes-append, word-read}
 use Rattle.files.proofs.Triangle.{rest, rest-total, total-mul, row, row-length, row-words, triangle-rows, triangle-length}
@@ -159,7 +159,7 @@ unfolding header
 header-long n d s l e = ap length e
 
 -- There is room for the rest after them.
-pub content-rest : (n d : ℕ) (domains tables agenda : List ℕ) (s : State) → Handed n d domains tables agenda s → (l ys : List ℕ) → length l ≡ 25553 → ys ≡ header n d s
+pub content-rest : (n d : ℕ) (domains tables agenda : List ℕ) (s : State) → Savable n d domains tables agenda s → (l ys : List ℕ) → length l ≡ 25553 → ys ≡ header n d s
     → (length domains ≡ n) × ((n ≤ length (midOf 9 (length (ys ++ drop 9 l) - 9) (ys ++ drop 9 l)))
     × Tail n d tables agenda (s .subproblems) (length (midOf 9 (length (ys ++ drop 9 l) - 9) (ys ++ drop 9 l)) - n))
 content-rest n d domains tables agenda s hands l ys long y =
@@ -179,7 +179,7 @@ content-rest n d domains tables agenda s hands l ys long y =
       ),
     )
 
-module _ (n d : ℕ) (domains tables agenda : List ℕ) (s : State) (hands : Handed n d domains tables agenda s) (small : (i : ℕ) → getD agenda i 0 < 2 ^ 16) where
+module _ (n d : ℕ) (domains tables agenda : List ℕ) (s : State) (hands : Savable n d domains tables agenda s) (small : (i : ℕ) → getD agenda i 0 < 2 ^ 16) where
   used : ℕ
   used = s .subproblems * (n + 2)
 

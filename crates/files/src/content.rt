@@ -10,7 +10,7 @@ ghost use Rattle.splits.specs.Problem.{tableOf};
 ghost use Rattle.files.specs.Content.{triangle};
 ghost use Rattle.files.specs.Reading.{triangleWords};
 ghost use Rattle.files.specs.Work.Said.{Numbers, agendaStart, wordsOf};
-ghost use Rattle.files.specs.Work.Saved.{Handed, handed, header, Tail, tail};
+ghost use Rattle.files.specs.Work.Saved.{Savable, handed, header, Tail, tail};
 
 // How many words of a content come before its agenda.
 pub(crate) fn agenda_from(n: usize, d: usize) -> usize
@@ -111,7 +111,7 @@ pub(crate) fn put(
     state: State,
     words: &mut [u16],
 )
-    requires { ⌜ Handed n d (now domains) (now tables) (now agenda) state × (length (now words) ≡ 25553) ⌝ }
+    requires { ⌜ Savable n d (now domains) (now tables) (now agenda) state × (length (now words) ≡ 25553) ⌝ }
     ensures { λ r. ⌜ now (words .exit) ≡ handed n d (now (domains .entry)) (now (tables .entry)) (now (agenda .entry)) state ++ replicate (25553 - wordsOf n d (state .subproblems)) 0 ⌝ }
 {
     let first = header(n, d, state);

@@ -14,7 +14,7 @@ use Rattle.search.specs.Runs.{Search, Stopped, step, splitTop, refusalOf
 use Rattle.search.specs.Chooser.{chosen, chooseFrom}
 use Rattle.search.specs.FirstChecks.{openRefusal}
 use Rattle.search.specs.Calls.{opening, Opens, Ends}
-use Rattle.search.specs.Work.Steps.{Stops}
+use Rattle.search.specs.Work.Steps.{StopsAt}
 use Rattle.search.specs.Work.Ends.{Used, endedBy}
 use Rattle.search.specs.declared.state.State.{State}
 use Rattle.search.specs.declared.state.Ran.{Ran}
@@ -94,7 +94,7 @@ ends-refused first n agenda s stopped x e h =
 
 -- Stopped by the run.
 pub ends-stopped : (first n d : ℕ) (t before after : List ℕ) (s : State) (to stopped : Stopped) (x : ℕ) (stop : Stop) (r : Ran) → x ≡ first → x ≡ 0
-    → Stops n d t before after to stop → to ≡ stopped → r ≡ endedBy n after stop → Ends first n before after s stopped r
+    → StopsAt n d t before after to stop → to ≡ stopped → r ≡ endedBy n after stop → Ends first n before after s stopped r
 ends-stopped first n d t before after s to stopped x stop r e z h same made =
     let yes : eqb first 0 ≡ true = eq-eqb first 0 (sym e ∙ z) in
     let stack : stackOf n after (stop .state .subproblems) ≡ to .search .stack = ap (λ (q : Search). q .stack) (left-is n d t before after to stop h) in
@@ -110,7 +110,7 @@ ends-stopped first n d t before after s to stopped x stop r e z h same made =
     })
 
 -- The memory that is left can be read.
-pub stops-used : (n d : ℕ) (t before after : List ℕ) (to : Stopped) (stop : Stop) → Stops n d t before after to stop → Used n (stop .state .subproblems) (length after)
+pub stops-used : (n d : ℕ) (t before after : List ℕ) (to : Stopped) (stop : Stop) → StopsAt n d t before after to stop → Used n (stop .state .subproblems) (length after)
 stops-used n d t before after to stop h = ready-used n d t after (stop .state) (left-ready n d t before after to stop h)
 
 -- ---- opening

@@ -20,7 +20,7 @@ use Rattle.search.specs.Chooser.{chosen, chooseFrom, choose}
 use Rattle.search.specs.Calls.{searchOf}
 use Rattle.search.specs.Work.Slots.{SlotIn}
 use Rattle.search.specs.Work.Kept.{Regular, Ready}
-use Rattle.search.specs.Work.Steps.{Taking, Stops}
+use Rattle.search.specs.Work.Steps.{Taking, StopsAt}
 use Rattle.search.specs.Work.Choices.{chosenFor}
 use Rattle.search.specs.Work.Ends.{Used}
 use Rattle.search.specs.declared.state.State.{State}
@@ -78,7 +78,7 @@ module _ (n d : ℕ) (t agenda : List ℕ) (s : State) (ready : Ready n d t agen
 
   -- A search that is finished stays as it is.
   pub stays : (r : List ℕ) → finished n (stackOf n agenda (s .subproblems)) ≡ true
-      → Stops n d t agenda agenda (runFrom (problemOf n d [] t) (slotsIn n (length agenda)) (r ∷ []) (searchOf n agenda s) 0)
+      → StopsAt n d t agenda agenda (runFrom (problemOf n d [] t) (slotsIn n (length agenda)) (r ∷ []) (searchOf n agenda s) 0)
       (record { refusal = 0; taken = 0; state = s })
   stays r e =
       rw (one-finished (problemOf n d [] t) (slotsIn n (length agenda)) r (searchOf n agenda s) e)
@@ -98,7 +98,7 @@ module _ (n d : ℕ) (t agenda : List ℕ) (s : State) (ready : Ready n d t agen
   taking P b h top tested e = record { ready = ready; some = omega arith; top = top; runs = sym tested ∙ e }
 
 -- The search that a step left is the one that its words hold.
-pub left-is : (n d : ℕ) (t before after : List ℕ) (to : Stopped) (r : Stop) → Stops n d t before after to r → searchOf n after (r .state) ≡ to .search
+pub left-is : (n d : ℕ) (t before after : List ℕ) (to : Stopped) (r : Stop) → StopsAt n d t before after to r → searchOf n after (r .state) ≡ to .search
 left-is n d t before after to r h =
     let stack : stackOf n after (r .state .subproblems) ≡ to .search .stack =
     ap (stackOf n after) (h .subproblems) ∙ ap (λ (l : List ℕ). stackOf n l (length (to .search .stack))) (h .ready .words)
@@ -106,7 +106,7 @@ left-is n d t before after to r h =
     λ i. record { stack = stack i; steps = h .steps i; checks = h .checks i }
 
 -- It is ready for the next step.
-pub left-ready : (n d : ℕ) (t before after : List ℕ) (to : Stopped) (r : Stop) → Stops n d t before after to r → Ready n d t after (searchOf n after (r .state))
+pub left-ready : (n d : ℕ) (t before after : List ℕ) (to : Stopped) (r : Stop) → StopsAt n d t before after to r → Ready n d t after (searchOf n after (r .state))
 left-ready n d t before after to r h = rw (left-is n d t before after to r h) (h .ready)
 
 -- ---- the requests of a list of words
@@ -145,7 +145,7 @@ going-none n d t requests before start h = record { ready = h; room = refl; same
 module _ (n d : ℕ) (t requests before : List ℕ) (start : State) (agenda : List ℕ) (s : State) (taken : ℕ) (g : Going n d t requests before start agenda s taken) where
   -- At the end of the list.
   pub going-end : length requests / (n + 3) ≤ taken
-      → Stops n d t before agenda (run (problemOf n d [] t) (slotsIn n (length before)) (requestsIn n requests) (searchOf n before start))
+      → StopsAt n d t before agenda (run (problemOf n d [] t) (slotsIn n (length before)) (requestsIn n requests) (searchOf n before start))
       (record { refusal = 0; taken = taken; state = s })
   unfolding requestsIn runFrom
   going-end h =
@@ -161,7 +161,7 @@ module _ (n d : ℕ) (t requests before : List ℕ) (start : State) (agenda : Li
       })
 
   module _ (more : taken < length requests / (n + 3)) (after : List ℕ) (stop : Stop)
-      (stepped : Stops n d t agenda after (runFrom (problemOf n d [] t) (slotsIn n (length agenda))
+      (stepped : StopsAt n d t agenda after (runFrom (problemOf n d [] t) (slotsIn n (length agenda))
       (take ((taken * (n + 3) + (n + 3)) - taken * (n + 3)) (drop (taken * (n + 3)) requests) ∷ []) (searchOf n agenda s) 0) stop) where
     -- The request that was taken, and the run from it on.
     request : List ℕ
@@ -171,7 +171,7 @@ module _ (n d : ℕ) (t requests before : List ℕ) (start : State) (agenda : Li
     one = runFrom (problemOf n d [] t) (slotsIn n (length before)) (request ∷ []) (searchOf n agenda s) 0
 
     -- The step that was made.
-    one-stops : Stops n d t agenda after one stop
+    one-stops : StopsAt n d t agenda after one stop
     unfolding one request
     one-stops =
         let w : (taken * (n + 3) + (n + 3)) - taken * (n + 3) ≡ n + 3 = omega arith in
@@ -196,7 +196,7 @@ module _ (n d : ℕ) (t requests before : List ℕ) (start : State) (agenda : Li
 
     -- A request that was not.
     pub going-stops : stop .taken ≡ 0
-        → Stops n d t before after (run (problemOf n d [] t) (slotsIn n (length before)) (requestsIn n requests) (searchOf n before start))
+        → StopsAt n d t before after (run (problemOf n d [] t) (slotsIn n (length before)) (requestsIn n requests) (searchOf n before start))
         (record { refusal = stop .refusal; taken = taken; state = stop .state })
     unfolding one
     going-stops h =
@@ -266,7 +266,7 @@ module _ (n d : ℕ) (t : List ℕ) (limit : ℕ) (before : List ℕ) (start : S
     (g : GoingChosen n d t limit before start agenda s taken) where
   -- At the limit.
   pub choosing-end : limit ≤ taken
-      → Stops n d t before agenda (choose (problemOf n d [] t) (slotsIn n (length before)) limit (searchOf n before start))
+      → StopsAt n d t before agenda (choose (problemOf n d [] t) (slotsIn n (length before)) limit (searchOf n before start))
       (record { refusal = 0; taken = taken; state = s })
   unfolding chooseFrom
   choosing-end h =
@@ -283,13 +283,13 @@ module _ (n d : ℕ) (t : List ℕ) (limit : ℕ) (before : List ℕ) (start : S
       })
 
   module _ (more : taken < limit) (after : List ℕ) (stop : Stop)
-      (stepped : Stops n d t agenda after (chooseFrom (problemOf n d [] t) (slotsIn n (length agenda)) 1 (searchOf n agenda s) 0) stop) where
+      (stepped : StopsAt n d t agenda after (chooseFrom (problemOf n d [] t) (slotsIn n (length agenda)) 1 (searchOf n agenda s) 0) stop) where
     -- The step at hand.
     one-step : Stopped
     one-step = chooseFrom (problemOf n d [] t) (slotsIn n (length before)) 1 (searchOf n agenda s) 0
 
     -- The step that was made.
-    step-stops : Stops n d t agenda after one-step stop
+    step-stops : StopsAt n d t agenda after one-step stop
     unfolding one-step
     step-stops = rw (g .room) at stepped
 
@@ -312,7 +312,7 @@ module _ (n d : ℕ) (t : List ℕ) (limit : ℕ) (before : List ℕ) (start : S
 
     -- A step that was not.
     pub choosing-stops : stop .taken ≡ 0
-        → Stops n d t before after (choose (problemOf n d [] t) (slotsIn n (length before)) limit (searchOf n before start))
+        → StopsAt n d t before after (choose (problemOf n d [] t) (slotsIn n (length before)) limit (searchOf n before start))
         (record { refusal = stop .refusal; taken = taken; state = stop .state })
     unfolding one-step
     choosing-stops h =
@@ -332,7 +332,7 @@ module _ (n d : ℕ) (t : List ℕ) (limit : ℕ) (before : List ℕ) (start : S
 module _ (n d : ℕ) (t agenda : List ℕ) (s : State) (ready : Ready n d t agenda (searchOf n agenda s)) where
   -- A search that is finished stays as it is.
   pub stays-chosen : finished n (stackOf n agenda (s .subproblems)) ≡ true
-      → Stops n d t agenda agenda (chooseFrom (problemOf n d [] t) (slotsIn n (length agenda)) 1 (searchOf n agenda s) 0)
+      → StopsAt n d t agenda agenda (chooseFrom (problemOf n d [] t) (slotsIn n (length agenda)) 1 (searchOf n agenda s) 0)
       (record { refusal = 0; taken = 0; state = s })
   stays-chosen e =
       rw (choose-one (problemOf n d [] t) (slotsIn n (length agenda)) (searchOf n agenda s))
@@ -353,8 +353,8 @@ module _ (n d : ℕ) (t agenda : List ℕ) (s : State) (ready : Ready n d t agen
 
     -- The request that was made is the one that the rule chooses.
     pub chosen-stops : (r after : List ℕ) (stop : Stop) → r ≡ chosenFor n d t P (slotsIn n (length agenda) - (s .subproblems - 1))
-        → Stops n d t agenda after (runFrom (problemOf n d [] t) (slotsIn n (length agenda)) (r ∷ []) (searchOf n agenda s) 0) stop
-        → Stops n d t agenda after (chooseFrom (problemOf n d [] t) (slotsIn n (length agenda)) 1 (searchOf n agenda s) 0) stop
+        → StopsAt n d t agenda after (runFrom (problemOf n d [] t) (slotsIn n (length agenda)) (r ∷ []) (searchOf n agenda s) 0) stop
+        → StopsAt n d t agenda after (chooseFrom (problemOf n d [] t) (slotsIn n (length agenda)) 1 (searchOf n agenda s) 0) stop
     chosen-stops r after stop e h =
         let many : length (stackOf n agenda (s .subproblems - 1)) ≡ s .subproblems - 1 = length-stackOf n agenda (s .subproblems - 1) in
         let same : r ≡ chosen (problemOf n d [] t) (slotsIn n (length agenda)) (stackOf n agenda (s .subproblems)) =

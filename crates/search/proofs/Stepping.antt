@@ -30,7 +30,7 @@ use Rattle.search.specs.Verdicts.{finished}
 use Rattle.search.specs.Runs.{Search, splitTop, step, refusalOfTop, refusalOfRequest, runFrom}
 use Rattle.search.specs.Work.Slots.{splice}
 use Rattle.search.specs.Work.Kept.{Shape, Regular, Ready}
-use Rattle.search.specs.Work.Steps.{Replaced, Taking, Stops, refusalFor}
+use Rattle.search.specs.Work.Steps.{Replaced, Taking, StopsAt, refusalFor}
 use Rattle.search.specs.Calls.{searchOf}
 use Rattle.search.specs.declared.state.State.{State}
 use Rattle.search.proofs.Encoding.{length-stack, length-stackOf, stack-append, length-agenda, agenda-pop, agenda-push}
@@ -190,7 +190,7 @@ module _ (n d : ℕ) (t agenda : List ℕ) (P : Subproblem) (r : List ℕ) (s : 
 
   -- Refused, nothing changes.
   pub take-refused : (x : ℕ) → x ≡ refusalFor n d t P r (s .counts .steps .0) (slotsIn n (length agenda) - (s .subproblems - 1)) → (x ≡ 0 → ⊥)
-      → Stops n d t agenda agenda (runFrom (problemOf n d [] t) (slotsIn n (length agenda)) (r ∷ []) (searchOf n agenda s) 0) (record { refusal = x; taken = 0; state = s })
+      → StopsAt n d t agenda agenda (runFrom (problemOf n d [] t) (slotsIn n (length agenda)) (r ∷ []) (searchOf n agenda s) 0) (record { refusal = x; taken = 0; state = s })
   take-refused x e f =
       rw (one-refused (problemOf n d [] t) (slotsIn n (length agenda)) r (searchOf n agenda s) runs x (e ∙ its-refusal) f)
       (record {
@@ -295,7 +295,7 @@ module _ (n d : ℕ) (t agenda : List ℕ) (P : Subproblem) (r : List ℕ) (s : 
     -- Accepted, memory holds the search after the step.
     pub take-taken : (after : List ℕ) (count c : ℕ) → Replaced n (pieces n (tableOf n d t) P r) (s .subproblems - 1) agenda after count
         → c ≡ s .counts .checks .0 + checks n (tableOf n d t) P r
-        → Stops n d t agenda after (runFrom (problemOf n d [] t) (slotsIn n (length agenda)) (r ∷ []) (searchOf n agenda s) 0)
+        → StopsAt n d t agenda after (runFrom (problemOf n d [] t) (slotsIn n (length agenda)) (r ∷ []) (searchOf n agenda s) 0)
         (record { refusal = 0; taken = 1; state = record { counts = record { steps = record { 0 = s .counts .steps .0 + 1 }; checks = record { 0 = c } }; subproblems = count } })
     take-taken after count c m k =
         rw (

@@ -94,6 +94,23 @@ module _ (n : ℕ) (f g : Table) (P : Subproblem) (V′ v : ℕ) where
     unfolding tried others instantiatedOther
     tried-same = looked-same _ _ _ (λ i m. let (l, e) = kept-lt (instantiatedOther P V′) n i m in other-same i l e)
 
+-- ---- the precluded piece
+
+-- of the tables only their length is asked
+inside-same : (n d : ℕ) (tables others : List ℕ) → AgreeApart n d tables others → (V′ v : ℕ) → inside n d tables V′ v ≡ inside n d others V′ v
+unfolding inside sized
+inside-same n d tables others h V′ v = rw (h .words) refl
+
+pub apart-precluded : (n d : ℕ) (tables others : List ℕ) → AgreeApart n d tables others → (P : Subproblem) (V′ v : ℕ)
+    → cond (inside n d tables V′ v) (precluded n (tableOf n d tables) P V′ v) P ≡ cond (inside n d others V′ v) (precluded n (tableOf n d others) P V′ v) P
+apart-precluded n d tables others h P V′ v =
+    cond-same (inside n d tables V′ v)
+    (λ z.
+    let in-range = inside-true n d tables V′ v z in
+    precluded-same n (tableOf n d tables) (tableOf n d others) P V′ v (λ i l q. h .masks V′ i v (in-range .a-variable) l q (in-range .a-value)))
+    (λ z. refl)
+    ∙ ap (λ (b : Bool). cond b (precluded n (tableOf n d others) P V′ v) P) (inside-same n d tables others h V′ v)
+
 -- ---- the two calls
 
 module _ (n d : ℕ) (tables others : List ℕ) (h : AgreeApart n d tables others) (P : Subproblem) (r : List ℕ) where
@@ -116,10 +133,9 @@ module _ (n d : ℕ) (tables others : List ℕ) (h : AgreeApart n d tables other
   unfolding forbids
   forbids-same l i k q = ap (λ m. eqb (bit m (valueOf r)) 0) (masks-same i (variableOf r) (lowest (domain P i)) k l q)
 
-  -- of the tables only their length is asked
   readable-same : readable n d tables r ≡ readable n d others r
-  unfolding readable inside sized
-  readable-same = rw (h .words) refl
+  unfolding readable
+  readable-same = rw (inside-same n d tables others h (variableOf r) (valueOf r)) refl
 
   module _ (fits : readable n d tables r ≡ true) where
     -- kinds 1 to 3 name a variable

@@ -14,7 +14,7 @@ use Rattle.splits.specs.Subproblems.{domain, empty, some}
 use Rattle.splits.specs.Splits.{filled, keep, below, precluded, disjunct, without, cutBeside, changed, instantiate, extract, atTargets}
 use Rattle.splits.specs.Shortcuts.{skipping, weak, weakDisjunct, untargeted, pair-top}
 use Rattle.splits.specs.Measure.{sum, unmarked, measure}
-use Rattle.splits.specs.Promises.{Sound, Cover, Exact, Obeys, Sizes, Apart, Falls, Peel, Solved, Skipping-loses, Weak-overlaps, One-value-lies, Dropping-loses, No-constraint, Lowest-value, Smaller-half-of, One-by-one, At-most-496, Refusal-7, Refusal-8, Refusal-9, Refusal-10, Refusal-none, Reads-refusal, Reads-pieces, Reads-checks, Diagonal-piece, Diagonal-checks, Count-one, First-one, Smaller-half-one, Domain-one, Is-instantiated-one, All-instantiated-one, Is-empty-one, Instantiate-one, Without-one, Cut-one, Precluded-one, Precluded-empty-one, Candidates-one, Piece-one, Checks-one, Refusal-one}
+use Rattle.splits.specs.Promises.{Sound, Cover, Exact, Obeys, Sizes, Apart, Falls, Peel, Solved, Skipping-loses, Weak-overlaps, One-value-lies, Dropping-loses, No-constraint, Lowest-value, Smaller-half-of, One-by-one, At-most-496, Refusal-7, Refusal-8, Refusal-9, Refusal-10, Refusal-none, Reads-refusal, Reads-pieces, Reads-checks, Diagonal-piece, Diagonal-precluded, Diagonal-precluded-empty, Diagonal-checks, Count-one, First-one, Smaller-half-one, Domain-one, Is-instantiated-one, All-instantiated-one, Is-empty-one, Instantiate-one, Without-one, Cut-one, Precluded-one, Precluded-empty-one, Candidates-one, Piece-one, Checks-one, Refusal-one}
 use Rattle.splits.specs.declared.subproblem.Subproblem.{Subproblem}
 use Rattle.splits.proofs.Masks.{size-single, all-set, lowest-member, lowest-least, half-part, half-size, half-below}
 use Rattle.splits.proofs.Splitting.{lowest-in}
@@ -22,7 +22,7 @@ use Rattle.splits.proofs.Consequences.{sounds, covers, exactly, apart a
 use Rattle.splits.proofs.Weights.{weigh, bySize}
 use Rattle.splits.proofs.OneByOne.{all-one-by-one}
 use Rattle.splits.proofs.CheckLimit.{at-most-496 as limit}
-use Rattle.splits.proofs.Apart.{apart-piece, apart-checks}
+use Rattle.splits.proofs.Apart.{apart-piece, apart-precluded, apart-checks}
 use Rattle.splits.proofs.Placed.{held, placed, placed-filled, placed-peel}
 use Rattle.splits.proofs.Shortcuts.{both-zero, in-both, pair-domains, two-idc, two-extraction, three-idc, pair-proper, pair-rules, two-solvable}
 use Rattle.splits.proofs.Refusals.{is-7, is-8, is-9, is-10, is-none, same-refusal, same-pieces, same-checks, one}
@@ -129,6 +129,12 @@ reads-checks n allowed P r s h = same-checks n P r s h allowed
 
 pub diagonal-piece : Diagonal-piece
 diagonal-piece P n d tables others request k r h = apart-piece n d tables others h P request k r
+
+pub diagonal-precluded : Diagonal-precluded
+diagonal-precluded P n d tables others V′ v r h e = e ∙ apart-precluded n d tables others h P V′ v
+
+pub diagonal-precluded-empty : Diagonal-precluded-empty
+diagonal-precluded-empty P n d tables others V′ v r h e = e ∙ ap (empty n) (apart-precluded n d tables others h P V′ v)
 
 pub diagonal-checks : Diagonal-checks
 diagonal-checks P n d tables others request r h = apart-checks n d tables others h P request r

@@ -1,6 +1,7 @@
 -- What the five splits promise, of any proper problem, any subproblem P on the agenda and any accepted request.
 use mathlib.Core.Path.{_≡_}
 use mathlib.Core.Logic.{_⊎_, _↔_}
+use mathlib.Core.Bool.{Bool}
 use mathlib.Core.List.{List, [], _∷_, map, List·Memᴰ}
 use Prim.Native.Nat.{ℕ, _+_, _-_, _/_, _^_, _≤_, _<_}
 use lib.ListN.{length, getD}
@@ -213,6 +214,18 @@ abbrev pub Diagonal-piece : Type 0
 Diagonal-piece =
     (P : Subproblem) (n d : ℕ) (tables others request : List ℕ) (k : ℕ) (r : Subproblem) → AgreeApart n d tables others
     → Piece P n d tables request k r → Piece P n d others request k r
+
+-- Nor does the precluded piece.
+abbrev pub Diagonal-precluded : Type 0
+Diagonal-precluded =
+    (P : Subproblem) (n d : ℕ) (tables others : List ℕ) (V′ v : ℕ) (r : Subproblem) → AgreeApart n d tables others
+    → Precluded P n d tables V′ v r → Precluded P n d others V′ v r
+
+-- Nor does whether it is empty.
+abbrev pub Diagonal-precluded-empty : Type 0
+Diagonal-precluded-empty =
+    (P : Subproblem) (n d : ℕ) (tables others : List ℕ) (V′ v : ℕ) (r : Bool) → AgreeApart n d tables others
+    → Precluded-empty P n d tables V′ v r → Precluded-empty P n d others V′ v r
 
 -- Nor does a count of checks.
 abbrev pub Diagonal-checks : Type 0

@@ -13,9 +13,9 @@ ghost use Rattle.splits.specs.Work.Ranges.{Inside};
 ghost use Rattle.splits.specs.Work.Loops.{LookedAt};
 
 // How many instantiated variables kind 1 looked at, and whether the last of them forbids the value.
-pub struct Looked {
-    pub count: usize,
-    pub conflict: bool,
+pub(crate) struct Looked {
+    pub(crate) count: usize,
+    pub(crate) conflict: bool,
 }
 
 // Whether `i` is instantiated and another than `variable`.

@@ -12,7 +12,7 @@ use Rattle.files.specs.Calls.{handedContent}
 use Rattle.files.specs.Work.Said.{Numbers}
 
 -- What the first checks leave.
-pub record Handed (n d : ℕ) (domains tables agenda : List ℕ) (s : State) : Type 0 where
+pub record Savable (n d : ℕ) (domains tables agenda : List ℕ) (s : State) : Type 0 where
   pub numbers : Numbers n d
   pub domains-words : length domains ≡ n
   pub tables-words : length tables ≡ n * n * d

@@ -52,7 +52,7 @@ pub record Taking (n d : ℕ) (tables agenda : List ℕ) (P : Subproblem) (s : S
   pub runs : instantiated n P ≡ false
 
 -- What a step or a run leaves that stops so.
-pub record Stops (n d : ℕ) (tables before after : List ℕ) (to : Stopped) (r : Stop) : Type 0 where
+pub record StopsAt (n d : ℕ) (tables before after : List ℕ) (to : Stopped) (r : Stop) : Type 0 where
   pub refusal : r .refusal ≡ to .refusal
   pub taken : r .taken ≡ to .taken
   pub steps : r .state .counts .steps .0 ≡ to .search .steps
@@ -64,17 +64,17 @@ pub record Stops (n d : ℕ) (tables before after : List ℕ) (to : Stopped) (r 
 -- One request of a run, and all of them.
 abbrev pub TakesOne : ℕ → ℕ → List ℕ → List ℕ → List ℕ → List ℕ → State → Stop → Type 0
 TakesOne n d tables before after request s r =
-    Stops n d tables before after (runFrom (problemOf n d [] tables) (slotsIn n (length before)) (request ∷ []) (searchOf n before s) 0) r
+    StopsAt n d tables before after (runFrom (problemOf n d [] tables) (slotsIn n (length before)) (request ∷ []) (searchOf n before s) 0) r
 
 abbrev pub TakesAll : ℕ → ℕ → List ℕ → List ℕ → List ℕ → List ℕ → State → Stop → Type 0
 TakesAll n d tables before after requests s r =
-    Stops n d tables before after (run (problemOf n d [] tables) (slotsIn n (length before)) (requestsIn n requests) (searchOf n before s)) r
+    StopsAt n d tables before after (run (problemOf n d [] tables) (slotsIn n (length before)) (requestsIn n requests) (searchOf n before s)) r
 
 -- One step of the chooser, and up to a number of them.
 abbrev pub ChoosesOne : ℕ → ℕ → List ℕ → List ℕ → List ℕ → State → Stop → Type 0
 ChoosesOne n d tables before after s r =
-    Stops n d tables before after (chooseFrom (problemOf n d [] tables) (slotsIn n (length before)) 1 (searchOf n before s) 0) r
+    StopsAt n d tables before after (chooseFrom (problemOf n d [] tables) (slotsIn n (length before)) 1 (searchOf n before s) 0) r
 
 abbrev pub ChoosesAll : ℕ → ℕ → List ℕ → List ℕ → List ℕ → ℕ → State → Stop → Type 0
 ChoosesAll n d tables before after limit s r =
-    Stops n d tables before after (choose (problemOf n d [] tables) (slotsIn n (length before)) limit (searchOf n before s)) r
+    StopsAt n d tables before after (choose (problemOf n d [] tables) (slotsIn n (length before)) limit (searchOf n before s)) r
