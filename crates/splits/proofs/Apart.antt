@@ -1,6 +1,6 @@
 -- What stands in the tables for a variable with itself is never read: tables that agree elsewhere have the same pieces and the same checks.
 -- Assumes nothing.
-use mathlib.Core.Path.{_≡_, refl, sym, ap, ap₂, _∙_, subst}
+use mathlib.Core.Path.{_≡_, refl, sym, ap, _∙_, subst}
 use mathlib.Core.Bool.{Bool, true, false, cond, _&&_}
 use mathlib.Core.List.{List, [], _∷_, List·Memᴰ, List·Memᴰ·head, List·Memᴰ·tail, map-id}
 use Prim.Native.Nat.{ℕ, _+_, _-_, _≤_, _<_}
@@ -71,7 +71,7 @@ module _ (n : ℕ) (f g : Table) (P : Subproblem) (V′ v : ℕ) where
 
     pub disjunct-same : (j : ℕ) → j < n → (V′ ≡ j → ⊥) → disjunct f P V′ v j ≡ disjunct g P V′ v j
     unfolding disjunct
-    disjunct-same j l q = ap₂ (λ Q m. without Q j m) (beside-same (without P V′ (single v)) j (omega arith)) (same j l q)
+    disjunct-same j l q = rw (beside-same (without P V′ (single v)) j (omega arith), same j l q) refl
 
     inferred-same : (k : ℕ) → k ≤ n → inferred n f P V′ v k ≡ inferred n g P V′ v k
     unfolding inferred

@@ -38,7 +38,7 @@ pub(crate) fn has(mask: u16, value: usize) -> bool
     }
 }
 
-// The smaller half of the values of a mask: of an odd number the larger part.
+// The smallest values of a mask: half of them, rounded up.
 pub fn smaller_half(mask: u16) -> u16
     ensures { λ r. ⌜ Smaller-half mask r ⌝ }
 {
