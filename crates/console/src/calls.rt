@@ -1,4 +1,5 @@
-// The calls on bytes: at the words that the bytes say, or refused where these are not whole words or more than the rules allow.
+// The calls on bytes: at the words that the bytes say, or refused where these are not whole words or more than the rules allow. Tables are made
+// last: the first checks begin with them, and find them in the cache.
 use crate::bytes;
 use crate::numbers;
 use crate::parts;
@@ -26,10 +27,10 @@ fn open_words(n: usize, d: usize, domains: &[u8], tables: &[u8], agenda: &mut [u
     let room = agenda.len() / 2;
     let mut domain_words = [0u16; 32];
     bytes::words_of(domains, &mut domain_words);
-    let mut table_words = [0u16; 16384];
-    bytes::words_of(tables, &mut table_words);
     let mut agenda_words = [0u16; 17408];
     bytes::words_of(agenda, &mut agenda_words);
+    let mut table_words = [0u16; 16384];
+    bytes::words_of(tables, &mut table_words);
     let opened = search::open(
         n,
         d,
@@ -69,10 +70,10 @@ fn run_words(
     let room = agenda.len() / 2;
     let mut domain_words = [0u16; 32];
     bytes::words_of(domains, &mut domain_words);
-    let mut table_words = [0u16; 16384];
-    bytes::words_of(tables, &mut table_words);
     let mut agenda_words = [0u16; 17408];
     bytes::words_of(agenda, &mut agenda_words);
+    let mut table_words = [0u16; 16384];
+    bytes::words_of(tables, &mut table_words);
     let ran = parts::run_parts(
         n,
         d,
@@ -132,10 +133,10 @@ fn choose_words(
     let room = agenda.len() / 2;
     let mut domain_words = [0u16; 32];
     bytes::words_of(domains, &mut domain_words);
-    let mut table_words = [0u16; 16384];
-    bytes::words_of(tables, &mut table_words);
     let mut agenda_words = [0u16; 17408];
     bytes::words_of(agenda, &mut agenda_words);
+    let mut table_words = [0u16; 16384];
+    bytes::words_of(tables, &mut table_words);
     let ran = search::choose(
         n,
         d,
@@ -186,10 +187,10 @@ fn save_words(
     let room = agenda.len() / 2;
     let mut domain_words = [0u16; 32];
     bytes::words_of(domains, &mut domain_words);
-    let mut table_words = [0u16; 16384];
-    bytes::words_of(tables, &mut table_words);
     let mut agenda_words = [0u16; 17408];
     bytes::words_of(agenda, &mut agenda_words);
+    let mut table_words = [0u16; 16384];
+    bytes::words_of(tables, &mut table_words);
     files::save(
         n,
         d,
@@ -229,10 +230,10 @@ fn load_words(file: &[u8], domains: &mut [u8], tables: &mut [u8], agenda: &mut [
     let room = agenda.len() / 2;
     let mut domain_words = [0u16; 32];
     bytes::words_of(domains, &mut domain_words);
-    let mut table_words = [0u16; 16384];
-    bytes::words_of(tables, &mut table_words);
     let mut agenda_words = [0u16; 17408];
     bytes::words_of(agenda, &mut agenda_words);
+    let mut table_words = [0u16; 16384];
+    bytes::words_of(tables, &mut table_words);
     let loaded = files::load(
         file,
         &mut domain_words[..variables],

@@ -16,13 +16,13 @@ slice-aggregate-words-of-2 : tie.Need-slice-aggregate-words-of-2
 slice-aggregate-words-of-2 c = refl
 
 words-of-requires-2 : tie.Need-words-of-requires-2
-words-of-requires-2 c κs = let fit = c .before .before .before .before .before .before .before .before .before .before .pre .of-tables in (fit .even, (fit .some, fit .few))
+words-of-requires-2 c κs = let fit = c .before .before .before .before .before .before .before .before .before .before .pre .of-agenda in (fit .even, (fit .some, fit .few))
 
 slice-aggregate-words-of-3 : tie.Need-slice-aggregate-words-of-3
 slice-aggregate-words-of-3 c = refl
 
 words-of-requires-3 : tie.Need-words-of-requires-3
-words-of-requires-3 c κs = let fit = c .before .before .before .before .before .before .before .before .before .before .before .before .before .before .pre .of-agenda in (fit .even, (fit .some, fit .few))
+words-of-requires-3 c κs = let fit = c .before .before .before .before .before .before .before .before .before .before .before .before .before .before .pre .of-tables in (fit .even, (fit .some, fit .few))
 
 array-borrow-prefix-domain-words : tie.Need-array-borrow-prefix-domain-words
 array-borrow-prefix-domain-words c = half-fits _ _ _ (c .before .before .before .before .before .before .before .before .before .before .before .before .before .before .before .before .pre .of-domains .few) (c .before .before .before .before .before .before .before .before .before .words-of .kept .1 .0)
@@ -31,16 +31,16 @@ slice-aggregate-load : tie.Need-slice-aggregate-load
 slice-aggregate-load c = count-is _ _ (c .before .before .before .before .before .before .before .before .before .before .words-of .ensures)
 
 array-borrow-prefix-table-words : tie.Need-array-borrow-prefix-table-words
-array-borrow-prefix-table-words c = half-fits _ _ _ (c .before .before .before .before .before .before .before .before .before .before .before .before .before .before .before .before .before .pre .of-tables .few) (c .before .before .before .before .before .before .words-of2 .kept .1 .0)
+array-borrow-prefix-table-words c = half-fits _ _ _ (c .before .before .before .before .before .before .before .before .before .before .before .before .before .before .before .before .before .pre .of-tables .few) (c .before .before .words-of3 .kept .1 .0)
 
 slice-aggregate-load-2 : tie.Need-slice-aggregate-load-2
-slice-aggregate-load-2 c = count-is _ _ (c .before .before .before .before .before .before .before .words-of2 .ensures)
+slice-aggregate-load-2 c = count-is _ _ (c .before .before .before .words-of3 .ensures)
 
 array-borrow-prefix-agenda-words : tie.Need-array-borrow-prefix-agenda-words
-array-borrow-prefix-agenda-words c = half-fits _ _ _ (c .before .before .before .before .before .before .before .before .before .before .before .before .before .before .before .before .before .before .pre .of-agenda .few) (c .before .before .before .words-of3 .kept .1 .0)
+array-borrow-prefix-agenda-words c = half-fits _ _ _ (c .before .before .before .before .before .before .before .before .before .before .before .before .before .before .before .before .before .before .pre .of-agenda .few) (c .before .before .before .before .before .before .before .words-of2 .kept .1 .0)
 
 slice-aggregate-load-3 : tie.Need-slice-aggregate-load-3
-slice-aggregate-load-3 c = count-is _ _ (c .before .before .before .before .words-of3 .ensures)
+slice-aggregate-load-3 c = count-is _ _ (c .before .before .before .before .before .before .before .before .words-of2 .ensures)
 
 load-requires : tie.Need-load-requires
 load-requires c κs = tt
@@ -55,22 +55,22 @@ bytes-of-requires : tie.Need-bytes-of-requires
 bytes-of-requires c κs = left-bytes _ _ (c .before .before .before .before .before .load .last .1 .0) (c .before .before .before .before .before .before .before .before .before .before .before .before .before .before .before .before .before .before .words-of .ensures) (c .before .before .before .before .before .load .kept .1 .0) (c .before .before .before .before .before .before .before .before .before .before .before .before .before .before .before .before .before .before .before .before .before .before .before .before .before .pre .of-domains .even)
 
 array-share-prefix-table-words : tie.Need-array-share-prefix-table-words
-array-share-prefix-table-words c = left-fits _ _ (c .before .before .before .before .before .before .before .before .load .last .1 .1 .0) (c .before .before .before .before .before .before .before .before .before .before .before .before .before .before .before .before .before .words-of2 .ensures) (c .before .before .before .before .before .before .before .before .load .kept .1 .1 .0)
+array-share-prefix-table-words c = left-fits _ _ (c .before .before .before .before .before .before .before .before .load .last .1 .1 .0) (c .before .before .before .before .before .before .before .before .before .before .before .before .before .words-of3 .ensures) (c .before .before .before .before .before .before .before .before .load .kept .1 .1 .0)
 
 slice-aggregate-bytes-of-2 : tie.Need-slice-aggregate-bytes-of-2
-slice-aggregate-bytes-of-2 c = left-count _ _ (c .before .before .before .before .before .before .before .before .before .load .last .1 .1 .0) (c .before .before .before .before .before .before .before .before .before .before .before .before .before .before .before .before .before .before .words-of2 .ensures) (c .before .before .before .before .before .before .before .before .before .load .kept .1 .1 .0)
+slice-aggregate-bytes-of-2 c = left-count _ _ (c .before .before .before .before .before .before .before .before .before .load .last .1 .1 .0) (c .before .before .before .before .before .before .before .before .before .before .before .before .before .before .words-of3 .ensures) (c .before .before .before .before .before .before .before .before .before .load .kept .1 .1 .0)
 
 bytes-of-requires-2 : tie.Need-bytes-of-requires-2
-bytes-of-requires-2 c κs = left-bytes _ _ (c .before .before .before .before .before .before .before .before .before .before .load .last .1 .1 .0) (c .before .before .before .before .before .before .before .before .before .before .before .before .before .before .before .before .before .before .before .words-of2 .ensures) (c .before .before .before .before .before .before .before .before .before .before .load .kept .1 .1 .0) (c .before .before .before .before .before .before .before .before .before .before .before .before .before .before .before .before .before .before .before .before .before .before .before .before .before .before .before .before .before .before .pre .of-tables .even)
+bytes-of-requires-2 c κs = left-bytes _ _ (c .before .before .before .before .before .before .before .before .before .before .load .last .1 .1 .0) (c .before .before .before .before .before .before .before .before .before .before .before .before .before .before .before .words-of3 .ensures) (c .before .before .before .before .before .before .before .before .before .before .load .kept .1 .1 .0) (c .before .before .before .before .before .before .before .before .before .before .before .before .before .before .before .before .before .before .before .before .before .before .before .before .before .before .before .before .before .before .pre .of-tables .even)
 
 array-share-prefix-agenda-words : tie.Need-array-share-prefix-agenda-words
-array-share-prefix-agenda-words c = left-fits _ _ (c .before .before .before .before .before .before .before .before .before .before .before .before .before .load .last .1 .1 .1 .0) (c .before .before .before .before .before .before .before .before .before .before .before .before .before .before .before .before .before .before .words-of3 .ensures) (c .before .before .before .before .before .before .before .before .before .before .before .before .before .load .kept .1 .1 .1 .0)
+array-share-prefix-agenda-words c = left-fits _ _ (c .before .before .before .before .before .before .before .before .before .before .before .before .before .load .last .1 .1 .1 .0) (c .before .before .before .before .before .before .before .before .before .before .before .before .before .before .before .before .before .before .before .before .before .before .words-of2 .ensures) (c .before .before .before .before .before .before .before .before .before .before .before .before .before .load .kept .1 .1 .1 .0)
 
 slice-aggregate-bytes-of-3 : tie.Need-slice-aggregate-bytes-of-3
-slice-aggregate-bytes-of-3 c = left-count _ _ (c .before .before .before .before .before .before .before .before .before .before .before .before .before .before .load .last .1 .1 .1 .0) (c .before .before .before .before .before .before .before .before .before .before .before .before .before .before .before .before .before .before .before .words-of3 .ensures) (c .before .before .before .before .before .before .before .before .before .before .before .before .before .before .load .kept .1 .1 .1 .0)
+slice-aggregate-bytes-of-3 c = left-count _ _ (c .before .before .before .before .before .before .before .before .before .before .before .before .before .before .load .last .1 .1 .1 .0) (c .before .before .before .before .before .before .before .before .before .before .before .before .before .before .before .before .before .before .before .before .before .before .before .words-of2 .ensures) (c .before .before .before .before .before .before .before .before .before .before .before .before .before .before .load .kept .1 .1 .1 .0)
 
 bytes-of-requires-3 : tie.Need-bytes-of-requires-3
-bytes-of-requires-3 c κs = left-bytes _ _ (c .before .before .before .before .before .before .before .before .before .before .before .before .before .before .before .load .last .1 .1 .1 .0) (c .before .before .before .before .before .before .before .before .before .before .before .before .before .before .before .before .before .before .before .before .words-of3 .ensures) (c .before .before .before .before .before .before .before .before .before .before .before .before .before .before .before .load .kept .1 .1 .1 .0) (c .before .before .before .before .before .before .before .before .before .before .before .before .before .before .before .before .before .before .before .before .before .before .before .before .before .before .before .before .before .before .before .before .before .before .before .pre .of-agenda .even)
+bytes-of-requires-3 c κs = left-bytes _ _ (c .before .before .before .before .before .before .before .before .before .before .before .before .before .before .before .load .last .1 .1 .1 .0) (c .before .before .before .before .before .before .before .before .before .before .before .before .before .before .before .before .before .before .before .before .before .before .before .before .words-of2 .ensures) (c .before .before .before .before .before .before .before .before .before .before .before .before .before .before .before .load .kept .1 .1 .1 .0) (c .before .before .before .before .before .before .before .before .before .before .before .before .before .before .before .before .before .before .before .before .before .before .before .before .before .before .before .before .before .before .before .before .before .before .before .pre .of-agenda .even)
 
 same-length : tie.Need-same-length
 same-length c = c .before .before .before .before .before .before .before .before .before .before .before .before .bytes-of .kept .1 .0
@@ -82,7 +82,7 @@ same-length-3 : tie.Need-same-length-3
 same-length-3 c = c .before .before .bytes-of3 .kept .1 .0
 
 returns : tie.Need-returns
-returns c = loads-words _ _ _ _ _ _ _ (c .before .before .before .before .before .before .before .before .before .before .before .before .before .before .before .before .before .before .load .last .1 .0) (c .before .before .before .before .before .before .before .before .before .before .before .before .before .before .before .before .before .before .load .last .1 .1 .0) (c .before .before .before .before .before .before .before .before .before .before .before .before .before .before .before .before .before .before .load .last .1 .1 .1 .0) _ _ _ _ (c .before .before .before .before .before .before .before .before .before .before .before .before .before .before .before .before .before .before .before .before .before .before .before .before .before .before .before .before .before .before .before .words-of .ensures) (c .before .before .before .before .before .before .before .before .before .before .before .before .before .before .before .before .before .before .before .before .before .before .before .before .before .before .before .words-of2 .ensures) (c .before .before .before .before .before .before .before .before .before .before .before .before .before .before .before .before .before .before .before .before .before .before .before .words-of3 .ensures) (c .before .before .before .before .before .before .before .before .before .before .before .before .before .before .before .before .before .before .load .kept .1 .0) (c .before .before .before .before .before .before .before .before .before .before .before .before .before .before .before .before .before .before .load .kept .1 .1 .0) (c .before .before .before .before .before .before .before .before .before .before .before .before .before .before .before .before .before .before .load .kept .1 .1 .1 .0) (c .before .before .before .before .before .before .before .before .before .before .before .before .before .before .before .before .before .before .load .ensures) (c .before .before .before .before .before .before .before .before .before .before .before .before .bytes-of .ensures) (c .before .before .before .before .before .before .before .bytes-of2 .ensures) (c .before .before .bytes-of3 .ensures)
+returns c = loads-words _ _ _ _ _ _ _ (c .before .before .before .before .before .before .before .before .before .before .before .before .before .before .before .before .before .before .load .last .1 .0) (c .before .before .before .before .before .before .before .before .before .before .before .before .before .before .before .before .before .before .load .last .1 .1 .0) (c .before .before .before .before .before .before .before .before .before .before .before .before .before .before .before .before .before .before .load .last .1 .1 .1 .0) _ _ _ _ (c .before .before .before .before .before .before .before .before .before .before .before .before .before .before .before .before .before .before .before .before .before .before .before .before .before .before .before .before .before .before .before .words-of .ensures) (c .before .before .before .before .before .before .before .before .before .before .before .before .before .before .before .before .before .before .before .before .before .before .before .words-of3 .ensures) (c .before .before .before .before .before .before .before .before .before .before .before .before .before .before .before .before .before .before .before .before .before .before .before .before .before .before .before .words-of2 .ensures) (c .before .before .before .before .before .before .before .before .before .before .before .before .before .before .before .before .before .before .load .kept .1 .0) (c .before .before .before .before .before .before .before .before .before .before .before .before .before .before .before .before .before .before .load .kept .1 .1 .0) (c .before .before .before .before .before .before .before .before .before .before .before .before .before .before .before .before .before .before .load .kept .1 .1 .1 .0) (c .before .before .before .before .before .before .before .before .before .before .before .before .before .before .before .before .before .before .load .ensures) (c .before .before .before .before .before .before .before .before .before .before .before .before .bytes-of .ensures) (c .before .before .before .before .before .before .before .bytes-of2 .ensures) (c .before .before .bytes-of3 .ensures)
 
 pub load-words-spec : {M : Type 1} → statement M
 load-words-spec =

@@ -20,13 +20,13 @@ slice-aggregate-words-of-2 : tie.Need-slice-aggregate-words-of-2
 slice-aggregate-words-of-2 c = refl
 
 words-of-requires-2 : tie.Need-words-of-requires-2
-words-of-requires-2 c κs = let fit = c .before .before .before .before .before .before .before .before .pre .of-tables in (fit .even, (fit .some, fit .few))
+words-of-requires-2 c κs = let fit = c .before .before .before .before .before .before .before .before .pre .of-agenda in (fit .even, (fit .some, fit .few))
 
 slice-aggregate-words-of-3 : tie.Need-slice-aggregate-words-of-3
 slice-aggregate-words-of-3 c = refl
 
 words-of-requires-3 : tie.Need-words-of-requires-3
-words-of-requires-3 c κs = let fit = c .before .before .before .before .before .before .before .before .before .before .before .pre .of-agenda in (fit .even, (fit .some, fit .few))
+words-of-requires-3 c κs = let fit = c .before .before .before .before .before .before .before .before .before .before .before .pre .of-tables in (fit .even, (fit .some, fit .few))
 
 array-share-prefix-domain-words : tie.Need-array-share-prefix-domain-words
 array-share-prefix-domain-words c = half-fits _ _ _ (c .before .before .before .before .before .before .before .before .before .before .before .before .before .pre .of-domains .few) (c .before .before .before .before .before .before .before .words-of .kept .1 .0)
@@ -35,16 +35,16 @@ slice-aggregate-save : tie.Need-slice-aggregate-save
 slice-aggregate-save c = count-is _ _ (c .before .before .before .before .before .before .before .before .words-of .ensures)
 
 array-share-prefix-table-words : tie.Need-array-share-prefix-table-words
-array-share-prefix-table-words c = half-fits _ _ _ (c .before .before .before .before .before .before .before .before .before .before .before .before .before .before .pre .of-tables .few) (c .before .before .before .before .before .words-of2 .kept .1 .0)
+array-share-prefix-table-words c = half-fits _ _ _ (c .before .before .before .before .before .before .before .before .before .before .before .before .before .before .pre .of-tables .few) (c .before .before .words-of3 .kept .1 .0)
 
 slice-aggregate-save-2 : tie.Need-slice-aggregate-save-2
-slice-aggregate-save-2 c = count-is _ _ (c .before .before .before .before .before .before .words-of2 .ensures)
+slice-aggregate-save-2 c = count-is _ _ (c .before .before .before .words-of3 .ensures)
 
 array-share-prefix-agenda-words : tie.Need-array-share-prefix-agenda-words
-array-share-prefix-agenda-words c = half-fits _ _ _ (c .before .before .before .before .before .before .before .before .before .before .before .before .before .before .before .pre .of-agenda .few) (c .before .before .before .words-of3 .kept .1 .0)
+array-share-prefix-agenda-words c = half-fits _ _ _ (c .before .before .before .before .before .before .before .before .before .before .before .before .before .before .before .pre .of-agenda .few) (c .before .before .before .before .before .before .words-of2 .kept .1 .0)
 
 slice-aggregate-save-3 : tie.Need-slice-aggregate-save-3
-slice-aggregate-save-3 c = count-is _ _ (c .before .before .before .before .words-of3 .ensures)
+slice-aggregate-save-3 c = count-is _ _ (c .before .before .before .before .before .before .before .words-of2 .ensures)
 
 save-requires : tie.Need-save-requires
 save-requires c κs = tt
@@ -55,7 +55,7 @@ same-length c = search needs
 returns : tie.Need-returns
 returns c =
     let small : (i : ℕ) → getD (c .before .before .before .before .before .before .before .before .before .before .before .before .before .before .before .before .before .before .before .before .args .agenda .now) i 0 < 256 = λ i. omega (arith, c .before .before .before .before .before .before .before .before .before .before .before .before .before .before .before .before .before .shared-slice-known3 .given i) in
-    let saves = saves-words _ _ _ _ _ _ _ _ _ _ _ _ (c .before .before .before .before .before .before .before .before .before .before .before .before .before .before .words-of .ensures) (c .before .before .before .before .before .before .before .before .before .before .before .words-of2 .ensures) (c .before .before .before .before .before .before .before .before .words-of3 .ensures) (c .before .before .save .ensures) in
+    let saves = saves-words _ _ _ _ _ _ _ _ _ _ _ _ (c .before .before .before .before .before .before .before .before .before .before .before .before .before .before .words-of .ensures) (c .before .before .before .before .before .before .before .before .words-of3 .ensures) (c .before .before .before .before .before .before .before .before .before .before .before .words-of2 .ensures) (c .before .before .save .ensures) in
     (saves, save-fits _ _ _ _ _ _ _ _ _ small saves)
 
 pub save-words-spec : {M : Type 1} → statement M
