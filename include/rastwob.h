@@ -27,7 +27,7 @@
  * proof covers it), and crashes where there is less. Call from a thread with 256 KB: ./test tries all with just that.
  *
  * A search is the agenda and three numbers: steps, checks, subproblems. Hand on all four as the last call left them, with
- * n, d, domains and tables unaltered since opening or load: no call can see that they are another problem's. */
+ * n, d, domains and tables unaltered since opening or load: a call refuses what breaks a rule, and cannot tell more. */
 #ifndef RASTWOB_H
 #define RASTWOB_H
 

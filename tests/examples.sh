@@ -208,6 +208,10 @@ without=$(IFS=:; for folder in $PATH; do [ -x "$folder/rt" ] || printf '%s:' "$f
 in_tree() { env -u RATTLE_HOME PATH="$room/bin:$without" "$@"; }
 printf 'solved\n' >"$room/solved"
 says "a missing program without rt" 2 "$nothing" 'rt (the Rattle kit) is not on the PATH' in_tree "$tree/plan" "$room/solved"
+mkdir -p "$tree/target/bin"
+cp "$room/bin/uname" "$tree/target/bin/planner"
+says "a program that was not built here, without rt" 2 "$nothing" 'to run it as it is' in_tree "$tree/plan" "$room/solved"
+rm -r "$tree/target"
 ln -s ../kit/bin/rt "$room/bin/rt"
 says "a missing program is built, and a line says so" 0 "$room/solved" 'building the planner' in_tree "$tree/plan" "$room/solved"
 says "a program that is there is only run" 0 "$room/solved" '' in_tree "$tree/plan" "$room/solved"

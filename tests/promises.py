@@ -71,7 +71,7 @@ def named_in_papers(faults):
     """Paths and names with a hyphen, in backticks, of the papers that a reader is sent by."""
     declared = {"must-fail"}
     for path in sorted((TOP / "crates").rglob("*.antt")):
-        declared.update(re.findall(rf"(?m)^\s*{MARKS}(?:record |data )?([^\s:({{]+)(?= |$)", path.read_text()))
+        declared.update(re.findall(rf"(?m)^\s*{MARKS}([^\s:({{]+)(?: \{{[^}}]*\}})? :", path.read_text()))
     for paper in ("README.md", "docs/DECISIONS.md", "docs/PROMISES.md", "docs/FORMAT.md", "bench/README.md", "examples/README.md"):
         for word in re.findall(r"`([^`\s]+)`", text_of(TOP / paper)):
             path = word.split(":")[0]

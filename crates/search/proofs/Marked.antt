@@ -26,7 +26,7 @@ use Rattle.search.specs.Agenda.{problemOf, holding, subproblemOf}
 use Rattle.search.specs.FirstChecks.{masksBelow, symmetric, refusalOfProblem, domainObeys, valuesAgree, obeys}
 use Rattle.search.specs.Work.FirstTests.{Next, joined, partWrong, wrongIn, pairAgrees, beforeAgrees, markObeys}
 use Rattle.search.proofs.Joining.{joined-zero, bit-shr}
-use Rattle.search.proofs.Obeying.{agrees-same, agrees-first, agrees-second}
+use Rattle.search.proofs.Obeying.{is-marked, agrees-same, agrees-first, agrees-second}
 use Rattle.search.proofs.FirstParts.{Symmetric-at, symmetric-true}
 
 -- ---- one domain
@@ -114,9 +114,6 @@ pub mark-none : (allowed : Table) (P : Subproblem) (i : ℕ) (b : Bool) → b �
 unfolding markObeys beforeAgrees
 mark-none allowed P i b e y =
     simp (lacks (P .marked) i b e ∙ y, every-all (pairAgrees allowed P i) i (λ j h. sym (agrees-first allowed P i j b e y)))
-
-is-marked : (P : Subproblem) (marked i : ℕ) → marked ≡ P .marked → bit marked i ≡ 1 → eqb (bit (P .marked) i) 0 ≡ false
-is-marked P marked i e h = rw (← e) (ne-eqb (bit marked i) 0 (λ z. absurd (omega arith)))
 
 pub mark-more : (allowed : Table) (P : Subproblem) (marked i m s : ℕ) → marked ≡ P .marked → bit marked i ≡ 1
     → m ≡ domain P i → s ≡ size m → (s ≡ 1 → ⊥) → false ≡ markObeys allowed P i

@@ -19,6 +19,10 @@ use Rattle.splits.proofs.Ranges.{word-none}
 use Rattle.splits.proofs.Refusals.{lacks}
 use Rattle.search.specs.Work.FirstTests.{pairAllowed, pairAgrees}
 
+-- a variable in the set is not out of it
+pub is-marked : (P : Subproblem) (marked i : ℕ) → marked ≡ P .marked → bit marked i ≡ 1 → eqb (bit (P .marked) i) 0 ≡ false
+is-marked P marked i e h = rw (← e) (ne-eqb (bit marked i) 0 (λ z. absurd (omega arith)))
+
 module _ (allowed : Table) (P : Subproblem) (i j : ℕ) where
   pub agrees-same : i ≡ j → true ≡ pairAgrees allowed P i j
   unfolding pairAgrees
@@ -37,10 +41,7 @@ module _ (allowed : Table) (P : Subproblem) (i j : ℕ) where
   pub agrees-both : (r : Bool) (marked : ℕ) → marked ≡ P .marked → bit marked i ≡ 1 → bit marked j ≡ 1 → (i ≡ j → ⊥)
       → r ≡ pairAllowed allowed P i j → r ≡ pairAgrees allowed P i j
   unfolding pairAgrees
-  agrees-both r marked e h k f q =
-      let first : eqb (bit (P .marked) i) 0 ≡ false = rw (← e) (ne-eqb (bit marked i) 0 (λ z. absurd (omega arith))) in
-      let second : eqb (bit (P .marked) j) 0 ≡ false = rw (← e) (ne-eqb (bit marked j) 0 (λ z. absurd (omega arith))) in
-      simp (ne-eqb i j f, first, second) q
+  agrees-both r marked e h k f q = simp (ne-eqb i j f, is-marked P marked i e h, is-marked P marked j e k) q
 
 -- their lowest values, of what is read
 pub allowed-read : (allowed : Table) (P : Subproblem) (i j : ℕ) (r : Bool) (s t a v : ℕ) → s ≡ domain P i → a ≡ lowest s → t ≡ domain P j → v ≡ lowest t
