@@ -1,6 +1,7 @@
 pub mod Words
 pub mod Rooms
 pub mod Runs
+pub mod Reaching
 pub mod SoFar
 pub mod Lending
 pub mod Refusing

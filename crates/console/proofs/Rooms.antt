@@ -1,22 +1,26 @@
 -- Bytes that are turned into words, and the refusal of those that are not.
 -- Assumes nothing.
-use mathlib.Core.Path.{_≡_, refl, sym, ap, _∙_}
+use mathlib.Core.Path.{_≡_, refl, sym, ap, ap₂, _∙_}
 use mathlib.Core.Logic.{_⊎_, inl, inr, ⊎-elim}
 use mathlib.Core.Bool.{Bool, true, false, cond, _&&_}
 use mathlib.Core.List.{List, [], _++_}
-use Prim.Native.Nat.{ℕ, zero, suc, _+_, _*_, _/_, _%_, _^_, _≤_, _<_}
+use Prim.Native.Nat.{ℕ, zero, suc, _+_, _-_, _*_, _/_, _%_, _^_, _≤_, _<_}
 use native.Mathlib.Omega.{arith}
-use native.Mathlib.Nat.{mul-le-mul, lt-of-not-le, zero-mul, mul-comm, mul-le-mul-right}
+use native.Mathlib.Nat.{mul-le-mul, lt-of-not-le, zero-mul, mul-comm, mul-le-mul-right, lt-of-mul-lt-mul-right, div-le-self, div-add-mod'}
 use native.Mathlib.Decide.{decLt}
-use lib.ListN.{length, take, drop}
-use lib.Seq.{length-take-le}
+use lib.ListN.{length, getD, take, drop, length-drop}
+use lib.Seq.{take-all, length-take-le, getD-drop}
 use lib.Dec.{eqb, leb, ltb}
+use borrow.Rule.Slice.PartMut.{putMid, post-is}
 use borrow.Author.Tests.{leb-true, leb-false, ltb-true, ltb-false, eqb-true, eqb-false, eq-eqb, ne-eqb}
 use Rattle.splits.proofs.Tests.{and-left, and-right}
 use Rattle.search.specs.Agenda.{problemOf}
-use Rattle.search.specs.FirstChecks.{orElse, refusalOfNumbers, wholeSlots, refusalOfLengths, refusalOfRequests, refusalOfProblem, refusalOfSearch, openRefusal, searchRefusal, runRefusal}
+use Rattle.search.specs.FirstChecks.{orElse, refusalOfNumbers, wholeSlots, refusalOfLengths, refusalOfRequests, refusalOfProblem, refusalOfSearch, zerosFrom, openRefusal, searchRefusal, runRefusal}
+use Rattle.search.specs.Work.Matrices.{rowIn}
+use Rattle.search.specs.Work.FirstTests.{joined}
 use Rattle.search.proofs.Deserved.{slots-true}
 use Rattle.search.proofs.FirstPassing.{numbers-none}
+use Rattle.search.proofs.Joining.{zeros-found}
 use Rattle.files.proofs.Tests.{and-cases}
 use Rattle.files.specs.Reading.{saidN, saidD, refusalOfFile, refusalOfWords}
 use Rattle.files.specs.Calls.{saveRefusal, loadRefusal}
@@ -24,8 +28,9 @@ use Rattle.search.specs.declared.state.State.{State}
 use Rattle.files.proofs.Accepted.{Accepts, words-accept}
 use Rattle.console.specs.Bytes.{Whole, wordsOf, bytesOf}
 use Rattle.console.specs.Calls.{WholeProblem, unwhole, unwholeFile}
-use Rattle.console.specs.Work.Rooms.{fits, roomFor, wholeList, Fits, Room, Front, WritesBack}
+use Rattle.console.specs.Work.Rooms.{fits, roomFor, wholeList, Fits, Room, Front, WritesBack, Shorter, Reach, FrontOf}
 use Rattle.console.proofs.Words.{words-length}
+use Rattle.console.proofs.Reaching.{zeros-each}
 
 -- ---- what the tests say
 
@@ -300,10 +305,111 @@ front-used n before after slots words used b a e l = record {
 pub front-all : (n before after words : ℕ) → Front n before after words words
 front-all n before after words = record { inside = omega arith; past = λ i h m. absurd (omega arith) }
 
--- The bytes of the first words.
-pub front-lengths : (k : ℕ) (words b : List ℕ) → k ≤ length words → length b ≡ 2 * length words → length (take (2 * k) b) ≡ 2 * length (take k words)
-front-lengths k words b h e = length-take-le (2 * k) b (omega arith) ∙ ap (λ (j : ℕ). 2 * j) (sym (length-take-le k words h))
+-- No more than the words of the slots below.
+pub lower-few : (n subproblems taken : ℕ) → n ≤ 32 → subproblems < 4294967296 → taken < subproblems → (subproblems - taken) * (n + 2) < 2 ^ 64
+lower-few n subproblems taken few h l =
+    let slots : subproblems - taken ≤ 4294967296 = omega arith in
+    let slot : n + 2 ≤ 34 = omega arith in
+    omega (arith, mul-le-mul slots slot)
 
-pub written-back : (n before after k : ℕ) (words b bytes : List ℕ) → Front n before after (length words) k → bytes ≡ bytesOf (take k words)
-    → WritesBack n before after words b (bytes ++ drop (2 * k) b)
-written-back n before after k words b bytes h e = record { count = k; front = h; said = ap (λ (z : List ℕ). z ++ drop (2 * k) b) e }
+-- The bytes of the words between two places.
+pub part-lengths : (j k : ℕ) (words b : List ℕ) → j ≤ k → k ≤ length words → length b ≡ 2 * length words
+    → length (take (2 * k - 2 * j) (drop (2 * j) b)) ≡ 2 * length (take (k - j) (drop j words))
+part-lengths j k words b h l e =
+    let bytes : length (take (2 * k - 2 * j) (drop (2 * j) b)) ≡ 2 * k - 2 * j = length-take-le (2 * k - 2 * j) (drop (2 * j) b) (rw length-drop (omega arith)) in
+    let these : length (take (k - j) (drop j words)) ≡ k - j = length-take-le (k - j) (drop j words) (rw length-drop (omega arith)) in
+    omega arith
+
+pub written-back : (n before taken after from to : ℕ) (words b bytes : List ℕ) → (from ≤ to) × (from ≤ (before - taken) * (n + 2))
+    → Front n before after (length words) to → bytes ≡ bytesOf (take (to - from) (drop from words))
+    → WritesBack n before taken after words b (putMid (2 * from) (2 * to - 2 * from) b bytes)
+written-back n before taken after from to words b bytes (order, lower) front e = record {
+  from = from;
+  to = to;
+  order = order;
+  lower = lower;
+  front = front;
+  said = ap₂ (λ (y z : List ℕ). take (2 * from) b ++ (y ++ z)) e (post-is (2 * from) (2 * to) b (omega arith));
+}
+
+-- ---- how much of an agenda a run needs
+
+-- What the slots used and those that requests can add come to.
+pub reach-few : (n subproblems requests : ℕ) → n ≤ 32 → subproblems < 4294967296 → requests ≤ 1120 → (n + 1) * (requests / (2 * (n + 3))) ≤ 33 * 1120
+reach-few n subproblems requests few h l =
+    let each : n + 1 ≤ 33 = omega arith in
+    let count : requests / (2 * (n + 3)) ≤ 1120 = omega (arith, div-le-self requests (2 * (n + 3))) in
+    mul-le-mul each count
+
+pub reach-bytes : (n subproblems requests : ℕ) → n ≤ 32 → subproblems < 4294967296 → requests ≤ 1120
+    → (subproblems + (n + 1) * (requests / (2 * (n + 3))) + 1) * (2 * (n + 2)) < 2 ^ 64
+reach-bytes n subproblems requests few h l =
+    let slots : subproblems + (n + 1) * (requests / (2 * (n + 3))) + 1 ≤ 4295004300 = omega (arith, reach-few n subproblems requests few h l) in
+    let slot : 2 * (n + 2) ≤ 68 = omega arith in
+    omega (arith, mul-le-mul slots slot)
+
+-- Fewer bytes than there are.
+pub reach-shorter : (n subproblems requests agenda slots : ℕ) → agenda % (2 * (n + 2)) ≡ 0 → agenda ≤ 512 * (2 * (n + 2))
+    → slots ≡ subproblems + (n + 1) * (requests / (2 * (n + 3))) + 1 → slots * (2 * (n + 2)) < agenda
+    → Shorter n subproblems requests agenda (slots * (2 * (n + 2)))
+reach-shorter n subproblems requests agenda slots even most e l =
+    let w : ℕ = 2 * (n + 2) in
+    let whole : agenda ≡ agenda / w * w = omega (arith, div-add-mod' agenda w) in
+    record {
+      all = agenda / w;
+      whole = whole;
+      few =
+          let less : agenda / w * w < 513 * w = omega arith in
+          omega (arith, lt-of-mul-lt-mul-right w less);
+      slots = slots;
+      its = refl;
+      within =
+          let less : slots * w < agenda / w * w = omega arith in
+          omega (arith, lt-of-mul-lt-mul-right w less);
+      room = omega arith;
+    }
+
+-- All bits of all bytes together tell whether all are zero.
+pub all-zeros : (bytes : List ℕ) (bits : ℕ) → bits ≡ joined (length bytes) (rowIn bytes) → eqb bits 0 ≡ zerosFrom 0 bytes
+all-zeros bytes bits e =
+    let all : take (length bytes - 0) (drop 0 bytes) ≡ bytes = take-all (length bytes - 0) bytes (omega arith) in
+    zeros-found bytes 0 bits (rw all e)
+
+-- No more than there are.
+pub reach-inside : (n subproblems requests agenda r : ℕ) → Reach n subproblems requests agenda r → r ≤ agenda
+reach-inside n subproblems requests agenda r (inl h) =
+    let up : h .slots * (2 * (n + 2)) ≤ h .all * (2 * (n + 2)) = mul-le-mul-right (2 * (n + 2)) (h .within) in omega (arith, h .its, h .whole)
+reach-inside n subproblems requests agenda r (inr e) = omega arith
+
+pub front-inside : (n subproblems requests : ℕ) (agenda : List ℕ) (r : ℕ) → FrontOf n subproblems requests agenda r → r ≤ length agenda
+front-inside n subproblems requests agenda r (inl h) = reach-inside n subproblems requests (length agenda) r (inl (h .0))
+front-inside n subproblems requests agenda r (inr e) = omega arith
+
+-- Where all that is past them is zero.
+pub front-zeros : (n subproblems requests : ℕ) (agenda : List ℕ) (r : ℕ) (b : Bool) → Reach n subproblems requests (length agenda) r
+    → b ≡ zerosFrom 0 (take (length agenda - r) (drop r agenda)) → b ≡ true → FrontOf n subproblems requests agenda r
+front-zeros n subproblems requests agenda r b (inr e) is y = inr e
+front-zeros n subproblems requests agenda r b (inl h) is y = inl (
+  h,
+  λ i l.
+      let at : r + (0 + (i - r)) ≡ i = omega arith in
+      let rest : take (length agenda - r) (drop r agenda) ≡ drop r agenda = take-all (length agenda - r) (drop r agenda) (rw length-drop (omega arith)) in
+      ap (λ (k : ℕ). getD agenda k 0) (sym at) ∙ sym (getD-drop r agenda (0 + (i - r)) 0)
+      ∙ zeros-each 0 (drop r agenda) (ap (zerosFrom 0) (sym rest) ∙ sym is ∙ y) (i - r),
+)
+
+-- It is lent as whole words, some.
+pub front-fits : (n subproblems requests : ℕ) (agenda : List ℕ) (r most : ℕ) → FrontOf n subproblems requests agenda r → Fits (length agenda) most → r ≤ 17408
+    → Fits (length (take r agenda)) 8704
+front-fits n subproblems requests agenda r most f h l =
+    let long : length (take r agenda) ≡ r = length-take-le r agenda (front-inside n subproblems requests agenda r f) in
+    record { even = rw long (even f); some = rw long (some f); few = rw long l }
+  where
+    even : FrontOf n subproblems requests agenda r → r % 2 ≡ 0
+    even (inl k) = let two : k .0 .slots * (2 * (n + 2)) ≡ 2 * (k .0 .slots * (n + 2)) = omega arith in omega (arith, k .0 .its)
+    even (inr e) = rw e (h .even)
+
+    some : FrontOf n subproblems requests agenda r → 0 < r
+    some (inl k) =
+        let up : 1 * (2 * (n + 2)) ≤ k .0 .slots * (2 * (n + 2)) = mul-le-mul-right (2 * (n + 2)) (omega (arith, k .0 .room)) in omega (arith, k .0 .its)
+    some (inr e) = rw e (h .some)

@@ -3,18 +3,22 @@
 use mathlib.Core.Path.{_≡_, refl, sym, ap, ap₂, subst, _∙_}
 use mathlib.Core.Logic.{⊎-elim}
 use mathlib.Core.Bool.{Bool, true, false}
-use mathlib.Core.List.{List, _∷_, _++_}
-use Prim.Native.Nat.{ℕ, _+_, _*_, _^_, _≤_, _<_}
+use mathlib.Core.List.{List, [], _∷_, _++_, append-assoc}
+use Prim.Native.Nat.{ℕ, zero, suc, _+_, _-_, _*_, _^_, _≤_, _<_}
 use native.Mathlib.Omega.{arith}
-use native.Mathlib.Nat.{zero-add}
+use native.Mathlib.Nat.{zero-add, mul-le-mul-right}
+use native.Mathlib.Numerals.{one-add}
 use native.Mathlib.Decide.{ℕ-discrete}
-use lib.ListN.{length, getD}
+use lib.ListN.{length, getD, take, drop, length-append}
+use lib.Seq.{drop-nil, drop-append-seam}
 use lib.Dec.{eqb}
 use borrow.Author.Tests.{ne-eqb}
 use Rattle.splits.specs.Problem.{Problem}
-use Rattle.search.specs.Agenda.{problemOf, slotsIn, agendaOf}
+use Rattle.splits.specs.Splits.{pieces}
+use Rattle.splits.specs.declared.subproblem.Subproblem.{Subproblem}
+use Rattle.search.specs.Agenda.{problemOf, stackOf, stackWords, slotsIn, agendaOf}
 use Rattle.search.specs.Verdicts.{numberOf, finished, verdictOf}
-use Rattle.search.specs.Runs.{Search, Stopped, step, run, requestsIn}
+use Rattle.search.specs.Runs.{Search, Stopped, splitTop, step, run, requestsIn}
 use Rattle.search.specs.FirstChecks.{WholeRequests, runRefusal}
 use Rattle.search.specs.Calls.{searchOf, Ends, Runs, Chooses}
 use Rattle.search.specs.Promises.{Handed, Leaves, picks}
@@ -23,6 +27,7 @@ use Rattle.search.specs.declared.state.Ran.{Ran}
 use Rattle.search.specs.declared.state.Verdict.the-variants.{Running}
 use Rattle.search.proofs.Verdicts.{running}
 use Rattle.search.proofs.Runs.{after, run-finished, run-taken, run-refused, run-ind, stops}
+use Rattle.search.proofs.Encoding.{length-stackOf, stack-of-words}
 use Rattle.search.proofs.FirstPassing.{search-is-passed, run-is-passed}
 use Rattle.search.proofs.Picking.{picked}
 use Rattle.search.proofs.HandedOn.{known, run-leaves-so, chooser-leaves-so}
@@ -68,6 +73,36 @@ module _ (p : Problem) (room : ℕ) where
       (λ r rs s e h f. run-refused p room r (rs ++ qs) s e h)
       (λ r rs s x e h same f. run-taken p room r (rs ++ qs) s e h ∙ ap (after 1) (same f))
 
+  -- One less of a list.
+  drop-one : (t : ℕ) (S : List Subproblem) → (A : List Subproblem) × (drop t S ≡ A ++ drop (suc t) S)
+  drop-one t [] = ([], drop-nil t)
+  drop-one zero (P ∷ S) = (P ∷ [], refl)
+  drop-one (suc t) (P ∷ S) = drop-one t S
+
+  drop-under : (t : ℕ) (A S : List Subproblem) → (U : List Subproblem) × (drop t (A ++ S) ≡ U ++ drop t S)
+  drop-under t [] S = ([], refl)
+  drop-under zero (P ∷ A) S = (P ∷ A, refl)
+  drop-under (suc t) (P ∷ A) S =
+      let (U, e) = drop-under t A S in
+      let (B, f) = drop-one t S in
+      (U ++ B, e ∙ ap (λ (l : List Subproblem). U ++ l) f ∙ sym (append-assoc U B (drop (suc t) S)))
+
+  split-under : (r : List ℕ) (t : ℕ) (S : List Subproblem) → (U : List Subproblem) × (drop t (splitTop p r S) ≡ U ++ drop (1 + t) S)
+  unfolding splitTop
+  split-under r t [] = rw one-add ([], drop-nil t)
+  split-under r t (P ∷ S) = rw one-add (drop-under t (pieces (p .n) (p .allowed) P r) S)
+
+  -- Each request taken replaces one subproblem: those under them stay.
+  pub run-under : (rs : List (List ℕ)) (s : Search)
+      → (T : List Subproblem) × (run p room rs s .search .stack ≡ T ++ drop (run p room rs s .taken) (s .stack))
+  unfolding step
+  run-under =
+      run-ind p room (λ rs s x. (T : List Subproblem) × (x .search .stack ≡ T ++ drop (x .taken) (s .stack)))
+      (λ s. ([], refl)) (λ r rs s e. ([], refl)) (λ r rs s e h. ([], refl))
+      (λ r rs s x e h same.
+      let (U, f) = split-under r (x .taken) (s .stack) in
+      (same .0 ++ U, same .1 ∙ ap (λ (l : List Subproblem). same .0 ++ l) f ∙ sym (append-assoc (same .0) U (drop (1 + x .taken) (s .stack)))))
+
   -- Each request taken is one step.
   pub run-steps : (rs : List (List ℕ)) (s : Search) → run p room rs s .search .steps ≡ s .steps + run p room rs s .taken
   unfolding step
@@ -82,6 +117,13 @@ module _ (p : Problem) (room : ℕ) where
       ⊎-elim (λ f. absurd (f .verdict (ap numberOf v))) (λ k. ⊎-elim (λ f. absurd (f .refused e)) (λ f. f .taken) k) (stops p room rs s .1)
 
 -- ---- in lent words
+
+-- What stands under the top slots.
+drop-stack : (n : ℕ) (agenda : List ℕ) (t m : ℕ) → drop t (stackOf n agenda m) ≡ stackOf n agenda (m - t)
+unfolding stackOf
+drop-stack n agenda zero m = let e : m ≡ m - 0 = omega arith in ap (stackOf n agenda) e
+drop-stack n agenda (suc t) zero = let e : 0 ≡ 0 - suc t = omega arith in ap (stackOf n agenda) e
+drop-stack n agenda (suc t) (suc m) = let e : m - t ≡ suc m - suc t = omega arith in drop-stack n agenda t m ∙ ap (stackOf n agenda) e
 
 -- The statement of a run at an equal list.
 pub runs-list : (n d : ℕ) (domains tables before left a b : List ℕ) (s : State) (r : Ran) → a ≡ b → Runs n d domains tables before left a s r
@@ -162,6 +204,41 @@ module _ (n d : ℕ) (domains tables before : List ℕ) (s : State) (small : (i 
         | no f ↦ let same : left ≡ before = rw (ne-eqb first 0 f) at (runs .agenda) in ap (λ (w : List ℕ). getD w i 0) same
       ]
 
+  -- Nor below the slots that the requests taken can have replaced.
+  pub run-lower : (left requests : List ℕ) (r : Ran) → WholeRequests n (length requests) → Runs n d domains tables before left requests s r
+      → take ((s .subproblems - r .taken) * (n + 2)) left ≡ take ((s .subproblems - r .taken) * (n + 2)) before
+  run-lower left requests r whole runs =
+      let first : ℕ = runRefusal n d domains tables before requests (s .counts .steps .0) (s .counts .checks .0) (s .subproblems) in
+      let x : Stopped = run (problemOf n d domains tables) (slotsIn n (length before)) (requestsIn n requests) (searchOf n before s) in
+      elim (ℕ-discrete first 0) [
+        | yes e ↦
+            let handed = run-handed requests e in
+            let passed = known n d domains tables before s handed .passed in
+            let l = run-leaves-so n d domains tables before left requests s r handed runs .0 whole in
+            let (slots, some, most, words) = passed .passed .slots in
+            let count : slotsIn n (length before) ≡ slots = ap (slotsIn n) words ∙ slots-in n slots in
+            let k : ℕ = s .subproblems - r .taken in
+            let inside : k * (n + 2) ≤ slots * (n + 2) = mul-le-mul-right (n + 2) (omega (arith, passed .room)) in
+            let (T, under) = run-under (problemOf n d domains tables) (slotsIn n (length before)) (requestsIn n requests) (searchOf n before s) in
+            let taken : r .taken ≡ x .taken = rw e at (runs .taken) in
+            let same : stackOf n left (r .state .subproblems) ≡ T ++ stackOf n before k =
+            ap (λ (y : Search). y .stack) (l .search) ∙ under
+            ∙ ap (λ (j : ℕ). T ++ drop j (stackOf n before (s .subproblems))) (sym taken)
+            ∙ ap (λ (S : List Subproblem). T ++ S) (drop-stack n before (r .taken) (s .subproblems)) in
+            let sum : r .state .subproblems ≡ length T + k =
+            sym (length-stackOf n left (r .state .subproblems)) ∙ ap length same ∙ length-append T (stackOf n before k)
+            ∙ ap (λ (j : ℕ). length T + j) (length-stackOf n before k) in
+            let less : r .state .subproblems - length T ≡ k = omega arith in
+            let stack : stackOf n left k ≡ stackOf n before k =
+            ap (stackOf n left) (sym less) ∙ sym (drop-stack n left (length T) (r .state .subproblems)) ∙ ap (drop (length T)) same
+            ∙ drop-append-seam T (stackOf n before k) in
+            sym (stack-of-words n left k (omega (arith, l .length-kept)) (l .handed .words)) ∙ ap (stackWords n) stack
+            ∙ stack-of-words n before k (omega arith) small
+        | no f ↦
+            let same : left ≡ before = rw (ne-eqb first 0 f) at (runs .agenda) in
+            ap (take ((s .subproblems - r .taken) * (n + 2))) same
+      ]
+
   pub choose-narrow : (left : List ℕ) (limit : ℕ) (r : Ran) → s .subproblems < 4294967296 → Chooses n d domains tables before left limit s r → Narrow r
   choose-narrow left limit r few chooses =
       let as-run = picked (problemOf n d domains tables) (slotsIn n (length before)) limit (searchOf n before s) 0 in
@@ -226,9 +303,9 @@ module _ (n d : ℕ) (domains tables before : List ℕ) (s : State) (small : (i 
     pub run-ended : (r .refusal ≡ 0 → r .verdict ≡ Running → ⊥) → Runs n d domains tables before mid (a ++ b) s r
     unfolding first p room x0 x1
     run-ended f = elim (ℕ-discrete (first a) 0) [
-      | yes zero ↦
-          let refused : r .refusal ≡ x1 .refusal = rw zero at (runs .refusal) in
-          let verdict : r .verdict ≡ verdictOf n (x1 .search .stack) = rw zero at (runs .verdict) in
+      | yes nothing ↦
+          let refused : r .refusal ≡ x1 .refusal = rw nothing at (runs .refusal) in
+          let verdict : r .verdict ≡ verdictOf n (x1 .search .stack) = rw nothing at (runs .verdict) in
           let same : run p room (requestsIn n (a ++ b)) x0 ≡ x1 =
           ap (λ (rs : List (List ℕ)). run p room rs x0) (requests-append n a b wa wb)
           ∙ run-stopped p room (requestsIn n b) (requestsIn n a) x0 (λ e v. f (refused ∙ e) (verdict ∙ v)) in

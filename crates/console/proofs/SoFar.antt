@@ -5,7 +5,7 @@ use mathlib.Core.Bool.{Bool, true, false, cond, not}
 use mathlib.Core.List.{List, _++_, append-assoc}
 use Prim.Native.Nat.{ℕ, zero, suc, _+_, _-_, _*_, _/_, _%_, _^_, _≤_, _<_}
 use native.Mathlib.Omega.{arith}
-use native.Mathlib.Nat.{zero-add, add-mul, add-assoc, mul-le-mul-right, div-le-self, lt-of-not-le}
+use native.Mathlib.Nat.{zero-add, add-mul, add-assoc, mul-le-mul-right, div-le-self, mul-div-cancel, lt-of-not-le}
 use native.Mathlib.Decide.{decLt}
 use lib.ListN.{length, getD, take, drop, length-drop, take-append-drop}
 use lib.Seq.{length-take-le, take-add, take-length}
@@ -124,6 +124,13 @@ cut-length (suc m) size w = ap suc (cut-length m size (drop size w))
 requests-few : (n : ℕ) (w : List ℕ) → length (requestsIn n w) ≤ length w
 unfolding requestsIn
 requests-few n w = rw (cut-length (length w / (n + 3)) (n + 3) w) (div-le-self (length w) (n + 3))
+
+pub requests-count : (n : ℕ) (l : List ℕ) → Listed n (length l) → length (requestsIn n (wordsOf l)) ≡ length l / (2 * (n + 3))
+unfolding requestsIn
+requests-count n l listed =
+    let words : length (wordsOf l) ≡ listed .requests * (n + 3) = words-length l ∙ omega (arith, listed .whole) in
+    cut-length (length (wordsOf l) / (n + 3)) (n + 3) (wordsOf l) ∙ ap (λ (k : ℕ). k / (n + 3)) words ∙ mul-div-cancel (listed .requests) (omega arith)
+    ∙ sym (ap (λ (k : ℕ). k / (2 * (n + 3))) (listed .whole) ∙ mul-div-cancel (listed .requests) (omega arith))
 
 ends-taken : (first n k : ℕ) (before left : List ℕ) (s : State) (x : Stopped) (r : Ran) → Ends first n before left s x r → x .taken ≤ k → r .taken ≤ k
 ends-taken first n k before left s x r ends h = go (eqb first 0) (ends .taken)

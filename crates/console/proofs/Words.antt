@@ -2,10 +2,10 @@
 -- Assumes nothing.
 use mathlib.Core.Path.{_≡_, refl, sym, ap, ap₂, _∙_}
 use mathlib.Core.List.{List, [], _∷_, _++_, append-nil}
-use Prim.Native.Nat.{ℕ, zero, suc, _+_, _*_, _/_, _%_, _^_, _≤_, _<_}
+use Prim.Native.Nat.{ℕ, zero, suc, _+_, _-_, _*_, _/_, _%_, _^_, _≤_, _<_}
 use native.Mathlib.Omega.{arith}
 use lib.ListN.{length, getD, take, drop, set, take-append-drop}
-use lib.Seq.{take-at, take-length, drop-length}
+use lib.Seq.{take-at, take-length, drop-length, drop-drop}
 use Rattle.search.proofs.Copies.{copy-more}
 use Rattle.console.specs.Bytes.{Whole, wordsOf, bytesOf}
 
@@ -99,13 +99,27 @@ bytes-past zero w = refl
 bytes-past (suc k) [] = let two : 2 * suc k ≡ suc (suc (2 * k)) = omega arith in rw two refl
 bytes-past (suc k) (x ∷ w) = let two : 2 * suc k ≡ suc (suc (2 * k)) = omega arith in rw two (bytes-past k w)
 
--- Where words are past k as before, writing the bytes of the first k writes all.
-pub front-said : (k : ℕ) (b y : List ℕ) → Whole b → ((i : ℕ) → getD b i 0 < 256) → drop k y ≡ drop k (wordsOf b)
-    → bytesOf (take k y) ++ drop (2 * k) b ≡ bytesOf y
-front-said k b y w small e =
-    let rest : drop (2 * k) b ≡ bytesOf (drop k y) =
-    ap (drop (2 * k)) (sym (bytes-again b w small)) ∙ bytes-past k (wordsOf b) ∙ ap bytesOf (sym e) in
-    ap (λ (z : List ℕ). bytesOf (take k y) ++ z) rest ∙ sym (bytes-append (take k y) (drop k y)) ∙ ap bytesOf (take-append-drop k y)
+-- Those of the first k words.
+pub bytes-front : (k : ℕ) (w : List ℕ) → take (2 * k) (bytesOf w) ≡ bytesOf (take k w)
+unfolding bytesOf
+bytes-front zero w = refl
+bytes-front (suc k) [] = let two : 2 * suc k ≡ suc (suc (2 * k)) = omega arith in rw two refl
+bytes-front (suc k) (x ∷ w) =
+    let two : 2 * suc k ≡ suc (suc (2 * k)) = omega arith in rw two (ap (λ (b : List ℕ). (x % 256) ∷ (x / 256) ∷ b) (bytes-front k w))
+
+-- Where words are before j and past k as they were, writing the bytes of those between writes all.
+pub middle-said : (j k : ℕ) (b y : List ℕ) → Whole b → ((i : ℕ) → getD b i 0 < 256) → j ≤ k → take j y ≡ take j (wordsOf b)
+    → drop k y ≡ drop k (wordsOf b) → take (2 * j) b ++ (bytesOf (take (k - j) (drop j y)) ++ drop (2 * k) b) ≡ bytesOf y
+middle-said j k b y w small h e f =
+    let again : bytesOf (wordsOf b) ≡ b = bytes-again b w small in
+    let low : take (2 * j) b ≡ bytesOf (take j y) = ap (take (2 * j)) (sym again) ∙ bytes-front j (wordsOf b) ∙ ap bytesOf (sym e) in
+    let high : drop (2 * k) b ≡ bytesOf (drop k y) = ap (drop (2 * k)) (sym again) ∙ bytes-past k (wordsOf b) ∙ ap bytesOf (sym f) in
+    let sum : j + (k - j) ≡ k = omega arith in
+    let rest : drop k y ≡ drop (k - j) (drop j y) = ap (λ (i : ℕ). drop i y) (sym sum) ∙ sym (drop-drop (k - j) j y) in
+    ap₂ (λ (l m : List ℕ). l ++ (bytesOf (take (k - j) (drop j y)) ++ m)) low (high ∙ ap bytesOf rest)
+    ∙ ap (λ (l : List ℕ). bytesOf (take j y) ++ l)
+    (sym (bytes-append (take (k - j) (drop j y)) (drop (k - j) (drop j y))) ∙ ap bytesOf (take-append-drop (k - j) (drop j y)))
+    ∙ sym (bytes-append (take j y) (drop j y)) ∙ ap bytesOf (take-append-drop j y)
 
 -- ---- the loops
 

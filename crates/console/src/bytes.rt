@@ -1,10 +1,11 @@
 // Words in bytes: two bytes a word, the low one first.
 ghost use mathlib.Core.Path.{_≡_};
-ghost use Prim.Native.Nat.{_+_, _*_, _/_, _%_, _≤_, _<_};
+ghost use Prim.Native.Nat.{_+_, _-_, _*_, _/_, _%_, _≤_, _<_};
 ghost use lib.ListN.{length, take};
 ghost use lib.Dec.{ltb};
+ghost use Rattle.search.specs.FirstChecks.{zerosFrom};
 ghost use Rattle.console.specs.Bytes.{wordsOf, bytesOf};
-ghost use Rattle.console.specs.Work.Rooms.{fits, roomFor, wholeList, Front, WritesBack};
+ghost use Rattle.console.specs.Work.Rooms.{fits, roomFor, wholeList, Front, WritesBack, Reach, FrontOf};
 
 // The word of two bytes.
 fn word(low: u8, high: u8) -> u16
@@ -120,11 +121,81 @@ fn front(n: usize, before: usize, after: usize, words: usize) -> usize
     words
 }
 
-// Writes back the words of an agenda that a call can have changed: those of the slots used before or after it.
-pub(crate) fn write_back(n: usize, before: usize, after: usize, words: &[u16], agenda: &mut [u8])
-    requires { ⌜ (n ≤ 32) × ((before < 4294967296) × ((after < 4294967296) × (length (now agenda) ≡ 2 * length (now words)))) ⌝ }
-    ensures { λ r. ⌜ WritesBack n before after (now (words .entry)) (now (agenda .entry)) (now (agenda .exit)) ⌝ }
+// How many words stand in the slots below those that so many requests can have replaced; `most` if that is fewer.
+fn lower(n: usize, subproblems: usize, taken: usize, most: usize) -> usize
+    requires { ⌜ (n ≤ 32) × (subproblems < 4294967296) ⌝ }
+    ensures { λ r. ⌜ (r ≤ most) × (r ≤ (subproblems - taken) * (n + 2)) ⌝ }
 {
-    let count = front(n, before, after, words.len());
-    bytes_of(&words[..count], &mut agenda[..2 * count]);
+    if subproblems <= taken {
+        return 0;
+    }
+    let words = (subproblems - taken) * (n + 2);
+    if words < most {
+        return words;
+    }
+    most
+}
+
+// Writes back the words of an agenda that a run can have changed: of the slots used before or after it those that its requests can have replaced.
+pub(crate) fn write_back(
+    n: usize,
+    before: usize,
+    taken: usize,
+    after: usize,
+    words: &[u16],
+    agenda: &mut [u8],
+)
+    requires { ⌜ (n ≤ 32) × ((before < 4294967296) × ((after < 4294967296) × (length (now agenda) ≡ 2 * length (now words)))) ⌝ }
+    ensures { λ r. ⌜ WritesBack n before taken after (now (words .entry)) (now (agenda .entry)) (now (agenda .exit)) ⌝ }
+{
+    let to = front(n, before, after, words.len());
+    let from = lower(n, before, taken, to);
+    bytes_of(&words[from..to], &mut agenda[2 * from..2 * to]);
+}
+
+// Whether all bytes are 0.
+fn zeros(bytes: &[u8]) -> bool
+    ensures { λ r. ⌜ r ≡ zerosFrom 0 (now (bytes .entry)) ⌝ }
+{
+    let mut bits: u8 = 0;
+    let mut i = 0;
+    while i < bytes.len() {
+        bits = bits | bytes[i];
+        i += 1;
+    }
+    bits == 0
+}
+
+// How many bytes of an agenda a run of a few requests can use: those of the slots used, of n + 1 more for each request, and of one; all if there are no more.
+fn reach(n: usize, subproblems: usize, requests: usize, agenda: usize) -> usize
+    requires { ⌜ (n ≤ 32) × (subproblems < 4294967296) ⌝ }
+    ensures { λ r. ⌜ Reach n subproblems requests agenda r ⌝ }
+{
+    let slot = 2 * (n + 2);
+    if agenda % slot != 0 {
+        return agenda;
+    }
+    if 512 * slot < agenda {
+        return agenda;
+    }
+    if 1120 < requests {
+        return agenda;
+    }
+    let slots = subproblems + (n + 1) * (requests / (2 * (n + 3))) + 1;
+    if agenda <= slots * slot {
+        return agenda;
+    }
+    slots * slot
+}
+
+// The same if all bytes after them are 0, else all: as much of an agenda as tells how a run ends.
+pub(crate) fn front_of(n: usize, subproblems: usize, requests: usize, agenda: &[u8]) -> usize
+    requires { ⌜ (n ≤ 32) × (subproblems < 4294967296) ⌝ }
+    ensures { λ r. ⌜ FrontOf n subproblems requests (now (agenda .entry)) r ⌝ }
+{
+    let front = reach(n, subproblems, requests, agenda.len());
+    if zeros(&agenda[front..]) {
+        return front;
+    }
+    agenda.len()
 }

@@ -14,8 +14,8 @@ ghost use lib.ListN.{length};
 ghost use Rattle.files.specs.Calls.{Saves};
 ghost use Rattle.console.specs.Bytes.{wordsOf};
 ghost use Rattle.console.specs.Calls.{OpensWords, OpensBytes, RunsWords, RunsBytes, ChoosesWords, ChoosesBytes, SavesBytes, unloaded, LoadsWords, LoadsBytes};
-ghost use Rattle.console.specs.Work.Rooms.{Room};
-ghost use Rattle.console.specs.Work.Parts.{Listed, Narrow, NarrowLoaded};
+ghost use Rattle.console.specs.Work.Rooms.{Fits, Room};
+ghost use Rattle.console.specs.Work.Parts.{Listed, RunsAt, Narrow, NarrowLoaded};
 
 // Opening, at the words.
 fn open_words(n: usize, d: usize, domains: &[u8], tables: &[u8], agenda: &mut [u8]) -> Opened
@@ -52,7 +52,63 @@ pub(crate) fn open(n: usize, d: usize, domains: &[u8], tables: &[u8], agenda: &m
     numbers::unopened(n, d)
 }
 
-// A run, at the words.
+// A run in an agenda of 256 slots at most: the words made for it are no more than these need.
+fn run_short(
+    n: usize,
+    d: usize,
+    domains: &[u16],
+    tables: &[u16],
+    agenda: &mut [u8],
+    requests: &[u8],
+    state: State,
+) -> Ran
+    requires { ⌜ Fits (length (now agenda)) 8704 × (Listed n (length (now requests)) × ((state .counts .steps .0 < 4294967296) × (state .subproblems < 4294967296))) ⌝ }
+    ensures { λ r. ⌜ RunsAt n d (now (domains .entry)) (now (tables .entry)) (now (agenda .entry)) (now (agenda .exit)) (now (requests .entry)) state r × Narrow r ⌝ }
+{
+    let room = agenda.len() / 2;
+    let mut words = [0u16; 8704];
+    bytes::words_of(agenda, &mut words);
+    let ran = parts::run_parts(n, d, domains, tables, &mut words[..room], requests, state);
+    bytes::write_back(
+        n,
+        state.subproblems,
+        ran.taken,
+        ran.state.subproblems,
+        &words[..room],
+        agenda,
+    );
+    ran
+}
+
+// A run in any agenda.
+fn run_long(
+    n: usize,
+    d: usize,
+    domains: &[u16],
+    tables: &[u16],
+    agenda: &mut [u8],
+    requests: &[u8],
+    state: State,
+) -> Ran
+    requires { ⌜ Fits (length (now agenda)) 17408 × (Listed n (length (now requests)) × ((state .counts .steps .0 < 4294967296) × (state .subproblems < 4294967296))) ⌝ }
+    ensures { λ r. ⌜ RunsAt n d (now (domains .entry)) (now (tables .entry)) (now (agenda .entry)) (now (agenda .exit)) (now (requests .entry)) state r × Narrow r ⌝ }
+{
+    let room = agenda.len() / 2;
+    let mut words = [0u16; 17408];
+    bytes::words_of(agenda, &mut words);
+    let ran = parts::run_parts(n, d, domains, tables, &mut words[..room], requests, state);
+    bytes::write_back(
+        n,
+        state.subproblems,
+        ran.taken,
+        ran.state.subproblems,
+        &words[..room],
+        agenda,
+    );
+    ran
+}
+
+// A run, at the words: in the front of the agenda, where that tells how it ends.
 fn run_words(
     n: usize,
     d: usize,
@@ -67,30 +123,31 @@ fn run_words(
 {
     let variables = domains.len() / 2;
     let masks = tables.len() / 2;
-    let room = agenda.len() / 2;
+    let front = bytes::front_of(n, state.subproblems, requests.len(), agenda);
     let mut domain_words = [0u16; 32];
     bytes::words_of(domains, &mut domain_words);
-    let mut agenda_words = [0u16; 17408];
-    bytes::words_of(agenda, &mut agenda_words);
     let mut table_words = [0u16; 16384];
     bytes::words_of(tables, &mut table_words);
-    let ran = parts::run_parts(
+    if front <= 17408 {
+        return run_short(
+            n,
+            d,
+            &domain_words[..variables],
+            &table_words[..masks],
+            &mut agenda[..front],
+            requests,
+            state,
+        );
+    }
+    run_long(
         n,
         d,
         &domain_words[..variables],
         &table_words[..masks],
-        &mut agenda_words[..room],
+        agenda,
         requests,
         state,
-    );
-    bytes::write_back(
-        n,
-        state.subproblems,
-        ran.state.subproblems,
-        &agenda_words[..room],
-        agenda,
-    );
-    ran
+    )
 }
 
 // A run.

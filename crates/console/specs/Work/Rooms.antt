@@ -1,9 +1,11 @@
--- How many bytes are turned into words: whole words, some, no more than any problem and any agenda have; and how many are written back.
+-- How many bytes are turned into words: whole words, some, no more than any problem and any agenda have; how many a run needs of an agenda; and how
+-- many are written back.
 use mathlib.Core.Path.{_≡_}
+use mathlib.Core.Logic.{_⊎_}
 use mathlib.Core.Bool.{Bool, _&&_}
 use mathlib.Core.List.{List, _++_}
-use Prim.Native.Nat.{ℕ, _+_, _*_, _%_, _≤_, _<_}
-use lib.ListN.{length, take, drop}
+use Prim.Native.Nat.{ℕ, _+_, _-_, _*_, _/_, _%_, _≤_, _<_}
+use lib.ListN.{length, getD, take, drop}
 use lib.Dec.{eqb, leb, ltb}
 use Rattle.console.specs.Bytes.{bytesOf}
 
@@ -35,8 +37,31 @@ pub record Front (n before after words r : ℕ) : Type 0 where
   pub inside : r ≤ words
   pub past : (i : ℕ) → r ≤ i → i < words → (before * (n + 2) ≤ i) × (after * (n + 2) ≤ i)
 
--- Their bytes are written, and what comes after them is left.
-pub record WritesBack (n before after : ℕ) (words b b′ : List ℕ) : Type 0 where
-  pub count : ℕ
-  pub front : Front n before after (length words) count
-  pub said : b′ ≡ bytesOf (take count words) ++ drop (2 * count) b
+-- From below the slots that the requests taken can have replaced up to there their bytes are written; what comes before and after is left.
+pub record WritesBack (n before taken after : ℕ) (words b b′ : List ℕ) : Type 0 where
+  pub from : ℕ
+  pub to : ℕ
+  pub order : from ≤ to
+  pub lower : from ≤ (before - taken) * (n + 2)
+  pub front : Front n before after (length words) to
+  pub said : b′ ≡ take (2 * from) b ++ (bytesOf (take (to - from) (drop from words)) ++ drop (2 * to) b)
+
+-- The first r bytes of an agenda of whole slots, 512 at most, are whole slots too, more than the subproblems and all that so many bytes of requests
+-- can add: each at most n + 1.
+pub record Shorter (n subproblems requests agenda r : ℕ) : Type 0 where
+  pub all : ℕ
+  pub whole : agenda ≡ all * (2 * (n + 2))
+  pub few : all ≤ 512
+  pub slots : ℕ
+  pub its : r ≡ slots * (2 * (n + 2))
+  pub within : slots ≤ all
+  pub room : subproblems + (n + 1) * (requests / (2 * (n + 3))) < slots
+
+-- So many bytes of an agenda, or all.
+abbrev pub Reach : ℕ → ℕ → ℕ → ℕ → ℕ → Type 0
+Reach n subproblems requests agenda r = Shorter n subproblems requests agenda r ⊎ (r ≡ agenda)
+
+-- So many, with only zeros after them, or all.
+abbrev pub FrontOf : ℕ → ℕ → ℕ → List ℕ → ℕ → Type 0
+FrontOf n subproblems requests agenda r =
+    (Shorter n subproblems requests (length agenda) r × ((i : ℕ) → r ≤ i → getD agenda i 0 ≡ 0)) ⊎ (r ≡ length agenda)

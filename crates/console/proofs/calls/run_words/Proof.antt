@@ -1,101 +1,107 @@
 -- `console::calls::run_words` meets its contract.
 -- Assumes nothing.
-use mathlib.Core.Path.{refl}
-use Prim.Native.Nat.{ℕ, _<_}
+use mathlib.Core.Path.{refl, sym}
 use native.Mathlib.Omega.{arith}
-use lib.ListN.{getD}
-use Rattle.console.proofs.Lending.{count-is, left-fits, left-count, left-bytes, runs-words}
-use Rattle.console.proofs.Rooms.{half-fits}
+use lib.Seq.{length-take-le}
+use Rattle.console.proofs.Lending.{count-is, runs-words, front-runs}
+use Rattle.console.proofs.Rooms.{half-fits, front-inside, front-fits}
+use borrow.Author.Needs.{needs}
 use Rattle.console.proofs.calls.run_words.Statement.{statement}
 use Rattle.console.proofs.calls.run_words.Tie as tie
+
+front-of-requires : tie.Need-front-of-requires
+front-of-requires c κs = let pre = c .before .before .before .before .before .pre .1 in (pre .0 .few, pre .1 .1)
 
 slice-aggregate-words-of : tie.Need-slice-aggregate-words-of
 slice-aggregate-words-of c = refl
 
 words-of-requires : tie.Need-words-of-requires
-words-of-requires c κs = let fit = c .before .before .before .before .before .pre .0 .of-domains in (fit .even, (fit .some, fit .few))
+words-of-requires c κs = let fit = c .before .before .before .before .before .before .before .pre .0 .of-domains in (fit .even, (fit .some, fit .few))
 
 slice-aggregate-words-of-2 : tie.Need-slice-aggregate-words-of-2
 slice-aggregate-words-of-2 c = refl
 
 words-of-requires-2 : tie.Need-words-of-requires-2
-words-of-requires-2 c κs = let fit = c .before .before .before .before .before .before .before .before .before .pre .0 .of-agenda in (fit .even, (fit .some, fit .few))
-
-slice-aggregate-words-of-3 : tie.Need-slice-aggregate-words-of-3
-slice-aggregate-words-of-3 c = refl
-
-words-of-requires-3 : tie.Need-words-of-requires-3
-words-of-requires-3 c κs = let fit = c .before .before .before .before .before .before .before .before .before .before .before .before .pre .0 .of-tables in (fit .even, (fit .some, fit .few))
+words-of-requires-2 c κs = let fit = c .before .before .before .before .before .before .before .before .before .before .pre .0 .of-tables in (fit .even, (fit .some, fit .few))
 
 array-share-prefix-domain-words : tie.Need-array-share-prefix-domain-words
-array-share-prefix-domain-words c = half-fits _ _ _ (c .before .before .before .before .before .before .before .before .before .before .before .before .before .before .pre .0 .of-domains .few) (c .before .before .before .before .before .before .before .before .words-of .kept .1 .0)
+array-share-prefix-domain-words c = half-fits _ _ _ (c .before .before .before .before .before .before .before .before .before .before .before .before .before .pre .0 .of-domains .few) (c .before .before .before .before .before .words-of .kept .1 .0)
 
-slice-aggregate-run-parts : tie.Need-slice-aggregate-run-parts
-slice-aggregate-run-parts c = count-is _ _ (c .before .before .before .before .before .before .before .before .before .words-of .ensures)
+slice-aggregate-run-short : tie.Need-slice-aggregate-run-short
+slice-aggregate-run-short c = count-is _ _ (c .before .before .before .before .before .before .words-of .ensures)
 
 array-share-prefix-table-words : tie.Need-array-share-prefix-table-words
-array-share-prefix-table-words c = half-fits _ _ _ (c .before .before .before .before .before .before .before .before .before .before .before .before .before .before .before .pre .0 .of-tables .few) (c .before .before .words-of3 .kept .1 .0)
+array-share-prefix-table-words c = half-fits _ _ _ (c .before .before .before .before .before .before .before .before .before .before .before .before .before .before .pre .0 .of-tables .few) (c .before .before .before .words-of2 .kept .1 .0)
 
-slice-aggregate-run-parts-2 : tie.Need-slice-aggregate-run-parts-2
-slice-aggregate-run-parts-2 c = count-is _ _ (c .before .before .before .words-of3 .ensures)
+slice-aggregate-run-short-2 : tie.Need-slice-aggregate-run-short-2
+slice-aggregate-run-short-2 c = count-is _ _ (c .before .before .before .before .words-of2 .ensures)
 
-array-borrow-prefix-agenda-words : tie.Need-array-borrow-prefix-agenda-words
-array-borrow-prefix-agenda-words c = half-fits _ _ _ (c .before .before .before .before .before .before .before .before .before .before .before .before .before .before .before .before .pre .0 .of-agenda .few) (c .before .before .before .before .before .before .words-of2 .kept .1 .0)
+slice-relend-prefix-run-short : tie.Need-slice-relend-prefix-run-short
+slice-relend-prefix-run-short c = front-inside _ _ _ (c .before .before .before .before .before .before .before .before .before .before .before .before .before .before .before .args .agenda .now) _ (c .before .before .before .before .before .before .before .before .before .front-of .ensures)
 
-slice-aggregate-run-parts-3 : tie.Need-slice-aggregate-run-parts-3
-slice-aggregate-run-parts-3 c = count-is _ _ (c .before .before .before .before .before .before .before .words-of2 .ensures)
+slice-aggregate-run-short-3 : tie.Need-slice-aggregate-run-short-3
+slice-aggregate-run-short-3 c = sym (length-take-le _ _ (front-inside _ _ _ (c .before .before .before .before .before .before .before .before .before .before .before .before .before .before .before .before .args .agenda .now) _ (c .before .before .before .before .before .before .before .before .before .before .front-of .ensures)))
 
-run-parts-requires : tie.Need-run-parts-requires
-run-parts-requires c κs = (c .before .before .before .before .before .before .before .before .before .before .before .before .before .before .before .before .before .pre .1 .0, c .before .before .before .before .before .before .before .before .before .before .before .before .before .before .before .before .before .pre .1 .1 .1)
-
-array-share-prefix-agenda-words : tie.Need-array-share-prefix-agenda-words
-array-share-prefix-agenda-words c = left-fits _ _ (c .before .run-parts .last .1 .1 .1 .1 .0) (c .before .before .before .before .before .before .before .before .before .words-of2 .ensures) (c .before .run-parts .kept .1 .1 .1 .1 .0)
-
-slice-aggregate-write-back : tie.Need-slice-aggregate-write-back
-slice-aggregate-write-back c = left-count _ _ (c .before .before .run-parts .last .1 .1 .1 .1 .0) (c .before .before .before .before .before .before .before .before .before .before .words-of2 .ensures) (c .before .before .run-parts .kept .1 .1 .1 .1 .0)
-
-write-back-requires : tie.Need-write-back-requires
-write-back-requires c κs = (
-  c .before .before .before .before .before .before .before .before .before .before .before .before .before .before .before .before .before .before .before .before .before .pre .1 .0 .few,
-  (
-    c .before .before .before .before .before .before .before .before .before .before .before .before .before .before .before .before .before .before .before .before .before .pre .1 .1 .1,
-    (
-      c .before .before .before .run-parts .ensures .1 .subproblems,
-      left-bytes _ _ (c .before .before .before .run-parts .last .1 .1 .1 .1 .0) (c .before .before .before .before .before .before .before .before .before .before .before .words-of2 .ensures) (c .before .before .before .run-parts .kept .1 .1 .1 .1 .0) (c .before .before .before .before .before .before .before .before .before .before .before .before .before .before .before .before .before .before .before .before .before .pre .0 .of-agenda .even),
-    ),
-  ),
-)
+run-short-requires : tie.Need-run-short-requires
+run-short-requires c κs =
+    let pre = c .before .before .before .before .before .before .before .before .before .before .before .before .before .before .before .before .pre in (front-fits _ _ _ _ _ _ (c .before .before .before .before .before .before .before .before .before .before .front-of .ensures) (pre .0 .of-agenda) (c .before .before .before .if1 .taken), pre .1)
 
 same-length : tie.Need-same-length
-same-length c = c .before .before .write-back .kept .1 .1 .1 .1 .0
+same-length c = search needs
 
 returns : tie.Need-returns
 returns c =
-    let small : (i : ℕ) → getD (c .before .before .before .before .before .before .before .before .before .before .before .before .before .before .before .before .before .before .before .before .before .before .before .before .args .agenda .now) i 0 < 256 = λ i. omega (arith, c .before .before .before .before .before .before .before .before .before .before .before .before .before .before .before .before .before .before .before .before .before .slice-known .given i) in (
-      runs-words _ _ _ _ _ _ _ _ (c .before .before .before .before .before .before .run-parts .last .1 .1 .1 .1 .0) _ _ _ _ (c .before .before .before .before .before .before .before .before .before .before .before .before .before .before .before .before .before .before .words-of .ensures) (c .before .before .before .before .before .before .before .before .before .before .before .words-of3 .ensures) (c .before .before .before .before .before .before .before .before .before .before .before .before .before .before .words-of2 .ensures) (c .before .before .before .before .before .before .run-parts .kept .1 .1 .1 .1 .0)
-          (c .before .before .before .before .before .before .before .before .before .before .before .before .before .before .before .before .before .before .before .before .before .before .before .before .pre .0 .of-agenda .even) small (omega (arith, c .before .before .before .before .before .before .before .before .before .before .before .before .before .before .before .before .before .before .before .before .before .before .before .before .pre .1 .1 .0)) (c .before .before .before .before .before .before .before .before .before .before .before .before .before .before .before .before .before .before .before .before .before .before .before .before .pre .1 .0) (c .before .before .before .before .before .before .run-parts .ensures .0) (c .before .before .write-back .ensures),
-      c .before .before .before .before .before .before .run-parts .ensures .1,
+    let ran = c .before .before .run-short in (
+      runs-words _ _ _ _ _ _ _ _ _ _ _ (c .before .before .before .before .before .before .before .before .before .before .before .words-of .ensures) (c .before .before .before .before .before .before .before .before .words-of2 .ensures)
+          (front-runs _ _ _ _ _ _ _ _ _ _ (c .before .before .before .before .before .before .before .before .before .before .before .before .before .front-of .ensures) (c .before .before .before .before .before .before .before .before .before .before .before .before .before .before .before .before .before .before .before .pre .1 .0) (ran .kept .1 .1 .1 .1 .0) (ran .ensures .0)),
+      ran .ensures .1,
     )
+
+array-share-prefix-domain-words-2 : tie.Need-array-share-prefix-domain-words-2
+array-share-prefix-domain-words-2 c = half-fits _ _ _ (c .before .before .before .before .before .before .before .before .before .before .before .before .before .pre .0 .of-domains .few) (c .before .before .before .before .before .words-of .kept .1 .0)
+
+slice-aggregate-run-long : tie.Need-slice-aggregate-run-long
+slice-aggregate-run-long c = count-is _ _ (c .before .before .before .before .before .before .words-of .ensures)
+
+array-share-prefix-table-words-2 : tie.Need-array-share-prefix-table-words-2
+array-share-prefix-table-words-2 c = half-fits _ _ _ (c .before .before .before .before .before .before .before .before .before .before .before .before .before .before .pre .0 .of-tables .few) (c .before .before .before .words-of2 .kept .1 .0)
+
+slice-aggregate-run-long-2 : tie.Need-slice-aggregate-run-long-2
+slice-aggregate-run-long-2 c = count-is _ _ (c .before .before .before .before .words-of2 .ensures)
+
+run-long-requires : tie.Need-run-long-requires
+run-long-requires c κs = let pre = c .before .before .before .before .before .before .before .before .before .before .before .before .before .before .before .before .pre in (pre .0 .of-agenda, pre .1)
+
+same-length-2 : tie.Need-same-length-2
+same-length-2 c = search needs
+
+returns-2 : tie.Need-returns-2
+returns-2 c =
+    let ran = c .before .before .run-long in
+    (runs-words _ _ _ _ _ _ _ _ _ _ _ (c .before .before .before .before .before .before .before .before .before .before .before .words-of .ensures) (c .before .before .before .before .before .before .before .before .words-of2 .ensures) (ran .ensures .0), ran .ensures .1)
 
 pub run-words-spec : {M : Type 1} → statement M
 run-words-spec =
     tie.close
     (tie.spec
+    front-of-requires
     slice-aggregate-words-of
     words-of-requires
     slice-aggregate-words-of-2
     words-of-requires-2
-    slice-aggregate-words-of-3
-    words-of-requires-3
     array-share-prefix-domain-words
-    slice-aggregate-run-parts
+    slice-aggregate-run-short
     array-share-prefix-table-words
-    slice-aggregate-run-parts-2
-    array-borrow-prefix-agenda-words
-    slice-aggregate-run-parts-3
-    run-parts-requires
-    array-share-prefix-agenda-words
-    slice-aggregate-write-back
-    write-back-requires
+    slice-aggregate-run-short-2
+    slice-relend-prefix-run-short
+    slice-aggregate-run-short-3
+    run-short-requires
     same-length
-    returns)
+    returns
+    array-share-prefix-domain-words-2
+    slice-aggregate-run-long
+    array-share-prefix-table-words-2
+    slice-aggregate-run-long-2
+    run-long-requires
+    same-length-2
+    returns-2)

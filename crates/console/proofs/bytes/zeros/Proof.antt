@@ -1,0 +1,43 @@
+-- `console::bytes::zeros` meets its contract. The invariant: the bits of the bytes passed are together.
+-- Assumes nothing.
+use mathlib.Core.Path.{_≡_, refl}
+use Prim.Native.Nat.{_-_, _≤_}
+use native.Mathlib.Omega.{arith}
+use lib.ListN.{length}
+use Rattle.search.specs.Work.Matrices.{rowIn}
+use Rattle.search.specs.Work.FirstTests.{joined}
+use Rattle.search.proofs.Joining.{joined-none, joined-more, joined-end}
+use Rattle.console.proofs.Rooms.{all-zeros}
+use borrow.Author.Needs.{needs}
+use Rattle.console.proofs.bytes.zeros.Statement.{statement}
+use Rattle.console.proofs.bytes.zeros.Tie as tie
+
+abbrev Inv-loop : tie.InvT-loop
+Inv-loop bytes bits₀ i₀ bits i = (i ≤ length bytes) × (bits ≡ joined i (rowIn bytes))
+
+abbrev μ-loop : tie.MeasureT-loop
+μ-loop bytes bits₀ i₀ bits i = length bytes - i
+
+loop-holds : tie.Need-loop-holds Inv-loop μ-loop
+loop-holds c = (search needs, joined-none _)
+
+shared-slice-read-bits : tie.Need-shared-slice-read-bits Inv-loop μ-loop
+shared-slice-read-bits c = search needs
+
+add-i : tie.Need-add-i Inv-loop μ-loop
+add-i c = search needs
+
+loop-less : tie.Need-loop-less Inv-loop μ-loop
+loop-less c = search needs
+
+loop-again : tie.Need-loop-again Inv-loop μ-loop
+unfolding rowIn
+loop-again c = (omega arith, joined-more _ _ _ _ (c .before .before .loop .inv .1) refl)
+
+returns : tie.Need-returns Inv-loop μ-loop
+returns c = all-zeros _ _ (joined-end _ _ _ _ (c .before .loop .inv .0) (c .loop-test .left) (c .before .loop .inv .1))
+
+pub zeros-spec : {M : Type 1} → statement M
+zeros-spec =
+    tie.close
+    (tie.spec Inv-loop μ-loop loop-holds shared-slice-read-bits add-i loop-less loop-again returns)
