@@ -159,7 +159,7 @@ static void make_ring(struct search *s)
     }
 }
 
-/* Opens, and splits by requests: one alone, then a list whose last one is refused. */
+/* Opens, and splits by requests: one alone, then a list of which the fifth is refused and the last not reached. */
 static void first_steps(struct search *s)
 {
     static const uint16_t idc[] = {RASTWOB_IDC, 0, 0, 0, 0, 0, 0};
@@ -167,6 +167,7 @@ static void first_steps(struct search *s)
         RASTWOB_HALVING, 1, 0, 0, 0, 0, 0,          /* path 1 */
         RASTWOB_EXTRACTION, 0, 0, 1, 2, 5, 6,       /* the target {0} {1} {0 2} {1 2} */
         RASTWOB_FORWARD_CHECKING, 2, 0, 0, 0, 0, 0, /* path 2, window 0 */
+        RASTWOB_BACKTRACKING, 3, 1, 0, 0, 0, 0,     /* path 3, window 1 */
         RASTWOB_BACKTRACKING, 0, 0, 0, 0, 0, 0,     /* path 0 is instantiated: refused */
         RASTWOB_BACKTRACKING, 1, 1, 0, 0, 0, 0,     /* not reached */
     };
@@ -178,8 +179,8 @@ static void first_steps(struct search *s)
     expect(said.refusal == RASTWOB_ACCEPTED && said.taken == 1, "IDC on path 0, window 0 is taken");
     print_run("IDC on path 0, window 0", said, s);
     said = run(s, list, sizeof list);
-    expect(said.refusal == RASTWOB_REFUSED_VARIABLE && said.taken == 3, "the fourth of the list is refused 8");
-    print_run("halving, extraction, forward checking; then path 0 again", said, s);
+    expect(said.refusal == RASTWOB_REFUSED_VARIABLE && said.taken == 4, "the fifth of the list is refused 8");
+    print_run("halving, extraction, forward checking, backtracking; then path 0 again", said, s);
 }
 
 /* Calls the chooser on a search that its first checks refuse, and sees that nothing is changed. */

@@ -92,9 +92,10 @@ extern "C" {
 #define RASTWOB_REFUSED_VARIABLE 8u    /* kinds 1 to 4: V is n or more, or instantiated */
 #define RASTWOB_REFUSED_VALUE 9u       /* kinds 1 to 3: v is d or more, or not in V's domain; kind 4: V has one value */
 #define RASTWOB_REFUSED_TARGET 10u     /* kind 5: a target is empty or not part of the top's domain, or all equal it */
-#define RASTWOB_REFUSED_STEPS 11u      /* steps already 4,294,967,295 */
+#define RASTWOB_REFUSED_STEPS 11u      /* steps already 4,294,967,295: no request is taken any more */
 #define RASTWOB_REFUSED_ROOM 12u       /* nonempty pieces exceed free slots, the top's slot counted free; at load, more
-                                          subproblems than slots. To go on: save, and load into more slots */
+                                          subproblems than slots. To go on: save, and load into more slots;
+                                          where there are 512, a request with fewer pieces */
 #define RASTWOB_REFUSED_FILE_ROOM 13u  /* the file buffer is shorter than the blocks to write */
 #define RASTWOB_REFUSED_BLOCKS 14u     /* file not 1 to 101 whole blocks, or a block's check, number or count wrong */
 #define RASTWOB_REFUSED_FILE_WORDS 15u /* the file's words break a rule, or do not fill exactly that many blocks with

@@ -5,6 +5,7 @@ A name that docs/PROMISES.md cites, as `file:name`, is declared by that file. A 
 A file or folder that the papers name in backticks is there, and a law that README.md and these two name, with a hyphen in it, is declared.
 Every `pub fn` of every library has no `requires`, and an `ensures` that cites one definition; its uniqueness theorem, NAME-one, says of that
 definition, in its crate's specs/Promises.antt, that two results are equal, and is proved, as that statement, in its proofs/Promises.antt.
+No crate cites the specs/Work of another, and no file of specs outside Work cites its own.
 """
 import pathlib
 import re
@@ -123,10 +124,22 @@ def uniqueness(faults):
     return count
 
 
+def work_cited(faults):
+    for path in sorted(TOP.glob("crates/*/**/*")):
+        if path.suffix not in (".antt", ".rt"):
+            continue
+        name, text = path.relative_to(TOP), path.read_text()
+        for crate in sorted(set(re.findall(r"Rattle·(\w+)\.specs\.Work\b", text))):
+            faults.append(f"{name} cites the specs/Work of {crate}")
+        if "specs" == name.parts[2] and "Work" not in name.parts and re.search(r"specs\.specs\.Work\b", text):
+            faults.append(f"{name} cites specs/Work")
+
+
 def main():
     faults = []
     numbers, names, places, functions = numbered_lines(faults), cited_names(faults), cited_places(faults), uniqueness(faults)
     named_in_papers(faults)
+    work_cited(faults)
     if not (numbers and names and places and functions):
         faults.append("nothing was found to hold: is this the repository?")
     for fault in faults:

@@ -18,7 +18,6 @@ use Rattle.search.specs.declared.state.Ran.{Ran}
 use Rattle.files.specs.Blocks.{blocksFor}
 use Rattle.files.specs.Reading.{triangleWords}
 use Rattle.files.specs.Calls.{handedContent, saveRefusal, Saves, Loads}
-use Rattle.files.specs.Work.Saved.{handed}
 use Rattle.files.specs.declared.saved.Saved.{Saved}
 use Rattle.files.specs.declared.saved.Loaded.{Loaded}
 use Rattle.files.proofs.Refusals.{save-none}
@@ -185,7 +184,7 @@ choose-fits n d domains tables before after limit s r small stepped few h =
 -- The blocks that save writes.
 pub save-fits : (n d : ℕ) (domains tables agenda : List ℕ) (s : State) (before after : List ℕ) (r : Saved)
     → ((i : ℕ) → getD agenda i 0 < 256) → Saves n d domains tables (wordsOf agenda) s before after r → r .blocks < 4294967296
-unfolding handed blocksFor
+unfolding blocksFor
 save-fits n d domains tables bytes s before after r small h = elim (ℕ-discrete (saveRefusal n d domains tables (wordsOf bytes) s before) 0) [
   | yes e ↦
       let passed = save-none n d domains tables (wordsOf bytes) s before .0 e .0 in

@@ -6,21 +6,22 @@ use mathlib.Core.Bool.{Bool, true, false, cond, _&&_}
 use mathlib.Core.List.{List, [], _++_}
 use Prim.Native.Nat.{ℕ, zero, suc, _+_, _-_, _*_, _/_, _%_, _^_, _≤_, _<_}
 use native.Mathlib.Omega.{arith}
-use native.Mathlib.Nat.{mul-le-mul, lt-of-not-le, zero-mul, mul-comm, mul-le-mul-right, lt-of-mul-lt-mul-right, div-le-self, div-add-mod'}
+use native.Mathlib.Nat.{mul-le-mul, lt-of-not-le, zero-add, zero-mul, mul-comm, mul-le-mul-right, lt-of-mul-lt-mul-right, div-le-self, div-add-mod'}
+use native.Mathlib.Numerals.{add-one}
 use native.Mathlib.Decide.{decLt}
 use lib.ListN.{length, getD, take, drop, length-drop}
 use lib.Seq.{take-all, length-take-le, getD-drop}
+use lib.Bits.{bitOr, or-zero-l, or-add-and, and-le-l, and-le-r}
 use lib.Dec.{eqb, leb, ltb}
 use borrow.Rule.Slice.PartMut.{putMid, post-is}
 use borrow.Author.Tests.{leb-true, leb-false, ltb-true, ltb-false, eqb-true, eqb-false, eq-eqb, ne-eqb}
-use Rattle.splits.proofs.Tests.{and-left, and-right}
+use Rattle.splits.specs.Subproblems.{every}
+use Rattle.splits.proofs.Tests.{and-left, and-right, same-test}
+use Rattle.splits.proofs.Refusals.{every-same}
 use Rattle.search.specs.Agenda.{problemOf}
 use Rattle.search.specs.FirstChecks.{orElse, refusalOfNumbers, wholeSlots, refusalOfLengths, refusalOfRequests, refusalOfProblem, refusalOfSearch, zerosFrom, openRefusal, searchRefusal, runRefusal}
-use Rattle.search.specs.Work.Matrices.{rowIn}
-use Rattle.search.specs.Work.FirstTests.{joined}
 use Rattle.search.proofs.Deserved.{slots-true}
 use Rattle.search.proofs.FirstPassing.{numbers-none}
-use Rattle.search.proofs.Joining.{zeros-found}
 use Rattle.files.proofs.Tests.{and-cases}
 use Rattle.files.specs.Reading.{saidN, saidD, refusalOfFile, refusalOfWords}
 use Rattle.files.specs.Calls.{saveRefusal, loadRefusal}
@@ -369,11 +370,37 @@ reach-shorter n subproblems requests agenda slots even most e l =
       room = omega arith;
     }
 
--- All bits of all bytes together tell whether all are zero.
-pub all-zeros : (bytes : List ℕ) (bits : ℕ) → bits ≡ joined (length bytes) (rowIn bytes) → eqb bits 0 ≡ zerosFrom 0 bytes
-all-zeros bytes bits e =
-    let all : take (length bytes - 0) (drop 0 bytes) ≡ bytes = take-all (length bytes - 0) bytes (omega arith) in
-    zeros-found bytes 0 bits (rw all e)
+-- The bits of two numbers together are none if both are 0.
+or-none : (a b : ℕ) → eqb (bitOr a b) 0 ≡ (eqb a 0 && eqb b 0)
+or-none a b =
+    same-test (eqb (bitOr a b) 0) (eqb a 0 && eqb b 0)
+    (λ e.
+    let none : bitOr a b ≡ 0 = eqb-true (bitOr a b) 0 e in
+    let sum = or-add-and a b in
+    rw (eq-eqb a 0 (omega (arith, and-le-r a b)), eq-eqb b 0 (omega (arith, and-le-l a b))) refl)
+    (λ e.
+    let first : a ≡ 0 = eqb-true a 0 (and-left (eqb a 0) (eqb b 0) e) in
+    let second : b ≡ 0 = eqb-true b 0 (and-right (eqb a 0) (eqb b 0) e) in
+    eq-eqb (bitOr a b) 0 (rw first (or-zero-l b) ∙ second))
+
+-- The bits tell whether the bytes before a place are 0.
+pub record ZerosTo (bytes : List ℕ) (k bits : ℕ) : Type 0 where
+  pub tell : eqb bits 0 ≡ every k (λ i. eqb (getD bytes i 0) 0)
+
+pub zeros-none : (bytes : List ℕ) → ZerosTo bytes 0 0
+unfolding every
+zeros-none bytes = record { tell = refl }
+
+pub zeros-more : (bytes : List ℕ) (k bits : ℕ) → ZerosTo bytes k bits → ZerosTo bytes (k + 1) (bitOr bits (getD bytes k 0))
+unfolding every
+zeros-more bytes k bits h = record { tell = rw add-one (or-none bits (getD bytes k 0) ∙ ap (λ (b : Bool). b && eqb (getD bytes k 0) 0) (h .tell)) }
+
+pub zeros-all : (bytes : List ℕ) (k bits : ℕ) → k ≤ length bytes → length bytes ≤ k → ZerosTo bytes k bits → eqb bits 0 ≡ zerosFrom 0 bytes
+unfolding zerosFrom
+zeros-all bytes k bits h l to =
+    let end : k ≡ length bytes - 0 = omega arith in
+    to .tell ∙ ap (λ (j : ℕ). every j (λ i. eqb (getD bytes i 0) 0)) end
+    ∙ every-same (λ i. eqb (getD bytes i 0) 0) (λ i. eqb (getD bytes (0 + i) 0) 0) (length bytes - 0) (λ i m. ap (λ (j : ℕ). eqb (getD bytes j 0) 0) (sym (zero-add i)))
 
 -- No more than there are.
 pub reach-inside : (n subproblems requests agenda r : ℕ) → Reach n subproblems requests agenda r → r ≤ agenda

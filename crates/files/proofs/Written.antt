@@ -17,6 +17,7 @@ use Rattle.files.specs.Blocks.{fileBytes, wordAt, checkOf, contentOfBloc
 use Rattle.files.specs.Content.{each, triangle, contentOf}
 use Rattle.files.specs.Reading.{blockWord, headOf, triangleWords}
 use Rattle.files.specs.Work.Said.{Numbers, agendaStart, wordsOf}
+use Rattle.files.specs.Calls.{handedContent}
 use Rattle.files.specs.Work.Saved.{Savable, handed, header, Tail, tail, blockPart, filePart}
 use Rattle.files.proofs.Lists.{map-is, each-length, each-none, each-more, total-below, seq, seq-is, padded-at}
 use Rattle.files.proofs.Words.{bytes-length, bytes-append, word-read}
@@ -215,8 +216,8 @@ module _ (n d : ℕ) (domains tables agenda : List ℕ) (s : State) (hands : Sav
   three = length-append (header n d s ++ domains) masks ∙ omega (arith, two, masks-length)
 
   -- How many words they are.
-  pub handed-length : length (handed n d domains tables agenda s) ≡ 9 + n + triangleWords n d + s .subproblems * (n + 2)
-  unfolding used masks
+  pub handed-length : length (handedContent n d domains tables agenda s) ≡ 9 + n + triangleWords n d + s .subproblems * (n + 2)
+  unfolding handed used masks
   handed-length = ap length parts ∙ length-append (header n d s ++ domains ++ masks) (take used agenda) ∙ omega (arith, three, used-length)
 
   -- The header, then the rest: the content, and zeros after it.

@@ -21,7 +21,7 @@ use Rattle.splits.proofs.Masks.{minus-part-of}
 use Rattle.splits.proofs.Tests.{or-left, or-right, some-none, true-false}
 use Rattle.splits.proofs.Ranges.{inside-is}
 use Rattle.splits.proofs.ByKind.{kinds}
-use Rattle.splits.specs.Work.Ranges.{Sized}
+use Rattle.splits.specs.Ranges.{Sized}
 use Rattle.search.specs.Work.Steps.{refusalFor}
 
 -- A refusal that is none was not given by the first test, and not by those after it.

@@ -18,7 +18,7 @@ use Rattle.splits.specs.Splits.{precluded, pieces}
 use Rattle.splits.specs.declared.subproblem.Subproblem.{Subproblem}
 use Rattle.splits.proofs.Masks.{bit-le, lowest-member, member-lt}
 use Rattle.splits.proofs.Tests.{true-false}
-use Rattle.splits.specs.Work.Ranges.{Sized}
+use Rattle.splits.specs.Ranges.{Sized}
 use Rattle.search.specs.Agenda.{problemOf}
 use Rattle.search.specs.Runs.{splitTop}
 use Rattle.search.specs.Chooser.{fewestOf, fewest, request, chosen}

@@ -19,7 +19,7 @@ use borrow.Author.Tests.{lt-ltb, ltb-true, eq-eqb, eqb-true, not-true, not-false
 use Rattle.splits.specs.Masks.{bit}
 use Rattle.splits.specs.Problem.{Table, tableOf}
 use Rattle.splits.specs.Subproblems.{every}
-use Rattle.splits.specs.Work.Ranges.{Sized}
+use Rattle.splits.specs.Ranges.{Sized}
 use Rattle.splits.proofs.Ranges.{word-at}
 use Rattle.splits.proofs.Masks.{bit-or, bit-above, bit-lt}
 use Rattle.splits.proofs.Tests.{and-left, and-right, or-cases, every-at, every-all, same-test}

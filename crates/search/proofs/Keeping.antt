@@ -18,7 +18,7 @@ use Rattle.splits.specs.Subproblems.{domain, empty}
 use Rattle.splits.specs.Requests.{kindOf, variableOf, valueOf, targetOf}
 use Rattle.splits.specs.Splits.{candidates, candidate, inferred, extracted, without, cut, cutBeside, atTargets, disjunct, extract}
 use Rattle.splits.specs.Calls.{readable}
-use Rattle.splits.specs.Work.Ranges.{Inside, Sized, Place}
+use Rattle.splits.specs.Ranges.{Inside, Sized, Place}
 use Rattle.splits.specs.declared.subproblem.Subproblem.{Subproblem}
 use Rattle.splits.proofs.Tests.{true-false}
 use Rattle.splits.proofs.Masks.{common-none}

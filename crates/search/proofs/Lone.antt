@@ -15,7 +15,6 @@ use Rattle.splits.specs.Masks.{_∈_, single, common, minus, size}
 use Rattle.splits.specs.Problem.{Table}
 use Rattle.splits.specs.Subproblems.{domain, some, empty}
 use Rattle.splits.specs.Splits.{changed, below, keep, filled, instantiate, without, cutBeside, precluded, disjunct, forwardChecking, idc, named, pieces}
-use Rattle.splits.specs.Work.Loops.{precludedEmpty}
 use Rattle.splits.specs.declared.subproblem.Subproblem.{Subproblem}
 use Rattle.splits.proofs.Masks.{none-common, minus-self, size-of-none, size-split, size-single, part-common, part-single, single-of}
 use Rattle.splits.proofs.Tests.{true-false, same-test, some-at, some-found, some-all-not, and-left, and-right}
@@ -51,7 +50,7 @@ module _ (n d : ℕ) (allowed : Table) (P : Subproblem) (V′ v : ℕ) (few : n 
   module _ (row : List ℕ) (its : RowOf n allowed V′ v row) where
     -- Whether a domain is lost is whether the precluded piece is empty.
     pub lost-is : loses (P .domains) row ≡ empty n (precluded n allowed P V′ v)
-    unfolding loses lost precludedEmpty
+    unfolding loses lost
     lost-is =
         same-test _ _
         (λ e.

@@ -17,7 +17,7 @@ use borrow.Author.Tests.{eqb-true, ltb-true, lt-ltb, le-ltb, eq-eqb}
 use Rattle.splits.specs.Masks.{bit}
 use Rattle.splits.specs.Problem.{Table, tableOf}
 use Rattle.splits.specs.Subproblems.{every}
-use Rattle.splits.specs.Work.Ranges.{Sized}
+use Rattle.splits.specs.Ranges.{Sized}
 use Rattle.splits.proofs.Masks.{bit-none, bit-above}
 use Rattle.splits.proofs.Ranges.{word-at}
 use Rattle.splits.proofs.Tests.{or-cases, every-at, every-all, same-test}

@@ -18,7 +18,7 @@ use Rattle.splits.specs.Splits.{pieces, precluded, without}
 use Rattle.splits.specs.Checks.{checks, valuesIn, others}
 use Rattle.splits.specs.Refusals.{refusalOf}
 use Rattle.splits.specs.Calls.{inside, readable}
-use Rattle.splits.specs.Work.Ranges.{Sized, Inside}
+use Rattle.splits.specs.Ranges.{Sized, Inside}
 use Rattle.splits.specs.declared.subproblem.Subproblem.{Subproblem}
 use Rattle.splits.proofs.Masks.{bit-le, bit-or, single-lt, lowest-member}
 use Rattle.splits.proofs.Tests.{true-false}

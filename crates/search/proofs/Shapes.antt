@@ -24,7 +24,7 @@ use Rattle.splits.proofs.Masks.{common-part, minus-part, part-lt, single-lt}
 use Rattle.splits.proofs.Domains.{Within, length-changed, within-changed, within-set}
 use Rattle.splits.proofs.Tests.{some-none}
 use Rattle.splits.proofs.ByKind.{kinds}
-use Rattle.splits.specs.Work.Ranges.{Sized}
+use Rattle.splits.specs.Ranges.{Sized}
 use Rattle.search.specs.Work.Kept.{Shape, Regular}
 use Rattle.search.proofs.Candidates.{one, firsts, pieces-are}
 use Rattle.search.proofs.Accepting.{its-variable, its-value, its-target, a-kind, accepted-reads}

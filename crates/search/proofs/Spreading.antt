@@ -18,7 +18,6 @@ use Rattle.splits.specs.Problem.{tableOf, total}
 use Rattle.splits.specs.Subproblems.{domain, empty}
 use Rattle.splits.specs.Splits.{changed, without, cut, cutBeside, disjunct, inferred, pieces, candidates, candidate}
 use Rattle.splits.specs.Calls.{readable, Piece, Candidates}
-use Rattle.splits.specs.Work.Loops.{precludedEmpty}
 use Rattle.splits.specs.declared.subproblem.Subproblem.{Subproblem}
 use Rattle.splits.proofs.Masks.{common-none, none-minus, minus-part, part-lt}
 use Rattle.splits.proofs.Tests.{true-false, some-none, some-all-not}
@@ -93,9 +92,8 @@ module _ (n d : ℕ) (t : List ℕ) (P : Subproblem) (c : Choice) (below words :
 
   -- What is allowed leaves something of each other variable.
   cut-some : (i : ℕ) → i < n → (i ≡ c .variable → ⊥) → common (domain P i) (tableOf n d t (c .variable) i (c .value)) ≡ 0 → ⊥
-  unfolding precludedEmpty
   cut-some i l k z =
-      let none : precludedEmpty n (tableOf n d t) P (c .variable) (c .value) ≡ false =
+      let none =
       precluded-empty n (tableOf n d t) P (c .variable) (c .value) (h .regular .shape .long) below-n few ∙ sym (h .found .none) ∙ several-kept c s in
       let at = some-none (λ i. not (eqb i (c .variable)) && eqb (common (domain P i) (tableOf n d t (c .variable) i (c .value))) 0) n i l none in
       true-false (rw (ne-eqb i (c .variable) k, eq-eqb (common (domain P i) (tableOf n d t (c .variable) i (c .value))) 0 z) at at)

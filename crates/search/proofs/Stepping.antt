@@ -24,7 +24,7 @@ use Rattle.splits.specs.declared.subproblem.Subproblem.{Subproblem}
 use Rattle.splits.proofs.ByKind.{kind-any}
 use Rattle.splits.proofs.Looking.{keep-append}
 use Rattle.splits.proofs.CheckLimit.{looked-le}
-use Rattle.splits.specs.Work.Ranges.{Sized}
+use Rattle.splits.specs.Ranges.{Sized}
 use Rattle.search.specs.Agenda.{problemOf, subproblemOf, slotAt, stackOf, stackWords, slotsIn, agendaOf}
 use Rattle.search.specs.Verdicts.{finished}
 use Rattle.search.specs.Runs.{Search, splitTop, step, refusalOfTop, refusalOfRequest, runFrom}

@@ -17,7 +17,7 @@ ghost use Rattle.splits.specs.Masks.{size};
 ghost use Rattle.splits.specs.Problem.{tableOf, total};
 ghost use Rattle.splits.specs.Subproblems.{domain, instantiated};
 ghost use Rattle.splits.specs.Splits.{without, pieces};
-ghost use Rattle.splits.specs.Work.Ranges.{Sized};
+ghost use Rattle.splits.specs.Ranges.{Sized};
 ghost use Rattle.search.specs.Work.Slots.{SlotIn};
 ghost use Rattle.search.specs.Work.Kept.{Regular};
 ghost use Rattle.search.specs.Work.Steps.{Replaced, Taking};

@@ -8,7 +8,7 @@ ghost use lib.Dec.{ltb};
 ghost use lib.ListN.{length};
 ghost use Rattle.splits.specs.Problem.{tableOf};
 ghost use Rattle.splits.specs.Subproblems.{every};
-ghost use Rattle.splits.specs.Work.Ranges.{Sized};
+ghost use Rattle.splits.specs.Ranges.{Sized};
 ghost use Rattle.search.specs.Agenda.{problemOf};
 ghost use Rattle.search.specs.FirstChecks.{refusalOfNumbers, wholeSlots, refusalOfLengths, refusalOfRequests, refusalOfProblem, zerosFrom, refusalOfSearch, sizesRefusal, openRefusal, searchRefusal, runRefusal};
 ghost use Rattle.search.specs.Work.Matrices.{rowIn};

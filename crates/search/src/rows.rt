@@ -1,7 +1,7 @@
 // Rows: what is allowed beside a value of a variable, for all variables at once, each made when it is first asked for.
 ghost use mathlib.Core.Path.{_≡_};
 ghost use Rattle.splits.specs.Problem.{tableOf};
-ghost use Rattle.splits.specs.Work.Ranges.{Sized, Place, Inside};
+ghost use Rattle.splits.specs.Ranges.{Sized, Place, Inside};
 ghost use Rattle.search.specs.Work.Lanes.{RowOf, Rows};
 
 // The mask of the values of `j` allowed beside value `a` of `i`; all bits where `j` is `i`, whose place is not read.

@@ -9,7 +9,7 @@ ghost use lib.ListN.{length};
 ghost use Rattle.splits.specs.Masks.{bit};
 ghost use Rattle.splits.specs.Problem.{tableOf};
 ghost use Rattle.splits.specs.Subproblems.{every};
-ghost use Rattle.splits.specs.Work.Ranges.{Sized};
+ghost use Rattle.splits.specs.Ranges.{Sized};
 ghost use Rattle.search.specs.Agenda.{problemOf, subproblemOf, stackOf};
 ghost use Rattle.search.specs.FirstChecks.{obeys, allObey};
 ghost use Rattle.search.specs.Work.FirstTests.{Mirrored, SlotFits, Next, joined, partWrong, wrongIn, pairAllowed, beforeAgrees, markObeys};

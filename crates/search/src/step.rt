@@ -19,7 +19,7 @@ ghost use Rattle.splits.specs.Problem.{tableOf};
 ghost use Rattle.splits.specs.Splits.{pieces, candidates};
 ghost use Rattle.splits.specs.Checks.{checks};
 ghost use Rattle.splits.specs.Calls.{readable};
-ghost use Rattle.splits.specs.Work.Ranges.{Sized};
+ghost use Rattle.splits.specs.Ranges.{Sized};
 ghost use Rattle.search.specs.Work.Steps.{TellsEmpty, Placing, Placed, Replaced, Taking, TakesOne, refusalFor};
 
 // Where a run stops: the refusal, the requests taken and the state it leaves.

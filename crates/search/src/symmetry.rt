@@ -7,7 +7,7 @@ ghost use mathlib.Core.List.{_++_};
 ghost use lib.ListN.{length, replicate};
 ghost use Rattle.splits.specs.Problem.{tableOf};
 ghost use Rattle.splits.specs.Subproblems.{every};
-ghost use Rattle.splits.specs.Work.Ranges.{Sized};
+ghost use Rattle.splits.specs.Ranges.{Sized};
 ghost use Rattle.search.specs.Work.Matrices.{matrixOf};
 ghost use Rattle.search.specs.Work.FirstTests.{Narrow, rowBothWays, padded, oneWay};
 

@@ -14,7 +14,7 @@ use Rattle.splits.specs.Requests.{kindOf, variableOf, valueOf}
 use Rattle.splits.specs.Splits.{byKind, backtracked, checked, inferred, halved, extracted, candidate, candidates}
 use Rattle.splits.specs.Checks.{checks, tried, valuesIn, others}
 use Rattle.splits.specs.Calls.{readable, inside, Piece, Checks-of}
-use Rattle.splits.specs.Work.Ranges.{Inside}
+use Rattle.splits.specs.Ranges.{Inside}
 use Rattle.splits.specs.declared.subproblem.Subproblem.{Subproblem}
 use Rattle.splits.proofs.Tests.{and-left}
 use Rattle.splits.proofs.Ranges.{inside-true}

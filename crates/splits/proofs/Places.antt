@@ -12,7 +12,7 @@ use Rattle.splits.specs.Subproblems.{domain}
 use Rattle.splits.specs.Requests.{targetOf}
 use Rattle.splits.specs.Splits.{instantiate, without, cut, cutBeside, atTargets, precluded, disjunct, extract, forbidden, backtracked, checked, inferred, halved, extracted}
 use Rattle.splits.specs.Calls.{Instantiate, Precluded}
-use Rattle.splits.specs.Work.Ranges.{Inside}
+use Rattle.splits.specs.Ranges.{Inside}
 use Rattle.splits.specs.declared.subproblem.Subproblem.{Subproblem}
 use Rattle.splits.proofs.Ranges.{inside-is}
 

@@ -13,7 +13,7 @@ use borrow.Author.Tests.{leb-true, ltb-true, eqb-true, le-leb, lt-ltb, le-ltb, e
 use Rattle.splits.proofs.Tests.{and-left, and-right}
 use Rattle.splits.specs.Problem.{tableOf}
 use Rattle.splits.specs.Calls.{sized, inside}
-use Rattle.splits.specs.Work.Ranges.{Sized, Inside, Place}
+use Rattle.splits.specs.Ranges.{Sized, Inside, Place}
 
 pub sized-true : (n d : ℕ) (t : List ℕ) → sized n d t ≡ true → Sized n d t
 unfolding sized

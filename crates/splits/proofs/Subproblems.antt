@@ -12,7 +12,7 @@ use lib.Bits.{bitAnd, bitOr}
 use lib.Dec.{ltb, eqb}
 use borrow.Author.Tests.{lt-ltb, eq-eqb, ne-eqb, eqb-true}
 use Rattle.splits.specs.Masks.{bit, single, minus, common}
-use Rattle.splits.specs.Subproblems.{domain, empty, instantiated, every}
+use Rattle.splits.specs.Subproblems.{domain, some, empty, instantiated, every}
 use Rattle.splits.specs.Problem.{Table, tableOf}
 use Rattle.splits.specs.Requests.{targetOf}
 use Rattle.splits.specs.Calls.{inside}
@@ -165,8 +165,8 @@ module _ (allowed : Table) (P : Subproblem) (V′ v : ℕ) where
 
 -- it tells whether the precluded piece is empty
 pub precluded-empty : (n : ℕ) (allowed : Table) (P : Subproblem) (V′ v : ℕ) → length (P .domains) ≡ 32 → V′ < n → n ≤ 32
-    → precludedEmpty n allowed P V′ v ≡ empty n (precluded n allowed P V′ v)
-unfolding precludedEmpty empty precluded instantiate cutBeside
+    → some n (λ i. not (eqb i V′) && eqb (common (domain P i) (allowed V′ i v)) 0) ≡ empty n (precluded n allowed P V′ v)
+unfolding empty precluded instantiate cutBeside
 precluded-empty n allowed P V′ v e h k = some-same _ _ n (λ i l. go i l (ℕ-discrete i V′))
   where
     besides′ : ℕ → ℕ → ℕ
@@ -187,6 +187,7 @@ precluded-empty n allowed P V′ v e h k = some-same _ _ n (λ i l. go i l (ℕ-
 pub precluded-empty-made : (n d : ℕ) (t : List ℕ) (P : Subproblem) (V′ v : ℕ) (r : Bool) → length (P .domains) ≡ 32 → inside n d t V′ v ≡ true
     → r ≡ precludedEmpty n (tableOf n d t) P V′ v
     → r ≡ empty n (cond (inside n d t V′ v) (precluded n (tableOf n d t) P V′ v) P)
+unfolding precludedEmpty
 precluded-empty-made n d t P V′ v r e h q =
     let f = inside-true n d t V′ v h in
     rw h (q ∙ precluded-empty n (tableOf n d t) P V′ v e (f .a-variable) (f .fit .few))

@@ -1,6 +1,7 @@
 -- Rules and splits, in the order of document 01. What only mirrors a loop of the code stands in Work.
 pub mod Masks
 pub mod Problem
+pub mod Ranges
 pub mod Subproblems
 pub mod Requests
 pub mod Splits

@@ -9,7 +9,7 @@ ghost use Rattle.splits.specs.Problem.{tableOf};
 ghost use Rattle.splits.specs.Splits.{forbids, instantiatedOther};
 ghost use Rattle.splits.specs.Checks.{valuesIn, others};
 ghost use Rattle.splits.specs.Calls.{Checks-of, readable};
-ghost use Rattle.splits.specs.Work.Ranges.{Inside};
+ghost use Rattle.splits.specs.Ranges.{Inside};
 ghost use Rattle.splits.specs.Work.Loops.{LookedAt};
 
 // How many instantiated variables kind 1 looked at, and whether the last of them forbids the value.

@@ -9,7 +9,7 @@ ghost use Prim.Native.Nat.{_+_, _≤_, _<_};
 ghost use Rattle.splits.specs.Problem.{tableOf};
 ghost use Rattle.splits.specs.Splits.{backtracked, checked, inferred, halved, extracted};
 ghost use Rattle.splits.specs.Calls.{Piece, Candidates};
-ghost use Rattle.splits.specs.Work.Ranges.{Inside};
+ghost use Rattle.splits.specs.Ranges.{Inside};
 
 // Backtracking: the variable instantiated to the value, emptied where an instantiated value forbids it; then the rest.
 fn backtracking(

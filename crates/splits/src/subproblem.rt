@@ -7,7 +7,7 @@ ghost use Prim.Native.Nat.{_+_, _<_, _≤_};
 ghost use Rattle.splits.specs.Problem.{tableOf};
 ghost use Rattle.splits.specs.Splits.{cutBeside, atTargets};
 ghost use Rattle.splits.specs.Calls.{Domain, Is-instantiated, All-instantiated, Is-empty, Instantiate, Without, Cut, Precluded, Precluded-empty};
-ghost use Rattle.splits.specs.Work.Ranges.{Inside};
+ghost use Rattle.splits.specs.Ranges.{Inside};
 ghost use Rattle.splits.specs.Work.Loops.{precludedEmpty};
 
 pub struct Subproblem {

@@ -4,7 +4,7 @@ ghost use mathlib.Core.Path.{_≡_};
 ghost use Prim.Native.Nat.{_+_, _*_, _<_};
 ghost use Rattle.splits.specs.Problem.{tableOf};
 ghost use Rattle.splits.specs.Calls.{sized, inside, readable};
-ghost use Rattle.splits.specs.Work.Ranges.{Sized, Place};
+ghost use Rattle.splits.specs.Ranges.{Sized, Place};
 
 // The mask of the values of `j` allowed beside value `a` of `i`.
 pub(crate) fn allowed(n: usize, d: usize, tables: &[u16], i: usize, j: usize, a: usize) -> u16

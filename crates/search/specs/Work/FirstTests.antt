@@ -9,7 +9,7 @@ use lib.Dec.{eqb, ltb}
 use Rattle.splits.specs.Masks.{bit, minus, size, lowest}
 use Rattle.splits.specs.Problem.{Problem, Table, tableOf}
 use Rattle.splits.specs.Subproblems.{domain, every}
-use Rattle.splits.specs.Work.Ranges.{Sized}
+use Rattle.splits.specs.Ranges.{Sized}
 use Rattle.splits.specs.declared.subproblem.Subproblem.{Subproblem}
 use Rattle.search.specs.Agenda.{problemOf, subproblemOf, slotAt}
 use Rattle.search.specs.FirstChecks.{refusalOfProblem, obeys}

@@ -11,7 +11,7 @@ use Rattle.splits.specs.Problem.{tableOf}
 use Rattle.splits.specs.Subproblems.{domain, empty, instantiated}
 use Rattle.splits.specs.Splits.{precluded, without, pieces}
 use Rattle.splits.specs.declared.subproblem.Subproblem.{Subproblem}
-use Rattle.splits.specs.Work.Ranges.{Sized}
+use Rattle.splits.specs.Ranges.{Sized}
 use Rattle.search.specs.Agenda.{slotsIn}
 use Rattle.search.specs.Chooser.{fewest, request}
 use Rattle.search.specs.Work.Slots.{SlotIn}

@@ -1,25 +1,21 @@
--- `console::bytes::zeros` meets its contract. The invariant: the bits of the bytes passed are together.
+-- `console::bytes::zeros` meets its contract. The invariant: the bits are none if the bytes passed are 0.
 -- Assumes nothing.
-use mathlib.Core.Path.{_≡_, refl}
 use Prim.Native.Nat.{_-_, _≤_}
 use native.Mathlib.Omega.{arith}
 use lib.ListN.{length}
-use Rattle.search.specs.Work.Matrices.{rowIn}
-use Rattle.search.specs.Work.FirstTests.{joined}
-use Rattle.search.proofs.Joining.{joined-none, joined-more, joined-end}
-use Rattle.console.proofs.Rooms.{all-zeros}
+use Rattle.console.proofs.Rooms.{ZerosTo, zeros-none, zeros-more, zeros-all}
 use borrow.Author.Needs.{needs}
 use Rattle.console.proofs.bytes.zeros.Statement.{statement}
 use Rattle.console.proofs.bytes.zeros.Tie as tie
 
 abbrev Inv-loop : tie.InvT-loop
-Inv-loop bytes bits₀ i₀ bits i = (i ≤ length bytes) × (bits ≡ joined i (rowIn bytes))
+Inv-loop bytes bits₀ i₀ bits i = (i ≤ length bytes) × ZerosTo bytes i bits
 
 abbrev μ-loop : tie.MeasureT-loop
 μ-loop bytes bits₀ i₀ bits i = length bytes - i
 
 loop-holds : tie.Need-loop-holds Inv-loop μ-loop
-loop-holds c = (search needs, joined-none _)
+loop-holds c = (search needs, zeros-none _)
 
 shared-slice-read-bits : tie.Need-shared-slice-read-bits Inv-loop μ-loop
 shared-slice-read-bits c = search needs
@@ -31,11 +27,10 @@ loop-less : tie.Need-loop-less Inv-loop μ-loop
 loop-less c = search needs
 
 loop-again : tie.Need-loop-again Inv-loop μ-loop
-unfolding rowIn
-loop-again c = (omega arith, joined-more _ _ _ _ (c .before .before .loop .inv .1) refl)
+loop-again c = (omega arith, zeros-more _ _ _ (c .before .before .loop .inv .1))
 
 returns : tie.Need-returns Inv-loop μ-loop
-returns c = all-zeros _ _ (joined-end _ _ _ _ (c .before .loop .inv .0) (c .loop-test .left) (c .before .loop .inv .1))
+returns c = zeros-all _ _ _ (c .before .loop .inv .0) (c .loop-test .left) (c .before .loop .inv .1)
 
 pub zeros-spec : {M : Type 1} → statement M
 zeros-spec =

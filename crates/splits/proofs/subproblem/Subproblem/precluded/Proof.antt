@@ -2,7 +2,7 @@
 -- Assumes nothing.
 use Rattle.splits.proofs.Subproblems.{precluded-made}
 use Rattle.splits.proofs.Ranges.{inside-true}
-use native.Mathlib.Nat.{le-refl}
+use native.Mathlib.Omega.{arith}
 use mathlib.Core.Path.{sym, _∙_}
 use borrow.Author.Needs.{needs}
 use Rattle.splits.proofs.subproblem.Subproblem.precluded.Statement.{statement}
@@ -12,7 +12,7 @@ within-requires : tie.Need-within-requires
 within-requires c κs = search needs
 
 cut-beside-requires : tie.Need-cut-beside-requires
-cut-beside-requires c κs = (inside-true _ _ _ _ _ (sym (c .before .within .ensures) ∙ c .if1 .taken), le-refl _)
+cut-beside-requires c κs = (inside-true _ _ _ _ _ (sym (c .before .within .ensures) ∙ c .if1 .taken), omega arith)
 
 instantiate-requires : tie.Need-instantiate-requires
 instantiate-requires c κs = search needs
