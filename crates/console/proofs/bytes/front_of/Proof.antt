@@ -1,6 +1,6 @@
 -- `console::bytes::front_of` meets its contract.
 -- Assumes nothing.
-use mathlib.Core.Path.{refl, _∙_}
+use mathlib.Core.Path.{refl}
 use mathlib.Core.Logic.{inr}
 use native.Mathlib.Omega.{arith}
 use Rattle.console.proofs.Rooms.{reach-inside, front-zeros}

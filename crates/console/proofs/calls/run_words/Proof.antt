@@ -1,7 +1,6 @@
 -- `console::calls::run_words` meets its contract.
 -- Assumes nothing.
 use mathlib.Core.Path.{refl, sym}
-use native.Mathlib.Omega.{arith}
 use lib.Seq.{length-take-le}
 use Rattle.console.proofs.Lending.{count-is, runs-words, front-runs}
 use Rattle.console.proofs.Rooms.{half-fits, front-inside, front-fits}
