@@ -21,7 +21,7 @@ use Rattle.files.proofs.Passing.{passing-search}
 use Rattle.files.proofs.RoundTrip.{said-canonical, content-word}
 
 -- A subproblem as memory holds it has the shape of a slot.
-canonical-shape : (n : ℕ) (P : Subproblem) → Canonical n P → Shape n 16 P
+pub canonical-shape : (n : ℕ) (P : Subproblem) → Canonical n P → Shape n 16 P
 canonical-shape n P c = record { long = c .entries; masks = c .masks; past = c .past; marks = c .marks }
 
 pub load-leaves : (file domains domains′ tables tables′ agenda agenda′ : List ℕ) (r : Loaded) → Bytes file
