@@ -24,7 +24,7 @@ use Rattle.files.specs.declared.saved.Loaded.{Loaded}
 use Rattle.files.proofs.Triangle.{table-other, triangle-same}
 use Rattle.files.proofs.Blocks.{file-length}
 use Rattle.files.proofs.Stacks.{agenda-read, of-length}
-use Rattle.files.proofs.Passing.{search-passing, passing-search}
+use Rattle.files.proofs.Passing.{Passing, search-passing, passing-search}
 use Rattle.files.proofs.RoundTrip.{saved-again}
 use Rattle.files.proofs.Saving.{stack-canonical, saved-says}
 use Rattle.files.proofs.Loading.{Fits, fit-lengths, load-taken, said-passing, memory-read, said-agree}
@@ -93,40 +93,49 @@ module _ (n d : ℕ) (domains tables agenda : List ℕ) (s : State) (before afte
       ∙ take-at (fileOf c) (drop (length (fileOf c)) before) (512 * blocksFor (length c)) (file-length c)
 
 -- Its memory and state say it.
-pub state-search : (n : ℕ) → n ≤ 32 → (words : ℕ) (x : Search) → ((P : Subproblem) → List·Memᴰ P (x .stack) → Canonical n P)
+state-search : (n : ℕ) → n ≤ 32 → (words : ℕ) (x : Search) → ((P : Subproblem) → List·Memᴰ P (x .stack) → Canonical n P)
     → searchOf n (agendaOf n words (x .stack)) (stateOf x) ≡ x
 unfolding stateOf
 state-search n few words x canonical =
     let stack = agenda-read n few words (x .stack) canonical in
     λ i. record { stack = stack i; steps = x .steps; checks = x .checks }
 
--- Load of what save wrote gives the search back.
-pub loads-back : (n d : ℕ) (domains tables agenda : List ℕ) (s : State) (before after : List ℕ) (saved : Saved)
-    (domains₀ domains′ tables₀ tables′ agenda₀ agenda′ : List ℕ) (r : Loaded) → Words agenda → Saves n d domains tables agenda s before after saved
-    → saved .refusal ≡ 0 → Loads (take (512 * saved .blocks) after) domains₀ domains′ tables₀ tables′ agenda₀ agenda′ r → length domains₀ ≡ n
-    → length tables₀ ≡ n * n * d → WholeSlots n (length agenda₀) → s .subproblems ≤ slotsIn n (length agenda₀)
-    → Given-back n d domains tables (searchOf n agenda s) r domains′ tables′ agenda′
-loads-back n d domains tables agenda s before after saved domains₀ domains′ tables₀ tables′ agenda₀ agenda′ r words h e l ds ts ws room =
-    let passes : saveRefusal n d domains tables agenda s before ≡ 0 = sym (h .refusal) ∙ e in
-    let first = save-none n d domains tables agenda s before .0 passes .0 in
-    let p = search-passing n d domains tables agenda (s .counts .steps .0) (s .counts .checks .0) (s .subproblems) first in
-    let file = fileOf (handedContent n d domains tables agenda s) in
-    let x = searchOf n agenda s in
-    let says : Says file n d domains (tableOf n d tables) x = saved-says n d domains tables agenda s words p in
-    let given : Loads file domains₀ domains′ tables₀ tables′ agenda₀ agenda′ r = rw (written-blocks n d domains tables agenda s before after saved h passes) at l in
-    let fits : Fits n d (length domains₀) (length tables₀) (length agenda₀) = record { domain-words = ds; table-words = ts; slots = ws } in
-    let size : length (x .stack) ≡ s .subproblems = of-length n (p .proper .variables) agenda (s .subproblems) in
-    let slots : length (x .stack) ≤ slotsIn n (length agenda₀) = omega arith in
-    let back = lent file n d domains (tableOf n d tables) x says domains₀ domains′ tables₀ tables′ agenda₀ agenda′ r given fits slots in
-    record {
-      refusal = back .refusal;
-      its-n = back .its-n;
-      its-d = back .its-d;
-      its-domains = back .its-domains;
-      its-allowed = rw (back .its-tables) (lent-agree file n d domains (tableOf n d tables) x says);
-      its-search = ap₂ (searchOf n) (back .its-agenda) (back .its-state)
-          ∙ state-search n (p .proper .variables) (length agenda₀) x (stack-canonical n d domains tables agenda s words p);
-    }
+-- Load of what save wrote returns and leaves the search that was saved.
+module _ (n d : ℕ) (domains tables agenda : List ℕ) (s : State) (before after : List ℕ) (saved : Saved)
+    (domains₀ domains′ tables₀ tables′ agenda₀ agenda′ : List ℕ) (r : Loaded) (words : Words agenda) (h : Saves n d domains tables agenda s before after saved)
+    (e : saved .refusal ≡ 0) (l : Loads (take (512 * saved .blocks) after) domains₀ domains′ tables₀ tables′ agenda₀ agenda′ r) (ds : length domains₀ ≡ n)
+    (ts : length tables₀ ≡ n * n * d) (ws : WholeSlots n (length agenda₀)) (room : s .subproblems ≤ slotsIn n (length agenda₀)) where
+  none : saveRefusal n d domains tables agenda s before ≡ 0
+  none = sym (h .refusal) ∙ e
+
+  passing : Passing n d domains tables agenda (s .counts .steps .0) (s .counts .checks .0) (s .subproblems)
+  passing =
+      search-passing n d domains tables agenda (s .counts .steps .0) (s .counts .checks .0) (s .subproblems) (save-none n d domains tables agenda s before .0 none .0)
+
+  says-it : Says (fileOf (handedContent n d domains tables agenda s)) n d domains (tableOf n d tables) (searchOf n agenda s)
+  says-it = saved-says n d domains tables agenda s words passing
+
+  pub lent-back : Lent (fileOf (handedContent n d domains tables agenda s)) n d domains (searchOf n agenda s) (length agenda₀) r domains′ tables′ agenda′
+  lent-back =
+      let file = fileOf (handedContent n d domains tables agenda s) in
+      let x = searchOf n agenda s in
+      let given : Loads file domains₀ domains′ tables₀ tables′ agenda₀ agenda′ r = rw (written-blocks n d domains tables agenda s before after saved h none) at l in
+      let fits : Fits n d (length domains₀) (length tables₀) (length agenda₀) = record { domain-words = ds; table-words = ts; slots = ws } in
+      let size : length (x .stack) ≡ s .subproblems = of-length n (passing .proper .variables) agenda (s .subproblems) in
+      let slots : length (x .stack) ≤ slotsIn n (length agenda₀) = omega arith in
+      lent file n d domains (tableOf n d tables) x says-it domains₀ domains′ tables₀ tables′ agenda₀ agenda′ r given fits slots
+
+  -- It gives the search back.
+  pub loads-back : Given-back n d domains tables (searchOf n agenda s) r domains′ tables′ agenda′
+  loads-back = record {
+    refusal = lent-back .refusal;
+    its-n = lent-back .its-n;
+    its-d = lent-back .its-d;
+    its-domains = lent-back .its-domains;
+    its-allowed = rw (lent-back .its-tables) (lent-agree (fileOf (handedContent n d domains tables agenda s)) n d domains (tableOf n d tables) (searchOf n agenda s) says-it);
+    its-search = ap₂ (searchOf n) (lent-back .its-agenda) (lent-back .its-state)
+        ∙ state-search n (passing .proper .variables) (length agenda₀) (searchOf n agenda s) (stack-canonical n d domains tables agenda s words passing);
+  }
 
 -- ---- save after load
 

@@ -1,42 +1,34 @@
--- A list of requests, cut anywhere, saved, loaded and gone on with, ends as uncut.
+-- A list of requests, or the chooser, cut anywhere, saved, loaded and gone on with, ends as uncut.
 -- Assumes nothing.
 use mathlib.Core.Path.{_≡_, refl, sym, ap, ap₂, subst, _∙_}
+use mathlib.Core.Logic.{_⊎_, inl, inr}
+use mathlib.Core.Bool.{Bool, true, false, cond}
 use mathlib.Core.List.{List, List·Memᴰ, _++_}
-use Prim.Native.Nat.{ℕ, _+_, _*_, _^_, _≤_, _<_}
+use Prim.Native.Nat.{ℕ, zero, suc, _+_, _-_, _*_, _≤_, _<_}
 use native.Mathlib.Omega.{arith}
-use native.Mathlib.Nat.{mul-le-mul-right, div-mul-le-self, le-trans}
-use lib.ListN.{length, getD, take, drop, length-append}
-use lib.Seq.{take-at}
-use Rattle.splits.specs.Problem.{Problem, Proper, tableOf}
+use native.Mathlib.Nat.{mul-le-mul-right, div-mul-le-self, le-trans, le-refl}
+use lib.ListN.{length, drop, length-append}
+use lib.Dec.{eqb}
+use Rattle.splits.specs.Problem.{Problem, Proper}
 use Rattle.splits.specs.declared.subproblem.Subproblem.{Subproblem}
-use Rattle.search.specs.Agenda.{problemOf, stackOf, slotsIn, agendaOf}
-use Rattle.search.specs.FirstChecks.{WholeSlots, WholeRequests, runRefusal}
-use Rattle.search.specs.Verdicts.{verdictOf}
-use Rattle.search.specs.Runs.{Search, Stopped, run, requestsIn}
-use Rattle.search.specs.Calls.{searchOf, Ends, Runs}
-use Rattle.search.specs.Promises.{Passes, Reached}
+use Rattle.search.specs.Agenda.{problemOf, slotsIn, agendaOf}
+use Rattle.search.specs.FirstChecks.{WholeSlots, WholeRequests, runRefusal, searchRefusal}
+use Rattle.search.specs.Verdicts.{verdictOf, finished}
+use Rattle.search.specs.Runs.{Search, Stopped, step, refusalOfRequest, run, requestsIn}
+use Rattle.search.specs.Chooser.{chosen, chooseFrom, choose}
+use Rattle.search.specs.Calls.{searchOf, Ends, Runs, Chooses}
+use Rattle.search.specs.Promises.{Passes, Reached, Handed, Leaves}
 use Rattle.search.specs.declared.state.State.{State}
 use Rattle.search.specs.declared.state.Ran.{Ran}
-use Rattle.search.proofs.Runs.{after, two-lists, stops}
-use Rattle.files.specs.Blocks.{blocksFor, fileOf}
-use Rattle.files.specs.Content.{contentOf}
-use Rattle.files.specs.Reading.{saidAllowed, tableWords}
-use Rattle.files.specs.Calls.{handedContent, saveRefusal}
-use Rattle.files.specs.Promises.{Canonical, Allow-same, Says, Held-in, Trip, Same-end}
-use Rattle.files.proofs.Triangle.{table-length}
-use Rattle.files.proofs.Blocks.{file-length}
+use Rattle.search.proofs.Runs.{stop, after, two-lists, stops}
+use Rattle.search.proofs.HandedOn.{agenda-small}
+use Rattle.search.proofs.Promises.{run-leaves, chooser-leaves, choose-two}
+use Rattle.files.specs.Promises.{Canonical, Held-in, Two-ways, Trip, Chooser-trip, Same-end}
 use Rattle.files.proofs.Stacks.{agenda-length, agenda-read, agenda-zero}
-use Rattle.files.proofs.Passing.{Passing, slots-in, passing-search, passing-run}
-use Rattle.files.proofs.Tables.{rules-agree, proper-agree, agree-back}
-use Rattle.files.proofs.RoundTrip.{file-says}
-use Rattle.files.proofs.Back.{stateOf, Lent, lent, lent-agree, state-search}
-use Rattle.files.proofs.Refusals.{save-none}
-use Rattle.search.proofs.Promises.{run-passes}
-use Rattle.files.proofs.Steps.{All-tidy, tidy-canonical, run-tidy}
-use Rattle.files.proofs.AgreeingRuns.{run-same}
+use Rattle.files.proofs.Passing.{Passing, slots-in, search-passing, passing-search, passing-run}
 use Rattle.files.proofs.Requests.{whole-append, requests-append, whole-drop, requests-drop}
 use Rattle.files.proofs.Reaching.{reached-good, reached-canonical}
-use Rattle.files.proofs.Diagonal.{passing-passes}
+use Rattle.files.proofs.Carried.{Carried, carried, run-on, choose-on}
 
 -- ---- a call whose first checks pass
 
@@ -61,57 +53,29 @@ ends-outcome first n before left s x r e h = record {
   agenda = rw e at (h .agenda);
 }
 
--- The statement of a run at equal inputs.
-runs-cast : (n n′ d d′ : ℕ) (domains domains′ tables tables′ before before′ left requests requests′ : List ℕ) (s s′ : State) (r : Ran)
-    → n′ ≡ n → d′ ≡ d → domains′ ≡ domains → tables′ ≡ tables → before′ ≡ before → requests′ ≡ requests → s′ ≡ s
-    → Runs n′ d′ domains′ tables′ before′ left requests′ s′ r → Runs n d domains tables before left requests s r
-runs-cast n n′ d d′ domains domains′ tables tables′ before before′ left requests requests′ s s′ r a b c e f g k h =
-    rw (← a, ← b, ← c, ← e, ← f, ← g, ← k) h
+-- ---- two calls in the place of one
 
--- ---- a search in memory
+-- Where the uncut call stops as the second does, so many more taken before, the end is the uncut call's.
+joined-end : (n d : ℕ) (domains tables agenda : List ℕ) (w : Two-ways n d domains tables) (x x₁ x₂ : Stopped) → Outcome n agenda (w .whole-agenda) x (w .whole)
+    → Outcome n agenda (w .first-agenda) x₁ (w .first) → Outcome n (w .first-agenda) (w .second-agenda) x₂ (w .second) → x ≡ after (x₁ .taken) x₂
+    → length (w .first-agenda) ≡ length agenda → Carried w → Same-end w
+joined-end n d domains tables agenda w x x₁ x₂ out out₁ out₂ joined kept c = record {
+  saved = c .saved;
+  loaded = c .loaded;
+  verdict = out₂ .verdict ∙ sym (out .verdict ∙ ap (λ (y : Stopped). verdictOf n (y .search .stack)) joined);
+  refusal = out₂ .refusal ∙ sym (out .refusal ∙ ap (λ (y : Stopped). y .refusal) joined);
+  agenda-left =
+      out₂ .agenda ∙ ap (λ (k : ℕ). agendaOf n k (x₂ .search .stack)) kept
+      ∙ sym (out .agenda ∙ ap (λ (y : Stopped). agendaOf n (length agenda) (y .search .stack)) joined);
+  steps = out₂ .steps ∙ sym (out .steps ∙ ap (λ (y : Stopped). y .search .steps) joined);
+  checks = out₂ .checks ∙ sym (out .checks ∙ ap (λ (y : Stopped). y .search .checks) joined);
+  subproblems = out₂ .subproblems ∙ sym (out .subproblems ∙ ap (λ (y : Stopped). length (y .search .stack)) joined);
+  taken = ap₂ _+_ (out₁ .taken) (out₂ .taken) ∙ sym (out .taken ∙ ap (λ (y : Stopped). y .taken) joined);
+}
 
-module _ (n d : ℕ) (domains tables : List ℕ) (x : Search) (words : ℕ) (passes : Passes (problemOf n d domains tables) (slotsIn n words) x)
-    (canonical : (P : Subproblem) → List·Memᴰ P (x .stack) → Canonical n P) where
-  few : n ≤ 32
-  few = passes .proper .variables
+-- ---- a list of requests
 
-  within : length (x .stack) * (n + 2) ≤ words
-  within = le-trans (mul-le-mul-right (n + 2) (passes .fits)) (div-mul-le-self words (n + 2))
-
-  -- The agenda has as many words as were lent.
-  pub memory-length : length (agendaOf n words (x .stack)) ≡ words
-  memory-length = agenda-length n few words (x .stack) canonical within
-
-  -- It says the search.
-  pub memory-search : (agenda : List ℕ) (s : State) → agenda ≡ agendaOf n words (x .stack) → s .counts .steps .0 ≡ x .steps → s .counts .checks .0 ≡ x .checks
-      → s .subproblems ≡ length (x .stack) → searchOf n agenda s ≡ x
-  memory-search agenda s a b c e =
-      let stack : stackOf n agenda (s .subproblems) ≡ x .stack = ap₂ (stackOf n) a e ∙ agenda-read n few words (x .stack) canonical in
-      λ i. record { stack = stack i; steps = b i; checks = c i }
-
-  -- It passes the first checks.
-  pub memory-passing : length domains ≡ n → length tables ≡ n * n * d → WholeSlots n words
-      → Passing n d domains tables (agendaOf n words (x .stack)) (x .steps) (x .checks) (length (x .stack))
-  memory-passing ds ts ws = record {
-    proper = passes .proper;
-    domain-words = ds;
-    table-words = ts;
-    slots = rw memory-length ws;
-    rules = λ P m. passes .rules P (rw (agenda-read n few words (x .stack) canonical) at m);
-    fits = rw memory-length (passes .fits);
-    unused = λ k l m. agenda-zero n few words (x .stack) canonical k l;
-    counted = passes .counted;
-  }
-
-passing-cast : (n d : ℕ) (domains tables agenda agenda′ : List ℕ) (steps steps′ checks checks′ subproblems subproblems′ : ℕ) → agenda′ ≡ agenda
-    → steps′ ≡ steps → checks′ ≡ checks → subproblems′ ≡ subproblems → Passing n d domains tables agenda steps checks subproblems
-    → Passing n d domains tables agenda′ steps′ checks′ subproblems′
-passing-cast n d domains tables agenda agenda′ steps steps′ checks checks′ subproblems subproblems′ a b c e h = rw (a, b, c, e) h
-
--- ---- the cut
-
-module _ (n d : ℕ) (domains tables agenda : List ℕ) (s : State) (requests more : List ℕ) (short : s .counts .steps .0 < 2 ^ 32)
-    (h : Passing n d domains tables agenda (s .counts .steps .0) (s .counts .checks .0) (s .subproblems)) (tidy : All-tidy n (searchOf n agenda s))
+module _ (n d : ℕ) (domains tables agenda : List ℕ) (s : State) (requests more : List ℕ) (handed : Handed n d domains tables agenda s)
     (w : WholeRequests n (length requests)) (v : WholeRequests n (length more)) (t : Trip n d domains tables agenda s requests more) where
   p : Problem
   p = problemOf n d domains tables
@@ -119,229 +83,210 @@ module _ (n d : ℕ) (domains tables agenda : List ℕ) (s : State) (requests mo
   room : ℕ
   room = slotsIn n (length agenda)
 
-  x0 : Search
-  x0 = searchOf n agenda s
-
-  -- Where the run to the cut stops, and where the uncut run does.
-  x1 : Stopped
-  x1 = run p room (requestsIn n requests) x0
-
-  x : Stopped
-  x = run p room (requestsIn n (requests ++ more)) x0
-
-  passes0 : Passes p room x0
-  unfolding p room x0
-  passes0 = passing-passes n d domains tables agenda s short h
-
-  passes1 : Passes p room (x1 .search)
-  unfolding x1
-  passes1 = run-passes p room (requestsIn n requests) x0 passes0
-
-  canonical1 : (P : Subproblem) → List·Memᴰ P (x1 .search .stack) → Canonical n P
-  unfolding x1 p x0
-  canonical1 P m = tidy-canonical p P (h .proper) (passes1 .rules P m) (run-tidy p room (requestsIn n requests) x0 passes0 tidy P m)
-
-  out1 : Outcome n agenda (t .first-agenda) x1 (t .first)
-  unfolding x1 p room x0
-  out1 =
-      ends-outcome (runRefusal n d domains tables agenda requests (s .counts .steps .0) (s .counts .checks .0) (s .subproblems)) n agenda (t .first-agenda) s x1 (t .first)
-      (passing-run n d domains tables agenda (s .counts .steps .0) (s .counts .checks .0) (s .subproblems) h requests w) (t .to-the-cut)
-
-  out : Outcome n agenda (t .whole-agenda) x (t .whole)
-  unfolding x p room x0
-  out =
-      ends-outcome (runRefusal n d domains tables agenda (requests ++ more) (s .counts .steps .0) (s .counts .checks .0) (s .subproblems)) n agenda (t .whole-agenda) s x (t .whole)
-      (passing-run n d domains tables agenda (s .counts .steps .0) (s .counts .checks .0) (s .subproblems) h (requests ++ more) (whole-append n requests more w v)) (t .uncut)
-
-  -- ---- saved
-
-  memory : List ℕ
-  memory = agendaOf n (length agenda) (x1 .search .stack)
-
-  search1 : searchOf n (t .first-agenda) (t .first .state) ≡ x1 .search
-  unfolding p room
-  search1 =
-      memory-search n d domains tables (x1 .search) (length agenda) passes1 canonical1 (t .first-agenda) (t .first .state) (out1 .agenda) (out1 .steps) (out1 .checks) (out1 .subproblems)
-
-  passing1 : Passing n d domains tables memory (x1 .search .steps) (x1 .search .checks) (length (x1 .search .stack))
-  unfolding memory p room
-  passing1 = memory-passing n d domains tables (x1 .search) (length agenda) passes1 canonical1 (h .domain-words) (h .table-words) (h .slots)
-
-  content : List ℕ
-  content = contentOf n d domains (tableOf n d tables) (x1 .search)
-
-  content1 : handedContent n d domains tables (t .first-agenda) (t .first .state) ≡ content
-  unfolding content
-  content1 = ap (contentOf n d domains (tableOf n d tables)) search1
-
-  save-passes : saveRefusal n d domains tables (t .first-agenda) (t .first .state) (t .buffer) ≡ 0
-  unfolding memory
-  save-passes =
-      save-none n d domains tables (t .first-agenda) (t .first .state) (t .buffer) .1 (
-        passing-search n d domains tables (t .first-agenda) (t .first .state .counts .steps .0) (t .first .state .counts .checks .0) (t .first .state .subproblems)
-            (passing-cast n d domains tables memory (t .first-agenda) (x1 .search .steps) (t .first .state .counts .steps .0) (x1 .search .checks) (t .first .state .counts .checks .0)
-            (length (x1 .search .stack)) (t .first .state .subproblems) (out1 .agenda) (out1 .steps) (out1 .checks) (out1 .subproblems) passing1),
-        λ l. absurd (omega (arith, t .enough)),
-      )
-
-  file : List ℕ
-  file = fileOf content
-
-  blocks-are : t .saved .blocks ≡ blocksFor (length content)
-  blocks-are = (rw save-passes at (t .saves .blocks)) ∙ ap (λ (c : List ℕ). blocksFor (length c)) content1
-
-  written-is : t .written ≡ file ++ drop (length file) (t .buffer)
-  unfolding file
-  written-is = (rw save-passes at (t .saves .file)) ∙ ap (λ (c : List ℕ). fileOf c ++ drop (length (fileOf c)) (t .buffer)) content1
-
-  lent-is : take (512 * t .saved .blocks) (t .written) ≡ file
-  unfolding file
-  lent-is =
-      ap₂ (λ (k : ℕ) (l : List ℕ). take (512 * k) l) blocks-are written-is
-      ∙ take-at file (drop (length file) (t .buffer)) (512 * blocksFor (length content)) (file-length content)
-
-  few-slots : room ≤ 512
-  unfolding room
-  few-slots = let (slots, some, few, e) = h .slots in omega (arith, ap (slotsIn n) e ∙ slots-in n slots)
-
-  says : Says file n d domains (tableOf n d tables) (x1 .search)
-  unfolding file content p
-  says =
-      file-says n d domains (tableOf n d tables) (x1 .search) (h .proper .variables) (h .proper .values) (h .domain-words)
-      (omega (arith, passes1 .fits, few-slots)) canonical1 (h .proper) (passes1 .rules) (passes1 .counted)
-
-  -- ---- loaded
-
-  -- The tables that load writes, the state that it returns, and what it leaves.
-  again : List ℕ
-  again = tableWords n d (saidAllowed file)
-
-  state1 : State
-  state1 = stateOf (x1 .search)
-
-  back : Lent file n d domains (x1 .search) (length agenda) (t .loaded) (t .domains₁) (t .tables₁) (t .agenda₁)
-  unfolding room
-  back =
-      rw (← t .agenda-words) (lent file n d domains (tableOf n d tables) (x1 .search) says (t .domains₀) (t .domains₁) (t .tables₀) (t .tables₁) (t .agenda₀) (t .agenda₁)
-      (t .loaded) (rw lent-is at (t .loads)) (record { domain-words = t .domain-words; table-words = t .table-words; slots = rw (t .agenda-words) (h .slots) })
-      (rw (t .agenda-words) (passes1 .fits)))
-
-  -- The tables agree with those that were saved.
-  agree : Allow-same n d (tableOf n d tables) (tableOf n d again)
-  unfolding again
-  agree = agree-back (tableOf n d (tableWords n d (saidAllowed file))) (tableOf n d tables) (lent-agree file n d domains (tableOf n d tables) (x1 .search) says)
-
-  -- ---- gone on with
-
-  p2 : Problem
-  p2 = problemOf n d domains again
-
-  passes2 : Passes p2 room (x1 .search)
-  unfolding p p2
-  passes2 = record {
-    proper = proper-agree n d (λ i. getD domains i 0) (tableOf n d tables) (tableOf n d again) agree (h .proper);
-    rules = λ P m. rules-agree n d (λ i. getD domains i 0) (tableOf n d tables) (tableOf n d again) agree (h .proper .domains) P (passes1 .rules P m);
-    fits = passes1 .fits;
-    counted = passes1 .counted;
-    stepped = passes1 .stepped;
-  }
+  -- Where the run to the cut stops.
+  x₁ : Stopped
+  x₁ = run p room (requestsIn n requests) (searchOf n agenda s)
 
   rest : List ℕ
-  rest = drop (x1 .taken * (n + 3)) (requests ++ more)
+  rest = drop (t .ways .first .taken * (n + 3)) (requests ++ more)
 
-  taken-few : x1 .taken ≤ length (requestsIn n (requests ++ more))
-  unfolding x1
-  taken-few =
+  both : WholeRequests n (length (requests ++ more))
+  both = whole-append n requests more w v
+
+  -- A run of whole requests on a search that passes.
+  outcome : (before left : List ℕ) (st : State) (l : List ℕ) (r : Ran) → Handed n d domains tables before st → WholeRequests n (length l)
+      → Runs n d domains tables before left l st r → Outcome n before left (run p (slotsIn n (length before)) (requestsIn n l) (searchOf n before st)) r
+  unfolding p
+  outcome before left st l r h whole runs =
+      ends-outcome (runRefusal n d domains tables before l (st .counts .steps .0) (st .counts .checks .0) (st .subproblems)) n before left st
+      (run p (slotsIn n (length before)) (requestsIn n l) (searchOf n before st)) r
+      (passing-run n d domains tables before (st .counts .steps .0) (st .counts .checks .0) (st .subproblems)
+      (search-passing n d domains tables before (st .counts .steps .0) (st .counts .checks .0) (st .subproblems) (h .passes)) l whole) runs
+
+  out₁ : Outcome n agenda (t .ways .first-agenda) x₁ (t .ways .first)
+  unfolding x₁ p room
+  out₁ = outcome agenda (t .ways .first-agenda) s requests (t .ways .first) handed w (t .to-the-cut)
+
+  left₁ : Leaves n d domains tables agenda (t .ways .first-agenda) (t .ways .first .state) (x₁ .search)
+  unfolding x₁ p room
+  left₁ = run-leaves n d domains tables agenda (t .ways .first-agenda) requests s (t .ways .first) handed (t .to-the-cut) .0 w
+
+  few : t .ways .first .taken ≤ length (requestsIn n (requests ++ more))
+  unfolding x₁
+  few =
       rw (requests-append n requests more w v)
-      (omega (arith, stops p room (requestsIn n requests) x0 .0, length-append (requestsIn n requests) (requestsIn n more)))
+      (omega (arith, out₁ .taken, stops p room (requestsIn n requests) (searchOf n agenda s) .0, length-append (requestsIn n requests) (requestsIn n more)))
 
-  goes : Runs n d domains again memory (t .second-agenda) rest state1 (t .second)
-  unfolding rest again memory state1
-  goes =
-      runs-cast n (t .loaded .n) d (t .loaded .d) domains (t .domains₁) again (t .tables₁) memory (t .agenda₁) (t .second-agenda)
-      (drop (x1 .taken * (n + 3)) (requests ++ more)) (drop (t .first .taken * (n + 3)) (requests ++ more)) state1 (t .loaded .state) (t .second)
-      (back .its-n) (back .its-d) (back .its-domains) (back .its-tables) (back .its-agenda) (ap (λ (k : ℕ). drop (k * (n + 3)) (requests ++ more)) (out1 .taken)) (back .its-state) (t .goes-on)
+  -- Where what was gone on with stops.
+  x₂ : Stopped
+  x₂ = run p room (drop (x₁ .taken) (requestsIn n requests ++ requestsIn n more)) (x₁ .search)
 
-  passing2 : Passing n d domains again memory (x1 .search .steps) (x1 .search .checks) (length (x1 .search .stack))
-  unfolding memory p2 room again
-  passing2 =
-      memory-passing n d domains again (x1 .search) (length agenda) passes2 canonical1 (h .domain-words) (table-length n d (saidAllowed file)) (h .slots)
+  run₂ : run p (slotsIn n (length (t .ways .first-agenda))) (requestsIn n rest) (searchOf n (t .ways .first-agenda) (t .ways .first .state)) ≡ x₂
+  unfolding x₂ room rest both
+  run₂ =
+      ap₂ (λ (k : ℕ) (y : Search). run p k (requestsIn n rest) y) (ap (slotsIn n) (left₁ .length-kept)) (left₁ .search)
+      ∙ ap (λ (l : List (List ℕ)). run p room l (x₁ .search))
+      (requests-drop n (requests ++ more) both (t .ways .first .taken) few ∙ ap₂ drop (out₁ .taken) (requests-append n requests more w v))
 
-  x2 : Stopped
-  x2 = run p room (drop (x1 .taken) (requestsIn n requests ++ requestsIn n more)) (x1 .search)
-
-  search2 : searchOf n memory state1 ≡ x1 .search
-  unfolding memory state1
-  search2 = state-search n (h .proper .variables) (length agenda) (x1 .search) canonical1
-
-  slots2 : slotsIn n (length memory) ≡ room
-  unfolding memory room p
-  slots2 = ap (slotsIn n) (memory-length n d domains tables (x1 .search) (length agenda) passes1 canonical1)
-
-  requests2 : requestsIn n rest ≡ drop (x1 .taken) (requestsIn n requests ++ requestsIn n more)
-  unfolding rest
-  requests2 =
-      requests-drop n (requests ++ more) (whole-append n requests more w v) (x1 .taken) taken-few
-      ∙ ap (drop (x1 .taken)) (requests-append n requests more w v)
-
-  run2 : run p2 (slotsIn n (length memory)) (requestsIn n rest) (searchOf n memory state1) ≡ x2
-  unfolding x2 p p2
-  run2 =
-      ap₂ (λ (k : ℕ) (y : Search). run p2 k (requestsIn n rest) y) slots2 search2 ∙ ap (λ (l : List (List ℕ)). run p2 room l (x1 .search)) requests2
-      ∙ sym (run-same p (tableOf n d again) agree room (drop (x1 .taken) (requestsIn n requests ++ requestsIn n more)) (x1 .search) passes1)
-
-  whole-rest : WholeRequests n (length rest)
-  unfolding rest
-  whole-rest = whole-drop n (requests ++ more) (whole-append n requests more w v) (x1 .taken) taken-few
-
-  out2 : Outcome n memory (t .second-agenda) x2 (t .second)
-  unfolding p2 state1 stateOf
-  out2 =
-      rw (← run2) (ends-outcome (runRefusal n d domains again memory rest (x1 .search .steps) (x1 .search .checks) (length (x1 .search .stack))) n memory (t .second-agenda) state1
-      (run p2 (slotsIn n (length memory)) (requestsIn n rest) (searchOf n memory state1)) (t .second)
-      (passing-run n d domains again memory (x1 .search .steps) (x1 .search .checks) (length (x1 .search .stack)) passing2 rest whole-rest) goes)
-
-  -- The uncut run is the run to the cut, then what was gone on with.
-  joined : x ≡ after (x1 .taken) x2
-  unfolding x x1 x2
-  joined = ap (λ (l : List (List ℕ)). run p room l x0) (requests-append n requests more w v) ∙ two-lists p room (requestsIn n more) (requestsIn n requests) x0
+  out₂ : Outcome n (t .ways .first-agenda) (t .ways .second-agenda) x₂ (t .ways .second)
+  unfolding rest both
+  out₂ =
+      subst (λ (y : Stopped). Outcome n (t .ways .first-agenda) (t .ways .second-agenda) y (t .ways .second)) run₂
+      (outcome (t .ways .first-agenda) (t .ways .second-agenda) (t .ways .first .state) rest (t .ways .second) (left₁ .handed)
+      (whole-drop n (requests ++ more) both (t .ways .first .taken) few)
+      (run-on n d domains tables (t .ways) (left₁ .handed) (t .ways .second-agenda) rest (t .ways .second) (t .goes-on)))
 
   -- The end is the uncut run's.
-  pub same-end : Same-end t
-  unfolding memory p room
-  same-end = record {
-    saved = t .saves .refusal ∙ save-passes;
-    loaded = back .refusal;
-    verdict = out2 .verdict ∙ sym (out .verdict ∙ ap (λ (y : Stopped). verdictOf n (y .search .stack)) joined);
-    refusal = out2 .refusal ∙ sym (out .refusal ∙ ap (λ (y : Stopped). y .refusal) joined);
-    agenda-left =
-        out2 .agenda ∙ ap (λ (k : ℕ). agendaOf n k (x2 .search .stack)) length1
-        ∙ sym (out .agenda ∙ ap (λ (y : Stopped). agendaOf n (length agenda) (y .search .stack)) joined);
-    steps = out2 .steps ∙ sym (out .steps ∙ ap (λ (y : Stopped). y .search .steps) joined);
-    checks = out2 .checks ∙ sym (out .checks ∙ ap (λ (y : Stopped). y .search .checks) joined);
-    subproblems = out2 .subproblems ∙ sym (out .subproblems ∙ ap (λ (y : Stopped). length (y .search .stack)) joined);
-    taken = ap₂ _+_ (out1 .taken) (out2 .taken) ∙ sym (out .taken ∙ ap (λ (y : Stopped). y .taken) joined);
-  }
-    where
-      length1 : length memory ≡ length agenda
-      length1 = memory-length n d domains tables (x1 .search) (length agenda) passes1 canonical1
+  pub run-end : Same-end (t .ways)
+  unfolding x₁ x₂ p room both
+  run-end =
+      joined-end n d domains tables agenda (t .ways) (run p room (requestsIn n (requests ++ more)) (searchOf n agenda s)) x₁ x₂
+      (outcome agenda (t .ways .whole-agenda) s (requests ++ more) (t .ways .whole) handed both (t .uncut)) out₁ out₂
+      (ap (λ (l : List (List ℕ)). run p room l (searchOf n agenda s)) (requests-append n requests more w v)
+      ∙ two-lists p room (requestsIn n more) (requestsIn n requests) (searchOf n agenda s))
+      (left₁ .length-kept) (carried n d domains tables (t .ways) (left₁ .handed))
+
+-- ---- the chooser
+
+-- A chooser took all its steps, or fewer; then it stops where it stopped however many it is asked for.
+abbrev Took : Problem → ℕ → ℕ → Stopped → Type 0
+Took p room limit a =
+    (a .taken ≡ limit) ⊎ ((a .taken < limit) × ((N : ℕ) → chooseFrom p room (suc N) (a .search) 0 ≡ stop (a .search) (a .refusal)))
+
+took : (p : Problem) (room m : ℕ) (s : Search) (j : ℕ) → Took p room (j + m) (chooseFrom p room m s j)
+unfolding chooseFrom
+took p room zero s j = inl (omega arith)
+took p room (suc m) s j = go (finished (p .n) (s .stack)) refl (eqb k₁ 0) refl (took p room m t₁ (j + 1))
+  where
+    k₁ : ℕ
+    k₁ = refusalOfRequest p room (chosen p room (s .stack)) s
+
+    t₁ : Search
+    t₁ = step p (chosen p room (s .stack)) s
+
+    go : (a : Bool) → finished (p .n) (s .stack) ≡ a → (b : Bool) → eqb k₁ 0 ≡ b → Took p room (j + 1 + m) (chooseFrom p room m t₁ (j + 1))
+        → Took p room (j + suc m)
+        (cond a (record { search = s; refusal = 0; taken = j }) (cond b (chooseFrom p room m t₁ (j + 1)) (record { search = s; refusal = k₁; taken = j })))
+    go true e b f rest = inr (omega arith, λ N. rw e refl)
+    go false e true f rest =
+        let up : j + 1 + m ≡ j + suc m = omega arith in
+        subst (λ (limit : ℕ). Took p room limit (chooseFrom p room m t₁ (j + 1))) up rest
+    go false e false f rest = inr (omega arith, λ N. rw (e, f) refl)
+
+-- What is left of the limits' sum, or the second limit: it is the same, unless the second asks for no step where the first was refused.
+onward : (p : Problem) (room m k : ℕ) (a : Stopped) → (k ≡ 0 → a .refusal ≡ 0) → Took p room m a
+    → choose p room ((m + k) - a .taken) (a .search) ≡ choose p room k (a .search)
+unfolding chooseFrom
+onward p room m k a none (inl e) =
+    let left : (m + k) - a .taken ≡ k = omega arith in
+    ap (λ (N : ℕ). choose p room N (a .search)) left
+onward p room m zero a none (inr (fewer, again)) =
+    let left : (m + 0) - a .taken ≡ suc ((m - a .taken) - 1) = omega arith in
+    let nothing : a .refusal ≡ 0 = none refl in
+    ap (λ (N : ℕ). choose p room N (a .search)) left ∙ again ((m - a .taken) - 1) ∙ (λ i. record { search = a .search; refusal = nothing i; taken = 0 })
+onward p room m (suc k) a none (inr (fewer, again)) =
+    let left : (m + suc k) - a .taken ≡ suc ((m + k) - a .taken) = omega arith in
+    ap (λ (N : ℕ). choose p room N (a .search)) left ∙ again ((m + k) - a .taken) ∙ sym (again k)
+
+module _ (n d : ℕ) (domains tables agenda : List ℕ) (s : State) (m k : ℕ) (handed : Handed n d domains tables agenda s)
+    (t : Chooser-trip n d domains tables agenda s m k) (asked : k ≡ 0 → t .ways .first .refusal ≡ 0) where
+  q : Problem
+  q = problemOf n d domains tables
+
+  slots : ℕ
+  slots = slotsIn n (length agenda)
+
+  -- Where the chooser stops at the cut, and where it stops that goes on.
+  y₁ : Stopped
+  y₁ = choose q slots m (searchOf n agenda s)
+
+  y₂ : Stopped
+  y₂ = choose q slots k (y₁ .search)
+
+  -- The chooser on a search that passes.
+  chosen-outcome : (before left : List ℕ) (limit : ℕ) (st : State) (r : Ran) → Handed n d domains tables before st → Chooses n d domains tables before left limit st r
+      → Outcome n before left (choose q (slotsIn n (length before)) limit (searchOf n before st)) r
+  unfolding q
+  chosen-outcome before left limit st r h chooses =
+      ends-outcome (searchRefusal n d domains tables before (st .counts .steps .0) (st .counts .checks .0) (st .subproblems)) n before left st
+      (choose q (slotsIn n (length before)) limit (searchOf n before st)) r (h .passes) chooses
+
+  first : Outcome n agenda (t .ways .first-agenda) y₁ (t .ways .first)
+  unfolding y₁ q slots
+  first = chosen-outcome agenda (t .ways .first-agenda) m s (t .ways .first) handed (t .to-the-cut)
+
+  left : Leaves n d domains tables agenda (t .ways .first-agenda) (t .ways .first .state) (y₁ .search)
+  unfolding y₁ q slots
+  left = chooser-leaves n d domains tables agenda (t .ways .first-agenda) m s (t .ways .first) handed (t .to-the-cut)
+
+  second : Outcome n (t .ways .first-agenda) (t .ways .second-agenda) y₂ (t .ways .second)
+  unfolding y₂ slots
+  second =
+      subst (λ (y : Stopped). Outcome n (t .ways .first-agenda) (t .ways .second-agenda) y (t .ways .second))
+      (ap₂ (λ (room : ℕ) (y : Search). choose q room k y) (ap (slotsIn n) (left .length-kept)) (left .search))
+      (chosen-outcome (t .ways .first-agenda) (t .ways .second-agenda) k (t .ways .first .state) (t .ways .second) (left .handed)
+      (choose-on n d domains tables (t .ways) (left .handed) (t .ways .second-agenda) k (t .ways .second) (t .goes-on)))
+
+  -- The uncut chooser is that to the cut, then that which goes on.
+  joined : choose q slots (m + k) (searchOf n agenda s) ≡ after (y₁ .taken) y₂
+  unfolding y₁ y₂
+  joined =
+      let all : 0 + m ≡ m = omega arith in
+      choose-two q slots m k (searchOf n agenda s)
+      ∙ ap (after (y₁ .taken)) (onward q slots m k y₁ (λ e. sym (first .refusal) ∙ asked e)
+      (subst (λ (limit : ℕ). Took q slots limit (choose q slots m (searchOf n agenda s))) all (took q slots m (searchOf n agenda s) 0)))
+
+  -- The end is the uncut chooser's.
+  pub choose-end : Same-end (t .ways)
+  unfolding q slots
+  choose-end =
+      joined-end n d domains tables agenda (t .ways) (choose q slots (m + k) (searchOf n agenda s)) y₁ y₂
+      (chosen-outcome agenda (t .ways .whole-agenda) (m + k) s (t .ways .whole) handed (t .uncut)) first second joined
+      (left .length-kept) (carried n d domains tables (t .ways) (left .handed))
 
 -- ---- reached searches
+
+module _ (n d : ℕ) (domains tables : List ℕ) (x : Search) (words : ℕ) (passes : Passes (problemOf n d domains tables) (slotsIn n words) x)
+    (canonical : (P : Subproblem) → List·Memᴰ P (x .stack) → Canonical n P) where
+  few-variables : n ≤ 32
+  few-variables = passes .proper .variables
+
+  -- The agenda has as many words as were lent.
+  memory-length : length (agendaOf n words (x .stack)) ≡ words
+  memory-length =
+      agenda-length n few-variables words (x .stack) canonical (le-trans (mul-le-mul-right (n + 2) (passes .fits)) (div-mul-le-self words (n + 2)))
+
+  -- It passes the first checks.
+  memory-passing : length domains ≡ n → length tables ≡ n * n * d → WholeSlots n words
+      → Passing n d domains tables (agendaOf n words (x .stack)) (x .steps) (x .checks) (length (x .stack))
+  memory-passing ds ts ws = record {
+    proper = passes .proper;
+    domain-words = ds;
+    table-words = ts;
+    slots = rw memory-length ws;
+    rules = λ P m. passes .rules P (rw (agenda-read n few-variables words (x .stack) canonical) at m);
+    fits = rw memory-length (passes .fits);
+    unused = λ k l m. agenda-zero n few-variables words (x .stack) canonical k l;
+    counted = passes .counted;
+  }
+
+  -- It is a search handed on.
+  memory-handed : length domains ≡ n → length tables ≡ n * n * d → WholeSlots n words → (agenda : List ℕ) (s : State) → agenda ≡ agendaOf n words (x .stack)
+      → s .counts .steps .0 ≡ x .steps → s .counts .checks .0 ≡ x .checks → s .subproblems ≡ length (x .stack) → Handed n d domains tables agenda s
+  memory-handed ds ts ws agenda s a b c e = record {
+    words = rw a (agenda-small n 16 words (x .stack) (le-refl 16) (λ P m. let c = canonical P m in record { long = c .entries; masks = c .masks; past = c .past; marks = c .marks }));
+    stepped = rw b (passes .stepped);
+    passes = rw (a, b, c, e) (passing-search n d domains tables (agendaOf n words (x .stack)) (x .steps) (x .checks) (length (x .stack)) (memory-passing ds ts ws));
+  }
 
 -- The cut of a reached search.
 pub reached-cut : (n d : ℕ) (domains tables : List ℕ) (slots : ℕ) (begun : Search) (agenda : List ℕ) (s : State) (requests more : List ℕ)
     → Proper (problemOf n d domains tables) → length domains ≡ n → length tables ≡ n * n * d → 1 ≤ slots → slots ≤ 512
     → Reached n d domains tables slots begun → Held-in n slots agenda s begun
     → WholeRequests n (length requests) → WholeRequests n (length more)
-    → (t : Trip n d domains tables agenda s requests more) → Same-end t
+    → (t : Trip n d domains tables agenda s requests more) → Same-end (t .ways)
 reached-cut n d domains tables slots begun agenda s requests more proper ds ts some most h held w v t =
-    let good = reached-good n d domains tables proper ds h in
-    let canonical = reached-canonical n d domains tables proper ds h in
-    let passes : Passes (problemOf n d domains tables) (slotsIn n (slots * (n + 2))) begun = rw (slots-in n slots) (good .passes) in
-    let here : searchOf n agenda s ≡ begun =
-    memory-search n d domains tables begun (slots * (n + 2)) passes canonical agenda s (held .memory) (held .steps) (held .checks) (held .subproblems) in
-    let passing : Passing n d domains tables agenda (s .counts .steps .0) (s .counts .checks .0) (s .subproblems) =
-    passing-cast n d domains tables (agendaOf n (slots * (n + 2)) (begun .stack)) agenda (begun .steps) (s .counts .steps .0) (begun .checks) (s .counts .checks .0)
-    (length (begun .stack)) (s .subproblems) (held .memory) (held .steps) (held .checks) (held .subproblems)
-    (memory-passing n d domains tables begun (slots * (n + 2)) passes canonical ds ts (slots, some, most, refl)) in
-    same-end n d domains tables agenda s requests more (omega (arith, held .steps, good .passes .stepped)) passing (subst (λ (y : Search). All-tidy n y) (sym here) (good .tidy)) w v t
+    let passes : Passes (problemOf n d domains tables) (slotsIn n (slots * (n + 2))) begun = rw (slots-in n slots) (reached-good n d domains tables proper ds h .passes) in
+    run-end n d domains tables agenda s requests more
+    (memory-handed n d domains tables begun (slots * (n + 2)) passes (reached-canonical n d domains tables proper ds h) ds ts (slots, some, most, refl) agenda s
+    (held .memory) (held .steps) (held .checks) (held .subproblems)) w v t

@@ -24,6 +24,7 @@ pub mod Reaching
 pub mod Diagonal
 pub mod LoadLeaves
 pub mod Back
+pub mod Carried
 pub mod Cut
 pub mod Solutions
 pub mod Living

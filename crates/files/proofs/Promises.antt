@@ -51,6 +51,7 @@ use Rattle.files.specs.Promises.{
   Cut,
   Cut-any,
   Cut-lived,
+  Cut-choose,
 }
 use Rattle.splits.proofs.Refusals.{one}
 use Rattle.search.proofs.Promises.{reached-solvable, reached-steps, reached-checks, chooser-says}
@@ -209,13 +210,15 @@ cut = Cutting.reached-cut
 
 pub cut-any : Cut-any
 cut-any n d domains tables agenda s requests more words short e w v t =
-    let h = Passing.search-passing n d domains tables agenda (s .counts .steps .0) (s .counts .checks .0) (s .subproblems) e in
-    Cutting.same-end n d domains tables agenda s requests more short h
-    (λ P m. let c = Saving.stack-canonical n d domains tables agenda s words h P m in record { entries = c .entries; past = c .past }) w v t
+    Cutting.run-end n d domains tables agenda s requests more (record { words = words; stepped = omega arith; passes = e }) w v t
 
 pub cut-lived : Cut-lived
 cut-lived n d domains tables₀ tables agenda s requests more h w v t =
-    let handed = Living.lived h .handed in cut-any n d domains tables agenda s requests more (handed .words) (omega (arith, handed .stepped)) (handed .passes) w v t
+    Cutting.run-end n d domains tables agenda s requests more (Living.lived h .handed) w v t
+
+pub cut-choose : Cut-choose
+cut-choose n d domains tables agenda s m k words short e t asked =
+    Cutting.choose-end n d domains tables agenda s m k (record { words = words; stepped = omega arith; passes = e }) t asked
 
 pub n-one : N-one
 n-one file = one _

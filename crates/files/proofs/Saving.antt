@@ -21,7 +21,7 @@ use Rattle.files.proofs.RoundTrip.{file-says}
 module _ (n d : ℕ) (domains tables agenda : List ℕ) (s : State) (words : Words agenda)
     (h : Passing n d domains tables agenda (s .counts .steps .0) (s .counts .checks .0) (s .subproblems)) where
   -- The stack lies within the agenda.
-  within : s .subproblems * (n + 2) ≤ length agenda
+  pub within : s .subproblems * (n + 2) ≤ length agenda
   within = le-trans (mul-le-mul-right (n + 2) (h .fits)) (div-mul-le-self (length agenda) (n + 2))
 
   -- Each subproblem is as memory holds it.

@@ -345,16 +345,14 @@ pub record Held-in (n slots : ℕ) (agenda : List ℕ) (s : State) (held : Searc
   pub checks : s .counts .checks .0 ≡ held .checks
   pub subproblems : s .subproblems ≡ length (held .stack)
 
--- A list of requests, run uncut; and cut, run to the cut, saved into a buffer of at least its blocks, loaded from exactly these blocks into
--- domains and tables of the right lengths and an agenda of equal length, and gone on with by the requests not yet taken. Whatever the lent
--- buffers held before.
-pub record Trip (n d : ℕ) (domains tables agenda : List ℕ) (s : State) (requests more : List ℕ) : Type 0 where
+-- Two ways on from one search. Uncut: one call, the whole. Cut: a first call, what it leaves saved into a buffer of at least its blocks, loaded from
+-- exactly these blocks into domains and tables of the right lengths and an agenda of equal length, and a second call on what was loaded. Whatever
+-- the lent buffers held before.
+pub record Two-ways (n d : ℕ) (domains tables : List ℕ) : Type 0 where
   pub whole : Ran
   pub whole-agenda : List ℕ
-  pub uncut : Runs n d domains tables agenda whole-agenda (requests ++ more) s whole
   pub first : Ran
   pub first-agenda : List ℕ
-  pub to-the-cut : Runs n d domains tables agenda first-agenda requests s first
   pub saved : Saved
   pub buffer : List ℕ
   pub written : List ℕ
@@ -370,25 +368,38 @@ pub record Trip (n d : ℕ) (domains tables agenda : List ℕ) (s : State) (requ
   pub loads : Loads (take (512 * saved .blocks) written) domains₀ domains₁ tables₀ tables₁ agenda₀ agenda₁ loaded
   pub domain-words : length domains₀ ≡ n
   pub table-words : length tables₀ ≡ n * n * d
-  pub agenda-words : length agenda₀ ≡ length agenda
+  pub agenda-words : length agenda₀ ≡ length first-agenda
   pub second : Ran
   pub second-agenda : List ℕ
-  pub goes-on : Runs (loaded .n) (loaded .d) domains₁ tables₁ agenda₁ second-agenda (drop (first .taken * (n + 3)) (requests ++ more)) (loaded .state)
-      second
 
--- Neither save nor load is refused, and the end is the uncut run's: the same verdict, refusal, agenda, counts and number of subproblems; the numbers taken
--- add up.
-pub record Same-end {n d : ℕ} {domains tables agenda : List ℕ} {s : State} {requests more : List ℕ} (t : Trip n d domains tables agenda s requests more)
-    : Type 0 where
-  pub saved : t .saved .refusal ≡ 0
-  pub loaded : t .loaded .refusal ≡ 0
-  pub verdict : t .second .verdict ≡ t .whole .verdict
-  pub refusal : t .second .refusal ≡ t .whole .refusal
-  pub agenda-left : t .second-agenda ≡ t .whole-agenda
-  pub steps : t .second .state .counts .steps .0 ≡ t .whole .state .counts .steps .0
-  pub checks : t .second .state .counts .checks .0 ≡ t .whole .state .counts .checks .0
-  pub subproblems : t .second .state .subproblems ≡ t .whole .state .subproblems
-  pub taken : t .first .taken + t .second .taken ≡ t .whole .taken
+-- The calls are runs: of a list of requests uncut; and cut, to the cut, and by the requests not yet taken.
+pub record Trip (n d : ℕ) (domains tables agenda : List ℕ) (s : State) (requests more : List ℕ) : Type 0 where
+  pub ways : Two-ways n d domains tables
+  pub uncut : Runs n d domains tables agenda (ways .whole-agenda) (requests ++ more) s (ways .whole)
+  pub to-the-cut : Runs n d domains tables agenda (ways .first-agenda) requests s (ways .first)
+  pub goes-on : Runs (ways .loaded .n) (ways .loaded .d) (ways .domains₁) (ways .tables₁) (ways .agenda₁) (ways .second-agenda)
+      (drop (ways .first .taken * (n + 3)) (requests ++ more)) (ways .loaded .state) (ways .second)
+
+-- The calls are the house chooser's: of up to m + k steps uncut; and cut, of up to m, and of up to k more.
+pub record Chooser-trip (n d : ℕ) (domains tables agenda : List ℕ) (s : State) (m k : ℕ) : Type 0 where
+  pub ways : Two-ways n d domains tables
+  pub uncut : Chooses n d domains tables agenda (ways .whole-agenda) (m + k) s (ways .whole)
+  pub to-the-cut : Chooses n d domains tables agenda (ways .first-agenda) m s (ways .first)
+  pub goes-on : Chooses (ways .loaded .n) (ways .loaded .d) (ways .domains₁) (ways .tables₁) (ways .agenda₁) (ways .second-agenda) k (ways .loaded .state)
+      (ways .second)
+
+-- Neither save nor load is refused, and the end is the uncut call's: the same verdict, refusal, agenda, counts and number of subproblems; the numbers
+-- taken add up.
+pub record Same-end {n d : ℕ} {domains tables : List ℕ} (w : Two-ways n d domains tables) : Type 0 where
+  pub saved : w .saved .refusal ≡ 0
+  pub loaded : w .loaded .refusal ≡ 0
+  pub verdict : w .second .verdict ≡ w .whole .verdict
+  pub refusal : w .second .refusal ≡ w .whole .refusal
+  pub agenda-left : w .second-agenda ≡ w .whole-agenda
+  pub steps : w .second .state .counts .steps .0 ≡ w .whole .state .counts .steps .0
+  pub checks : w .second .state .counts .checks .0 ≡ w .whole .state .counts .checks .0
+  pub subproblems : w .second .state .subproblems ≡ w .whole .state .subproblems
+  pub taken : w .first .taken + w .second .taken ≡ w .whole .taken
 
 -- Any list of requests, cut anywhere, saved, loaded into an agenda of equal length, gone on with: the same verdict, agenda and counts as uncut. Of
 -- every reached search.
@@ -398,14 +409,14 @@ Cut =
     → Proper (problemOf n d domains tables) → length domains ≡ n → length tables ≡ n * n * d → 1 ≤ slots → slots ≤ 512
     → Reached n d domains tables slots gone → Held-in n slots agenda s gone
     → WholeRequests n (length requests) → WholeRequests n (length more)
-    → (t : Trip n d domains tables agenda s requests more) → Same-end t
+    → (t : Trip n d domains tables agenda s requests more) → Same-end (t .ways)
 
 -- So of every search begun by opening and saved and loaded any number of times since.
 abbrev pub Cut-lived : Type 0
 Cut-lived =
     (n d : ℕ) (domains tables₀ tables agenda : List ℕ) (s : State) (requests more : List ℕ) → Lived n d domains tables₀ tables agenda s
     → WholeRequests n (length requests) → WholeRequests n (length more)
-    → (t : Trip n d domains tables agenda s requests more) → Same-end t
+    → (t : Trip n d domains tables agenda s requests more) → Same-end (t .ways)
 
 -- So of any search that passes the first checks, reached or not, in memory of words.
 abbrev pub Cut-any : Type 0
@@ -413,7 +424,17 @@ Cut-any =
     (n d : ℕ) (domains tables agenda : List ℕ) (s : State) (requests more : List ℕ) → Words agenda → s .counts .steps .0 < 2 ^ 32
     → searchRefusal n d domains tables agenda (s .counts .steps .0) (s .counts .checks .0) (s .subproblems) ≡ 0
     → WholeRequests n (length requests) → WholeRequests n (length more)
-    → (t : Trip n d domains tables agenda s requests more) → Same-end t
+    → (t : Trip n d domains tables agenda s requests more) → Same-end (t .ways)
+
+-- The house chooser, cut anywhere, saved, loaded into an agenda of equal length, gone on with: up to m steps and then up to k more end as up to m + k
+-- uncut. Of any search that passes the first checks, reached or not, in memory of words. A first call that stops before its m steps, by a verdict or by
+-- a refusal, is among them: the second then takes none and stops by the same. But a call asked for no step meets no refusal: where k is 0, the first is
+-- to have met none.
+abbrev pub Cut-choose : Type 0
+Cut-choose =
+    (n d : ℕ) (domains tables agenda : List ℕ) (s : State) (m k : ℕ) → Words agenda → s .counts .steps .0 < 2 ^ 32
+    → searchRefusal n d domains tables agenda (s .counts .steps .0) (s .counts .checks .0) (s .subproblems) ≡ 0
+    → (t : Chooser-trip n d domains tables agenda s m k) → (k ≡ 0 → t .ways .first .refusal ≡ 0) → Same-end (t .ways)
 
 -- The number of variables that a file says is one number, and that of values.
 abbrev pub N-one : Type 0
