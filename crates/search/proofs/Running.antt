@@ -28,6 +28,7 @@ use Rattle.search.specs.declared.state.State.{State}
 use Rattle.search.specs.declared.state.Verdict.the-variants.{Running, Solved, Unsolvable}
 use Rattle.search.specs.declared.step.Stop.{Stop}
 use Rattle.search.proofs.Encoding.{length-stackOf, agenda-back}
+use Rattle.search.proofs.Verdicts.{finished-top}
 use Rattle.search.proofs.Stepping.{stack-more, run-on, run-stops, one-finished}
 use Rattle.search.proofs.Choosing.{chosen-is}
 
@@ -40,7 +41,7 @@ used-slot n m words u h = let up : (m - 1) + 1 ≡ m = omega arith in record { f
 module _ (n : ℕ) (agenda : List ℕ) (m : ℕ) where
   -- The empty agenda is finished.
   pub finished-empty : m ≡ 0 → finished n (stackOf n agenda m) ≡ true
-  unfolding finished stackOf
+  unfolding finished verdictOf stackOf
   finished-empty e = rw e refl
 
   -- It is unsolvable.
@@ -55,8 +56,7 @@ module _ (n : ℕ) (agenda : List ℕ) (m : ℕ) where
 
     -- A search is finished if its top is solved.
     pub finished-is : not b ≡ false → finished n (stackOf n agenda m) ≡ true
-    unfolding finished
-    finished-is e = rw stack-is (sym tested ∙ not-false b e)
+    finished-is e = rw stack-is (finished-top n P (stackOf n agenda (m - 1)) ∙ sym tested ∙ not-false b e)
 
     -- It is solved then.
     pub verdict-solved : b ≡ true → Solved ≡ verdictOf n (stackOf n agenda m)
