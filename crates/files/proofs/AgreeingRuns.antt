@@ -11,7 +11,7 @@ use native.Mathlib.Decide.{ℕ-discrete}
 use lib.Dec.{eqb, ltb}
 use borrow.Author.Tests.{eq-eqb, ne-eqb, eqb-true, eqb-false}
 use Rattle.splits.specs.Masks.{bit, _∈_, size, lowest}
-use Rattle.splits.specs.Problem.{Problem, Table}
+use Rattle.splits.specs.Problem.{Problem, Table, Allow-same}
 use Rattle.splits.specs.Subproblems.{domain, Instantiated, instantiated}
 use Rattle.splits.specs.Refusals.{Accepted, refusalOf}
 use Rattle.splits.specs.Promises.{Splits}
@@ -28,7 +28,6 @@ use Rattle.search.specs.Chooser.{fewestOf, fewest, request, chosen, chooseFrom,
 use Rattle.search.specs.Promises.{Passes}
 use Rattle.search.proofs.Verdicts.{running-top, finished-top, instantiated-all}
 use Rattle.search.proofs.Runs.{stop, after, run-finished, run-taken, run-refused, run-ind}
-use Rattle.files.specs.Promises.{Allow-same}
 use Rattle.splits.proofs.Promises.{refusal-none}
 use Rattle.search.proofs.Passing.{step-is, splits, step-passes}
 use Rattle.files.proofs.Agreeing.{pieces-same, checks-same}

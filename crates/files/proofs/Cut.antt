@@ -7,9 +7,9 @@ use native.Mathlib.Omega.{arith}
 use native.Mathlib.Nat.{mul-le-mul-right, div-mul-le-self, le-trans}
 use lib.ListN.{length, getD, take, drop, length-append}
 use lib.Seq.{take-at}
-use Rattle.splits.specs.Problem.{Problem, Proper, tableOf}
+use Rattle.splits.specs.Problem.{Allow-same, Problem, Proper, tableOf}
 use Rattle.splits.specs.declared.subproblem.Subproblem.{Subproblem}
-use Rattle.search.specs.Agenda.{problemOf, stackOf, slotsIn, agendaOf}
+use Rattle.search.specs.Agenda.{problemOf, Shape, stackOf, slotsIn, agendaOf}
 use Rattle.search.specs.FirstChecks.{WholeSlots, WholeRequests, runRefusal}
 use Rattle.search.specs.Verdicts.{verdictOf}
 use Rattle.search.specs.Runs.{Search, Stopped, run, requestsIn}
@@ -22,7 +22,7 @@ use Rattle.files.specs.Blocks.{blocksFor, fileOf}
 use Rattle.files.specs.Content.{contentOf}
 use Rattle.files.specs.Reading.{saidAllowed, tableWords}
 use Rattle.files.specs.Calls.{handedContent, saveRefusal}
-use Rattle.files.specs.Promises.{Canonical, Allow-same, Says, Held-in, Trip, Same-end}
+use Rattle.files.specs.Promises.{Says, Held-in, Trip, Same-end}
 use Rattle.files.proofs.Triangle.{table-length}
 use Rattle.files.proofs.Blocks.{file-length}
 use Rattle.files.proofs.Stacks.{agenda-length, agenda-read, agenda-zero}
@@ -32,10 +32,10 @@ use Rattle.files.proofs.RoundTrip.{file-says}
 use Rattle.files.proofs.Back.{stateOf, Lent, lent, lent-agree, state-search}
 use Rattle.files.proofs.Refusals.{save-none}
 use Rattle.search.proofs.Promises.{run-passes}
-use Rattle.files.proofs.Steps.{All-tidy, tidy-canonical, run-tidy}
+use Rattle.files.proofs.Steps.{All-tidy, tidy-shape, run-tidy}
 use Rattle.files.proofs.AgreeingRuns.{run-same}
 use Rattle.files.proofs.Requests.{whole-append, requests-append, whole-drop, requests-drop}
-use Rattle.files.proofs.Reaching.{reached-good, reached-canonical}
+use Rattle.files.proofs.Reaching.{reached-good, reached-shape}
 use Rattle.files.proofs.Diagonal.{passing-passes}
 
 -- ---- a call whose first checks pass
@@ -71,7 +71,7 @@ runs-cast n n′ d d′ domains domains′ tables tables′ before before′ lef
 -- ---- a search in memory
 
 module _ (n d : ℕ) (domains tables : List ℕ) (x : Search) (words : ℕ) (passes : Passes (problemOf n d domains tables) (slotsIn n words) x)
-    (canonical : (P : Subproblem) → List·Memᴰ P (x .stack) → Canonical n P) where
+    (shape : (P : Subproblem) → List·Memᴰ P (x .stack) → Shape n 16 P) where
   few : n ≤ 32
   few = passes .proper .variables
 
@@ -80,13 +80,13 @@ module _ (n d : ℕ) (domains tables : List ℕ) (x : Search) (words : ℕ) (pas
 
   -- The agenda has as many words as were lent.
   pub memory-length : length (agendaOf n words (x .stack)) ≡ words
-  memory-length = agenda-length n few words (x .stack) canonical within
+  memory-length = agenda-length n few words (x .stack) shape within
 
   -- It says the search.
   pub memory-search : (agenda : List ℕ) (s : State) → agenda ≡ agendaOf n words (x .stack) → s .counts .steps .0 ≡ x .steps → s .counts .checks .0 ≡ x .checks
       → s .subproblems ≡ length (x .stack) → searchOf n agenda s ≡ x
   memory-search agenda s a b c e =
-      let stack : stackOf n agenda (s .subproblems) ≡ x .stack = ap₂ (stackOf n) a e ∙ agenda-read n few words (x .stack) canonical in
+      let stack : stackOf n agenda (s .subproblems) ≡ x .stack = ap₂ (stackOf n) a e ∙ agenda-read n few words (x .stack) shape in
       λ i. record { stack = stack i; steps = b i; checks = c i }
 
   -- It passes the first checks.
@@ -97,9 +97,9 @@ module _ (n d : ℕ) (domains tables : List ℕ) (x : Search) (words : ℕ) (pas
     domain-words = ds;
     table-words = ts;
     slots = rw memory-length ws;
-    rules = λ P m. passes .rules P (rw (agenda-read n few words (x .stack) canonical) at m);
+    rules = λ P m. passes .rules P (rw (agenda-read n few words (x .stack) shape) at m);
     fits = rw memory-length (passes .fits);
-    unused = λ k l m. agenda-zero n few words (x .stack) canonical k l;
+    unused = λ k l m. agenda-zero n few words (x .stack) shape k l;
     counted = passes .counted;
   }
 
@@ -137,9 +137,9 @@ module _ (n d : ℕ) (domains tables agenda : List ℕ) (s : State) (requests mo
   unfolding x1
   passes1 = run-passes p room (requestsIn n requests) x0 passes0
 
-  canonical1 : (P : Subproblem) → List·Memᴰ P (x1 .search .stack) → Canonical n P
+  shape1 : (P : Subproblem) → List·Memᴰ P (x1 .search .stack) → Shape n 16 P
   unfolding x1 p x0
-  canonical1 P m = tidy-canonical p P (h .proper) (passes1 .rules P m) (run-tidy p room (requestsIn n requests) x0 passes0 tidy P m)
+  shape1 P m = tidy-shape p P (h .proper) (passes1 .rules P m) (run-tidy p room (requestsIn n requests) x0 passes0 tidy P m)
 
   out1 : Outcome n agenda (t .first-agenda) x1 (t .first)
   unfolding x1 p room x0
@@ -161,11 +161,11 @@ module _ (n d : ℕ) (domains tables agenda : List ℕ) (s : State) (requests mo
   search1 : searchOf n (t .first-agenda) (t .first .state) ≡ x1 .search
   unfolding p room
   search1 =
-      memory-search n d domains tables (x1 .search) (length agenda) passes1 canonical1 (t .first-agenda) (t .first .state) (out1 .agenda) (out1 .steps) (out1 .checks) (out1 .subproblems)
+      memory-search n d domains tables (x1 .search) (length agenda) passes1 shape1 (t .first-agenda) (t .first .state) (out1 .agenda) (out1 .steps) (out1 .checks) (out1 .subproblems)
 
   passing1 : Passing n d domains tables memory (x1 .search .steps) (x1 .search .checks) (length (x1 .search .stack))
   unfolding memory p room
-  passing1 = memory-passing n d domains tables (x1 .search) (length agenda) passes1 canonical1 (h .domain-words) (h .table-words) (h .slots)
+  passing1 = memory-passing n d domains tables (x1 .search) (length agenda) passes1 shape1 (h .domain-words) (h .table-words) (h .slots)
 
   content : List ℕ
   content = contentOf n d domains (tableOf n d tables) (x1 .search)
@@ -208,7 +208,7 @@ module _ (n d : ℕ) (domains tables agenda : List ℕ) (s : State) (requests mo
   unfolding file content p
   says =
       file-says n d domains (tableOf n d tables) (x1 .search) (h .proper .variables) (h .proper .values) (h .domain-words)
-      (omega (arith, passes1 .fits, few-slots)) canonical1 (h .proper) (passes1 .rules) (passes1 .counted)
+      (omega (arith, passes1 .fits, few-slots)) shape1 (h .proper) (passes1 .rules) (passes1 .counted)
 
   -- ---- loaded
 
@@ -265,18 +265,18 @@ module _ (n d : ℕ) (domains tables agenda : List ℕ) (s : State) (requests mo
   passing2 : Passing n d domains again memory (x1 .search .steps) (x1 .search .checks) (length (x1 .search .stack))
   unfolding memory p2 room again
   passing2 =
-      memory-passing n d domains again (x1 .search) (length agenda) passes2 canonical1 (h .domain-words) (table-length n d (saidAllowed file)) (h .slots)
+      memory-passing n d domains again (x1 .search) (length agenda) passes2 shape1 (h .domain-words) (table-length n d (saidAllowed file)) (h .slots)
 
   x2 : Stopped
   x2 = run p room (drop (x1 .taken) (requestsIn n requests ++ requestsIn n more)) (x1 .search)
 
   search2 : searchOf n memory state1 ≡ x1 .search
   unfolding memory state1
-  search2 = state-search n (h .proper .variables) (length agenda) (x1 .search) canonical1
+  search2 = state-search n (h .proper .variables) (length agenda) (x1 .search) shape1
 
   slots2 : slotsIn n (length memory) ≡ room
   unfolding memory room p
-  slots2 = ap (slotsIn n) (memory-length n d domains tables (x1 .search) (length agenda) passes1 canonical1)
+  slots2 = ap (slotsIn n) (memory-length n d domains tables (x1 .search) (length agenda) passes1 shape1)
 
   requests2 : requestsIn n rest ≡ drop (x1 .taken) (requestsIn n requests ++ requestsIn n more)
   unfolding rest
@@ -324,7 +324,7 @@ module _ (n d : ℕ) (domains tables agenda : List ℕ) (s : State) (requests mo
   }
     where
       length1 : length memory ≡ length agenda
-      length1 = memory-length n d domains tables (x1 .search) (length agenda) passes1 canonical1
+      length1 = memory-length n d domains tables (x1 .search) (length agenda) passes1 shape1
 
 -- ---- reached searches
 
@@ -336,12 +336,12 @@ pub reached-cut : (n d : ℕ) (domains tables : List ℕ) (slots : ℕ) (begun :
     → (t : Trip n d domains tables agenda s requests more) → Same-end t
 reached-cut n d domains tables slots begun agenda s requests more proper ds ts some most h held w v t =
     let good = reached-good n d domains tables proper ds h in
-    let canonical = reached-canonical n d domains tables proper ds h in
+    let shape = reached-shape n d domains tables proper ds h in
     let passes : Passes (problemOf n d domains tables) (slotsIn n (slots * (n + 2))) begun = rw (slots-in n slots) (good .passes) in
     let here : searchOf n agenda s ≡ begun =
-    memory-search n d domains tables begun (slots * (n + 2)) passes canonical agenda s (held .memory) (held .steps) (held .checks) (held .subproblems) in
+    memory-search n d domains tables begun (slots * (n + 2)) passes shape agenda s (held .memory) (held .steps) (held .checks) (held .subproblems) in
     let passing : Passing n d domains tables agenda (s .counts .steps .0) (s .counts .checks .0) (s .subproblems) =
     passing-cast n d domains tables (agendaOf n (slots * (n + 2)) (begun .stack)) agenda (begun .steps) (s .counts .steps .0) (begun .checks) (s .counts .checks .0)
     (length (begun .stack)) (s .subproblems) (held .memory) (held .steps) (held .checks) (held .subproblems)
-    (memory-passing n d domains tables begun (slots * (n + 2)) passes canonical ds ts (slots, some, most, refl)) in
+    (memory-passing n d domains tables begun (slots * (n + 2)) passes shape ds ts (slots, some, most, refl)) in
     same-end n d domains tables agenda s requests more (omega (arith, held .steps, good .passes .stepped)) passing (subst (λ (y : Search). All-tidy n y) (sym here) (good .tidy)) w v t

@@ -8,21 +8,15 @@ use Prim.Native.Nat.{ℕ}
 use lib.ListN.{length}
 use lib.Dec.{eqb}
 use borrow.Author.Tests.{eq-eqb}
-use Rattle.splits.specs.declared.subproblem.Subproblem.{Subproblem}
 use Rattle.search.specs.Agenda.{stackOf, agendaOf}
-use Rattle.search.specs.Work.Kept.{Shape}
 use Rattle.search.proofs.HandedOn.{Shaped, agenda-small}
 use Rattle.files.specs.Reading.{saidN, saidD, saidSteps, saidChecks, saidSubproblems, saidDomains, saidAllowed, saidSearch, tableWords}
 use Rattle.files.specs.Calls.{loadRefusal, Loads}
-use Rattle.files.specs.Promises.{Bytes, Canonical, Left-by-load}
+use Rattle.files.specs.Promises.{Bytes, Left-by-load}
 use Rattle.files.specs.declared.saved.Loaded.{Loaded}
 use Rattle.files.proofs.Loading.{load-taken, memory-length, memory-read, said-passing}
 use Rattle.files.proofs.Passing.{passing-search}
-use Rattle.files.proofs.RoundTrip.{said-canonical, content-word}
-
--- A subproblem as memory holds it has the shape of a slot.
-canonical-shape : (n : ℕ) (P : Subproblem) → Canonical n P → Shape n 16 P
-canonical-shape n P c = record { long = c .entries; masks = c .masks; past = c .past; marks = c .marks }
+use Rattle.files.proofs.RoundTrip.{said-shape, content-word}
 
 pub load-leaves : (file domains domains′ tables tables′ agenda agenda′ : List ℕ) (r : Loaded) → Bytes file
     → Loads file domains domains′ tables tables′ agenda agenda′ r → r .refusal ≡ 0 → Left-by-load file agenda domains′ tables′ agenda′ r
@@ -38,7 +32,7 @@ load-leaves file domains domains′ tables tables′ agenda agenda′ r bytes lo
     let steps-are : r .state .counts .steps .0 ≡ saidSteps file = rw test at (loads .steps) in
     let checks-are : r .state .counts .checks .0 ≡ saidChecks file = rw test at (loads .checks) in
     let count-is : r .state .subproblems ≡ saidSubproblems file = rw test at (loads .subproblems) in
-    let shaped : Shaped (saidN file) 16 (saidSearch file .stack) = λ P m. canonical-shape (saidN file) P (said-canonical file bytes (t .accepts .variables) P m) in
+    let shaped : Shaped (saidN file) 16 (saidSearch file .stack) = said-shape file bytes (t .accepts .variables) in
     let passes = passing-search _ _ _ _ _ _ _ _ (said-passing file (t .accepts) bytes (length agenda) (t .lengths .slots) (t .room)) in
     let high = content-word file bytes 2 in
     let low = content-word file bytes 3 in

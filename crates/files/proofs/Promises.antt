@@ -112,13 +112,13 @@ pub saves-back : Saves-back
 saves-back = Back.saves-back
 
 pub largest : Largest
-largest n d domains allowed s few values words stack canonical =
-    (RoundTrip.content-few n d domains allowed s few values words stack canonical, RoundTrip.blocks-few n d domains allowed s few values words stack canonical)
+largest n d domains allowed s few values words stack shape =
+    (RoundTrip.content-few n d domains allowed s few values words stack shape, RoundTrip.blocks-few n d domains allowed s few values words stack shape)
 
 pub largest-met : Largest-met
 unfolding blocksFor
-largest-met domains allowed s words stack canonical =
-    let e = Contents.content-length 32 16 domains allowed s (omega arith) words canonical in
+largest-met domains allowed s words stack shape =
+    let e = Contents.content-length 32 16 domains allowed s (omega arith) words shape in
     let l : length (contentOf 32 16 domains allowed s) ≡ 25385 = rw stack at e in
     (l, rw l refl)
 
@@ -211,7 +211,7 @@ pub cut-any : Cut-any
 cut-any n d domains tables agenda s requests more words short e w v t =
     let h = Passing.search-passing n d domains tables agenda (s .counts .steps .0) (s .counts .checks .0) (s .subproblems) e in
     Cutting.same-end n d domains tables agenda s requests more short h
-    (λ P m. let c = Saving.stack-canonical n d domains tables agenda s words h P m in record { entries = c .entries; past = c .past }) w v t
+    (λ P m. let c = Saving.stack-shape n d domains tables agenda s words h P m in record { entries = c .long; past = c .past }) w v t
 
 pub cut-lived : Cut-lived
 cut-lived n d domains tables₀ tables agenda s requests more h w v t =

@@ -25,11 +25,11 @@ use Rattle.splits.proofs.ByKind.{kind-any}
 use Rattle.splits.proofs.Looking.{keep-append}
 use Rattle.splits.proofs.CheckLimit.{looked-le}
 use Rattle.splits.specs.Work.Ranges.{Sized}
-use Rattle.search.specs.Agenda.{problemOf, subproblemOf, slotAt, stackOf, stackWords, slotsIn, agendaOf}
+use Rattle.search.specs.Agenda.{problemOf, Shape, subproblemOf, slotAt, stackOf, stackWords, slotsIn, agendaOf}
 use Rattle.search.specs.Verdicts.{finished}
 use Rattle.search.specs.Runs.{Search, splitTop, step, refusalOfTop, refusalOfRequest, runFrom}
 use Rattle.search.specs.Work.Slots.{splice}
-use Rattle.search.specs.Work.Kept.{Shape, Regular, Ready}
+use Rattle.search.specs.Work.Kept.{Regular, Ready}
 use Rattle.search.specs.Work.Steps.{Replaced, Taking, StopsAt, refusalFor}
 use Rattle.search.specs.Calls.{searchOf}
 use Rattle.search.specs.declared.state.State.{State}
