@@ -2,19 +2,18 @@
 -- Assumes nothing.
 use native.Mathlib.Omega.{arith}
 use mathlib.Core.Path.{_≡_, refl, sym, ap, subst, _∙_}
-use mathlib.Core.Bool.{Bool, true, false, cond}
+use mathlib.Core.Bool.{true, false}
 use mathlib.Core.List.{List, [], _++_}
 use Prim.Native.Nat.{ℕ, zero, suc, _+_, _-_, _*_, _≤_, _<_}
 use lib.ListN.{length, getD, take, drop, replicate, length-drop, List·getD-append}
 use lib.Dec.{eqb}
-use borrow.Author.Tests.{eqb-true, eqb-false}
+use borrow.Author.Tests.{eqb-true}
 use lib.Seq.{getD-take, length-take-le}
-use Rattle.splits.specs.Subproblems.{domain, instantiated}
+use Rattle.splits.specs.Subproblems.{domain}
 use Rattle.splits.specs.Splits.{below}
 use Rattle.search.specs.Agenda.{holding, subproblemOf, slotAt, stackOf}
 use Rattle.search.specs.Verdicts.{numberOf, verdictOf}
 use Rattle.search.specs.declared.state.Verdict.{Verdict}
-use Rattle.search.specs.declared.state.Verdict.the-variants.{Solved, Running}
 use Rattle.files.specs.Content.{each}
 use Rattle.files.proofs.Lists.{each-more, each-none, each-same}
 use Rattle.answer.specs.Text.{planLine, planLines}
@@ -56,25 +55,14 @@ pub solved-lines : (n : ℕ) (agenda : List ℕ) (m : ℕ) (v : Verdict) → v �
     → (1 ≤ m) × (planLines n (stackOf n agenda m) ≡ each (planLine (subproblemOf n (slotAt n agenda (m - 1)))) (below n))
 unfolding stackOf verdictOf planLines
 solved-lines n agenda zero v e h = absurd (omega (arith, eqb-true (numberOf v) 2 (sym h), ap numberOf e))
-solved-lines n agenda (suc k) v e h = by (instantiated n (subproblemOf n (slotAt n agenda k))) e
-  where
-    lines : ℕ → List ℕ
-    lines j = each (planLine (subproblemOf n (slotAt n agenda j))) (below n)
-
-    by : (b : Bool) → v ≡ cond b Solved Running → (1 ≤ suc k) × (cond b (lines k) [] ≡ lines (suc k - 1))
-    by true e′ = (omega arith, ap lines (let same : k ≡ suc k - 1 = omega arith in same))
-    by false e′ = absurd (omega (arith, eqb-true (numberOf v) 2 (sym h), ap numberOf e′))
+solved-lines n agenda (suc k) v e h = let same : k ≡ suc k - 1 = omega arith in (omega arith, rw (← e, ← h, ← same) refl)
 
 -- Not solved: no line.
 pub other-lines : (n : ℕ) (agenda : List ℕ) (m : ℕ) (v : Verdict) → v ≡ verdictOf n (stackOf n agenda m) → false ≡ eqb (numberOf v) 2
     → planLines n (stackOf n agenda m) ≡ []
 unfolding stackOf verdictOf planLines
 other-lines n agenda zero v e h = refl
-other-lines n agenda (suc k) v e h = by (instantiated n (subproblemOf n (slotAt n agenda k))) e
-  where
-    by : (b : Bool) → v ≡ cond b Solved Running → cond b (each (planLine (subproblemOf n (slotAt n agenda k))) (below n)) [] ≡ []
-    by true e′ = absurd (eqb-false (numberOf v) 2 (sym h) (ap numberOf e′))
-    by false e′ = refl
+other-lines n agenda (suc k) v e h = rw (← e, ← h) refl
 
 -- Where the top slot lies.
 pub top-within : (n m words : ℕ) → 1 ≤ m → m * (n + 2) ≤ words → (m - 1) * (n + 2) + (n + 2) ≤ words

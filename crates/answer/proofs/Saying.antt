@@ -13,7 +13,7 @@ use lib.Dec.{eqb}
 use borrow.Author.Tests.{eq-eqb, ne-eqb}
 use Rattle.splits.specs.Masks.{lowest}
 use Rattle.splits.specs.Problem.{Solution, tableOf}
-use Rattle.splits.specs.Subproblems.{domain, instantiated}
+use Rattle.splits.specs.Subproblems.{domain}
 use Rattle.splits.specs.Splits.{below}
 use Rattle.splits.specs.declared.subproblem.Subproblem.{Subproblem}
 use Rattle.search.specs.Agenda.{problemOf, stackOf, slotsIn, agendaOf}
@@ -26,7 +26,6 @@ use Rattle.search.specs.Promises.{Verdict-says}
 use Rattle.search.specs.declared.state.Ran.{Ran}
 use Rattle.search.specs.declared.state.Verdict.{Verdict}
 use Rattle.search.specs.declared.state.Verdict.the-variants.{None, Running, Solved, Unsolvable}
-use Rattle.search.proofs.Verdicts.{top-solved}
 use Rattle.search.proofs.Promises.{chooser-says}
 use Rattle.files.specs.Content.{each}
 use Rattle.files.specs.Reading.{saidN, saidD, saidSteps, saidChecks, saidSubproblems, saidDomains, saidAllowed, saidSearch, tableWords, Deserves-14, Deserves-15}
@@ -282,10 +281,9 @@ module _ (file : List ℕ) (bytes : Bytes file) (rest : List ℕ) (solved : answ
   unfolding planLines
   top-lines P S e =
       let stack : stackOf (saidN file) (c .after) (c .ran .state .subproblems) ≡ P ∷ S = ap (λ n. stackOf n (c .after) (c .ran .state .subproblems)) (sym (left .its-n)) ∙ e in
-      let all : instantiated (saidN file) P ≡ true =
-      top-solved (saidN file) P S (ap (verdictOf (saidN file)) (sym stack)
-      ∙ ap (λ n. verdictOf n (stackOf n (c .after) (c .ran .state .subproblems))) (sym (left .its-n)) ∙ sym (says .verdict) ∙ verdict) in
-      rw (stack, all) refl
+      let solved : verdictOf (saidN file) (P ∷ S) ≡ Solved =
+      ap (verdictOf (saidN file)) (sym stack) ∙ ap (λ n. verdictOf n (stackOf n (c .after) (c .ran .state .subproblems))) (sym (left .its-n)) ∙ sym (says .verdict) ∙ verdict in
+      rw (stack, solved) refl
 
   pub a-plan : (f : ℕ → ℕ)
       × (answer file

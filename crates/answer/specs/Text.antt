@@ -4,10 +4,10 @@ use mathlib.Core.List.{List, [], _∷_, _++_}
 use Prim.Native.Nat.{ℕ, zero, suc, _+_, _/_, _%_}
 use lib.Dec.{eqb, ltb}
 use Rattle.splits.specs.Masks.{lowest}
-use Rattle.splits.specs.Subproblems.{domain, instantiated}
+use Rattle.splits.specs.Subproblems.{domain}
 use Rattle.splits.specs.Splits.{below}
 use Rattle.splits.specs.declared.subproblem.Subproblem.{Subproblem}
-use Rattle.search.specs.Verdicts.{ascii, wordOf, verdictOf}
+use Rattle.search.specs.Verdicts.{numberOf, ascii, wordOf, verdictOf}
 use Rattle.search.specs.Runs.{Stopped}
 use Rattle.search.specs.declared.state.Verdict.{Verdict}
 use Rattle.files.specs.Content.{each}
@@ -35,7 +35,7 @@ planLine top i = decimal i ++ ascii " " ++ decimal (lowest (domain top i)) ++ as
 
 unfoldable pub planLines : ℕ → List Subproblem → List ℕ
 planLines n [] = []
-planLines n (top ∷ below-it) = cond (instantiated n top) (each (planLine top) (below n)) []
+planLines n (top ∷ below-it) = cond (eqb (numberOf (verdictOf n (top ∷ below-it))) 2) (each (planLine top) (below n)) []
 
 -- The line of a refusal: "refused" and the number.
 unfoldable pub refusedLine : ℕ → List ℕ

@@ -9,7 +9,7 @@ use native.Mathlib.Omega.{arith}
 use lib.Dec.{eqb}
 use borrow.Author.Tests.{eqb-false, not-true}
 use Rattle.splits.specs.Masks.{lowest}
-use Rattle.splits.specs.Problem.{Problem, Table}
+use Rattle.splits.specs.Problem.{Problem, Table, Allow-same}
 use Rattle.splits.specs.Subproblems.{domain, empty}
 use Rattle.splits.specs.Requests.{kindOf, variableOf, valueOf}
 use Rattle.splits.specs.Splits.{below, keep, forbids, precluded, disjunct, backtracking, forwardChecking, idc, named, pieces}
@@ -20,7 +20,6 @@ use Rattle.splits.proofs.Masks.{member-lt}
 use Rattle.splits.proofs.Pieces.{Held}
 use Rattle.splits.proofs.Splitting.{lowest-in}
 use Rattle.splits.proofs.Apart.{kind-same, kept-lt, precluded-same, disjunct-same, forbidden-same, tried-same}
-use Rattle.files.specs.Promises.{Allow-same}
 
 -- Members of a list, mapped alike.
 map-member : (f g : ℕ → Subproblem) (l : List ℕ) → ((j : ℕ) → List·Memᴰ j l → f j ≡ g j) → map f l ≡ map g l

@@ -11,7 +11,7 @@ use native.Mathlib.Decide.{ℕ-discrete}
 use lib.Dec.{eqb, ltb}
 use borrow.Author.Tests.{eq-eqb, ne-eqb, eqb-true, eqb-false}
 use Rattle.splits.specs.Masks.{bit, _∈_, size, lowest}
-use Rattle.splits.specs.Problem.{Problem, Table}
+use Rattle.splits.specs.Problem.{Problem, Table, Allow-same}
 use Rattle.splits.specs.Subproblems.{domain, Instantiated, instantiated}
 use Rattle.splits.specs.Refusals.{Accepted, refusalOf}
 use Rattle.splits.specs.Promises.{Splits}
@@ -26,9 +26,8 @@ use Rattle.search.specs.Verdicts.{finished}
 use Rattle.search.specs.Runs.{Search, Stopped, splitTop, step, refusalOfTop, refusalOfRequest, runFrom, run}
 use Rattle.search.specs.Chooser.{fewestOf, fewest, request, chosen, chooseFrom, choose}
 use Rattle.search.specs.Promises.{Passes}
-use Rattle.search.proofs.Verdicts.{running-top, instantiated-all}
+use Rattle.search.proofs.Verdicts.{running-top, finished-top, instantiated-all}
 use Rattle.search.proofs.Runs.{stop, after, run-finished, run-taken, run-refused, run-ind}
-use Rattle.files.specs.Promises.{Allow-same}
 use Rattle.splits.proofs.Promises.{refusal-none}
 use Rattle.search.proofs.Passing.{step-is, splits, step-passes}
 use Rattle.files.proofs.Agreeing.{pieces-same, checks-same}
@@ -143,7 +142,7 @@ module _ (p : Problem) (g : Table) (agree : Allow-same (p .n) (p .d) (p .allowed
       rw (precluded-same (p .n) (p .allowed) g P V′ v (λ i k f. agree V′ i v l k f m), pieces-same split g agree) refl
 
   choose-from : (m : ℕ) (s : Search) (k : ℕ) → Passes p room s → chooseFrom p room m s k ≡ chooseFrom other room m s k
-  unfolding chooseFrom finished
+  unfolding chooseFrom
   choose-from zero s k h = refl
   choose-from (suc m) s k h = go (choose-from m) (finished (p .n) (s .stack)) refl
     where
@@ -165,7 +164,7 @@ module _ (p : Problem) (g : Table) (agree : Allow-same (p .n) (p .d) (p .allowed
       request-is P S top e = rw top (chosen-same P S s h top e)
 
       free : (P : Subproblem) (S : List Subproblem) → s .stack ≡ P ∷ S → finished (p .n) (s .stack) ≡ false → instantiated (p .n) P ≡ false
-      free P S top e = rw top at e
+      free P S top e = sym (finished-top (p .n) P S) ∙ rw top at e
 
       next : ((t : Search) (j : ℕ) → Passes p room t → chooseFrom p room m t j ≡ chooseFrom other room m t j) → finished (p .n) (s .stack) ≡ false
           → first ≡ second

@@ -7,9 +7,9 @@ use native.Mathlib.Omega.{arith}
 use lib.ListN.{length, take, drop}
 use lib.Seq.{take-at}
 use borrow.Author.Tests.{le-ltb}
-use Rattle.splits.specs.Problem.{Table, tableOf}
+use Rattle.splits.specs.Problem.{Table, Allow-same, tableOf}
 use Rattle.splits.specs.declared.subproblem.Subproblem.{Subproblem}
-use Rattle.search.specs.Agenda.{slotsIn, agendaOf}
+use Rattle.search.specs.Agenda.{Words, Shape, slotsIn, agendaOf}
 use Rattle.search.specs.FirstChecks.{WholeSlots, refusalOfLengths, searchRefusal}
 use Rattle.search.specs.Runs.{Search}
 use Rattle.search.specs.Calls.{searchOf}
@@ -18,7 +18,7 @@ use Rattle.files.specs.Blocks.{blocksFor, fileOf}
 use Rattle.files.specs.Content.{contentOf}
 use Rattle.files.specs.Reading.{saidN, saidD, saidSteps, saidChecks, saidSubproblems, saidDomains, saidAllowed, saidSearch, tableWords}
 use Rattle.files.specs.Calls.{handedContent, saveRefusal, Saves, loadRefusal, Loads}
-use Rattle.files.specs.Promises.{Words, Bytes, Canonical, Allow-same, Says, Given-back}
+use Rattle.files.specs.Promises.{Bytes, Says, Given-back}
 use Rattle.files.specs.declared.saved.Saved.{Saved}
 use Rattle.files.specs.declared.saved.Loaded.{Loaded}
 use Rattle.files.proofs.Triangle.{table-other, triangle-same}
@@ -26,7 +26,7 @@ use Rattle.files.proofs.Blocks.{file-length}
 use Rattle.files.proofs.Stacks.{agenda-read, of-length}
 use Rattle.files.proofs.Passing.{Passing, search-passing, passing-search}
 use Rattle.files.proofs.RoundTrip.{saved-again}
-use Rattle.files.proofs.Saving.{stack-canonical, saved-says}
+use Rattle.files.proofs.Saving.{stack-shape, saved-says}
 use Rattle.files.proofs.Loading.{Fits, fit-lengths, load-taken, said-passing, memory-read, said-agree}
 use Rattle.files.proofs.Refusals.{save-none}
 
@@ -93,11 +93,11 @@ module _ (n d : ℕ) (domains tables agenda : List ℕ) (s : State) (before afte
       ∙ take-at (fileOf c) (drop (length (fileOf c)) before) (512 * blocksFor (length c)) (file-length c)
 
 -- Its memory and state say it.
-state-search : (n : ℕ) → n ≤ 32 → (words : ℕ) (x : Search) → ((P : Subproblem) → List·Memᴰ P (x .stack) → Canonical n P)
+state-search : (n : ℕ) → n ≤ 32 → (words : ℕ) (x : Search) → ((P : Subproblem) → List·Memᴰ P (x .stack) → Shape n 16 P)
     → searchOf n (agendaOf n words (x .stack)) (stateOf x) ≡ x
 unfolding stateOf
-state-search n few words x canonical =
-    let stack = agenda-read n few words (x .stack) canonical in
+state-search n few words x shape =
+    let stack = agenda-read n few words (x .stack) shape in
     λ i. record { stack = stack i; steps = x .steps; checks = x .checks }
 
 -- Load of what save wrote returns and leaves the search that was saved.
@@ -134,7 +134,7 @@ module _ (n d : ℕ) (domains tables agenda : List ℕ) (s : State) (before afte
     its-domains = lent-back .its-domains;
     its-allowed = rw (lent-back .its-tables) (lent-agree (fileOf (handedContent n d domains tables agenda s)) n d domains (tableOf n d tables) (searchOf n agenda s) says-it);
     its-search = ap₂ (searchOf n) (lent-back .its-agenda) (lent-back .its-state)
-        ∙ state-search n (passing .proper .variables) (length agenda₀) (searchOf n agenda s) (stack-canonical n d domains tables agenda s words passing);
+        ∙ state-search n (passing .proper .variables) (length agenda₀) (searchOf n agenda s) (stack-shape n d domains tables agenda s words passing);
   }
 
 -- ---- save after load

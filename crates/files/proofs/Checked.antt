@@ -31,7 +31,7 @@ use Rattle.files.proofs.Whole.{Whole, file-whole}
 use Rattle.files.proofs.Accepted.{Accepts, words-accept, accept-words, words-either}
 use Rattle.files.proofs.Passing.{slots-in, search-passing, passing-search}
 use Rattle.files.proofs.Tables.{rules-agree}
-use Rattle.files.proofs.RoundTrip.{said-canonical, said-length}
+use Rattle.files.proofs.RoundTrip.{said-shape, said-length}
 use Rattle.files.proofs.Loading.{said-passing}
 use Rattle.files.proofs.Places.{content-from, length-from, content-word-small}
 use Rattle.files.proofs.Mirrors.{part-at, part-long, triangle-few}
@@ -136,7 +136,7 @@ module _ (file : List ℕ) (small : Bytes file) (whole : Whole file) (sized : si
   memory-read =
       let few = numbers .0 .variables in
       ap (stackOf (saidN file) memory) (sym (said-length file small few))
-      ∙ agenda-read (saidN file) few (512 * (saidN file + 2)) (saidSearch file .stack) (said-canonical file small few)
+      ∙ agenda-read (saidN file) few (512 * (saidN file + 2)) (saidSearch file .stack) (said-shape file small few)
 
   -- The refusal of the first checks.
   abbrev checked : ℕ

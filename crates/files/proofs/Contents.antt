@@ -11,15 +11,14 @@ use borrow.Author.Tests.{lt-ltb, le-ltb}
 use Rattle.splits.specs.Masks.{bit}
 use Rattle.splits.specs.Problem.{Table}
 use Rattle.splits.specs.declared.subproblem.Subproblem.{Subproblem}
-use Rattle.search.specs.Agenda.{stackOf, stackWords}
+use Rattle.search.specs.Agenda.{Shape, stackOf, stackWords}
 use Rattle.search.specs.Runs.{Search}
 use Rattle.files.specs.Content.{triangle, contentOf}
 use Rattle.files.specs.Reading.{contentWord, contentFrom, saidN, saidD, saidSteps, saidChecks, saidSubproblems, saidDomains, saidAllowed, saidAgenda, saidSearch, saidWords, triangleWords, trianglePlace, gathered}
-use Rattle.files.specs.Promises.{Canonical}
 use Rattle.files.proofs.Lists.{map-is}
 use Rattle.files.proofs.Triangle.{triangle-length, triangle-at, place-lt}
 use Rattle.files.proofs.Gathered.{gathered-same, gathered-bits}
-use Rattle.files.proofs.Stacks.{canonical-length, stack-read}
+use Rattle.files.proofs.Stacks.{shape-length, stack-read}
 
 -- Three lists one after the other.
 first-at : (a b c : List ℕ) (k : ℕ) → k < length a → getD (a ++ b ++ c) k 0 ≡ getD a k 0
@@ -44,7 +43,7 @@ four-words x =
     rw (← three, ← two) (omega arith)
 
 module _ (n d : ℕ) (domains : List ℕ) (allowed : Table) (s : Search) (few : n ≤ 32) (words : length domains ≡ n)
-    (canonical : (P : Subproblem) → List·Memᴰ P (s .stack) → Canonical n P) where
+    (shape : (P : Subproblem) → List·Memᴰ P (s .stack) → Shape n 16 P) where
   -- How many words it has.
   pub content-length : length (contentOf n d domains allowed s) ≡ 9 + n + triangleWords n d + length (s .stack) * (n + 2)
   unfolding contentOf
@@ -54,7 +53,7 @@ module _ (n d : ℕ) (domains : List ℕ) (allowed : Table) (s : Search) (few : 
         length-append (domains ++ triangle n d allowed) (stackWords n (s .stack)),
         length-append domains (triangle n d allowed),
         triangle-length n d allowed,
-        canonical-length n few (s .stack) canonical,
+        shape-length n few (s .stack) shape,
       )
 
   -- After nine words the domains, then the tables, then the agenda.
@@ -130,13 +129,13 @@ module _ (n d : ℕ) (domains : List ℕ) (allowed : Table) (s : Search) (few : 
     says-agenda =
         rw (says-n, says-d, says-subproblems)
         (map-is (λ k. contentWord file (9 + n + triangleWords n d + k)) (length (s .stack) * (n + 2)) (stackWords n (s .stack))
-        (canonical-length n few (s .stack) canonical) (λ k l. holds (9 + n + triangleWords n d + k) (omega (arith, content-length)) ∙ content-agenda k))
+        (shape-length n few (s .stack) shape) (λ k l. holds (9 + n + triangleWords n d + k) (omega (arith, content-length)) ∙ content-agenda k))
 
     -- It says the stack.
     pub says-stack : saidSearch file .stack ≡ s .stack
     says-stack =
         rw (says-n, says-agenda, says-subproblems)
-        (ap (λ (l : List ℕ). stackOf n l (length (s .stack))) (sym (append-nil (stackWords n (s .stack)))) ∙ stack-read n few (s .stack) canonical [])
+        (ap (λ (l : List ℕ). stackOf n l (length (s .stack))) (sym (append-nil (stackWords n (s .stack)))) ∙ stack-read n few (s .stack) shape [])
 
     -- It says the search.
     pub says-search : saidSearch file ≡ s

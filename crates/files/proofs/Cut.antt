@@ -11,7 +11,7 @@ use lib.ListN.{length, drop, length-append}
 use lib.Dec.{eqb}
 use Rattle.splits.specs.Problem.{Problem, Proper}
 use Rattle.splits.specs.declared.subproblem.Subproblem.{Subproblem}
-use Rattle.search.specs.Agenda.{problemOf, slotsIn, agendaOf}
+use Rattle.search.specs.Agenda.{problemOf, Shape, slotsIn, agendaOf}
 use Rattle.search.specs.FirstChecks.{WholeSlots, WholeRequests, runRefusal, searchRefusal}
 use Rattle.search.specs.Verdicts.{verdictOf, finished}
 use Rattle.search.specs.Runs.{Search, Stopped, step, refusalOfRequest, run, requestsIn}
@@ -23,11 +23,11 @@ use Rattle.search.specs.declared.state.Ran.{Ran}
 use Rattle.search.proofs.Runs.{stop, after, two-lists, stops}
 use Rattle.search.proofs.HandedOn.{agenda-small}
 use Rattle.search.proofs.Promises.{run-leaves, chooser-leaves, choose-two}
-use Rattle.files.specs.Promises.{Canonical, Held-in, Two-ways, Trip, Chooser-trip, Same-end}
+use Rattle.files.specs.Promises.{Held-in, Two-ways, Trip, Chooser-trip, Same-end}
 use Rattle.files.proofs.Stacks.{agenda-length, agenda-read, agenda-zero}
 use Rattle.files.proofs.Passing.{Passing, slots-in, search-passing, passing-search, passing-run}
 use Rattle.files.proofs.Requests.{whole-append, requests-append, whole-drop, requests-drop}
-use Rattle.files.proofs.Reaching.{reached-good, reached-canonical}
+use Rattle.files.proofs.Reaching.{reached-good, reached-shape}
 use Rattle.files.proofs.Carried.{Carried, carried, run-on, choose-on}
 
 -- ---- a call whose first checks pass
@@ -247,14 +247,14 @@ module _ (n d : ℕ) (domains tables agenda : List ℕ) (s : State) (m k : ℕ) 
 -- ---- reached searches
 
 module _ (n d : ℕ) (domains tables : List ℕ) (x : Search) (words : ℕ) (passes : Passes (problemOf n d domains tables) (slotsIn n words) x)
-    (canonical : (P : Subproblem) → List·Memᴰ P (x .stack) → Canonical n P) where
+    (shape : (P : Subproblem) → List·Memᴰ P (x .stack) → Shape n 16 P) where
   few-variables : n ≤ 32
   few-variables = passes .proper .variables
 
   -- The agenda has as many words as were lent.
   memory-length : length (agendaOf n words (x .stack)) ≡ words
   memory-length =
-      agenda-length n few-variables words (x .stack) canonical (le-trans (mul-le-mul-right (n + 2) (passes .fits)) (div-mul-le-self words (n + 2)))
+      agenda-length n few-variables words (x .stack) shape (le-trans (mul-le-mul-right (n + 2) (passes .fits)) (div-mul-le-self words (n + 2)))
 
   -- It passes the first checks.
   memory-passing : length domains ≡ n → length tables ≡ n * n * d → WholeSlots n words
@@ -264,9 +264,9 @@ module _ (n d : ℕ) (domains tables : List ℕ) (x : Search) (words : ℕ) (pas
     domain-words = ds;
     table-words = ts;
     slots = rw memory-length ws;
-    rules = λ P m. passes .rules P (rw (agenda-read n few-variables words (x .stack) canonical) at m);
+    rules = λ P m. passes .rules P (rw (agenda-read n few-variables words (x .stack) shape) at m);
     fits = rw memory-length (passes .fits);
-    unused = λ k l m. agenda-zero n few-variables words (x .stack) canonical k l;
+    unused = λ k l m. agenda-zero n few-variables words (x .stack) shape k l;
     counted = passes .counted;
   }
 
@@ -274,7 +274,7 @@ module _ (n d : ℕ) (domains tables : List ℕ) (x : Search) (words : ℕ) (pas
   memory-handed : length domains ≡ n → length tables ≡ n * n * d → WholeSlots n words → (agenda : List ℕ) (s : State) → agenda ≡ agendaOf n words (x .stack)
       → s .counts .steps .0 ≡ x .steps → s .counts .checks .0 ≡ x .checks → s .subproblems ≡ length (x .stack) → Handed n d domains tables agenda s
   memory-handed ds ts ws agenda s a b c e = record {
-    words = rw a (agenda-small n 16 words (x .stack) (le-refl 16) (λ P m. let c = canonical P m in record { long = c .entries; masks = c .masks; past = c .past; marks = c .marks }));
+    words = rw a (agenda-small n 16 words (x .stack) (le-refl 16) shape);
     stepped = rw b (passes .stepped);
     passes = rw (a, b, c, e) (passing-search n d domains tables (agendaOf n words (x .stack)) (x .steps) (x .checks) (length (x .stack)) (memory-passing ds ts ws));
   }
@@ -288,5 +288,5 @@ pub reached-cut : (n d : ℕ) (domains tables : List ℕ) (slots : ℕ) (begun :
 reached-cut n d domains tables slots begun agenda s requests more proper ds ts some most h held w v t =
     let passes : Passes (problemOf n d domains tables) (slotsIn n (slots * (n + 2))) begun = rw (slots-in n slots) (reached-good n d domains tables proper ds h .passes) in
     run-end n d domains tables agenda s requests more
-    (memory-handed n d domains tables begun (slots * (n + 2)) passes (reached-canonical n d domains tables proper ds h) ds ts (slots, some, most, refl) agenda s
+    (memory-handed n d domains tables begun (slots * (n + 2)) passes (reached-shape n d domains tables proper ds h) ds ts (slots, some, most, refl) agenda s
     (held .memory) (held .steps) (held .checks) (held .subproblems)) w v t

@@ -9,7 +9,7 @@ use native.Mathlib.Decide.{ℕ-discrete}
 use lib.ListN.{length, getD, take}
 use lib.Dec.{eqb}
 use borrow.Author.Tests.{ne-eqb}
-use Rattle.splits.specs.Problem.{Proper, tableOf}
+use Rattle.splits.specs.Problem.{Allow-same, Proper, tableOf}
 use Rattle.splits.specs.Promises.{AgreeApart}
 use Rattle.search.specs.Agenda.{problemOf, stackOf, slotsIn}
 use Rattle.search.specs.Runs.{requestsIn}
@@ -26,7 +26,7 @@ use Rattle.search.proofs.Promises.{open-leaves, run-leaves, chooser-leaves, run
 use Rattle.files.specs.Blocks.{fileOf}
 use Rattle.files.specs.Reading.{saidAllowed, tableWords}
 use Rattle.files.specs.Calls.{handedContent, saveRefusal, Saves, Loads}
-use Rattle.files.specs.Promises.{Allow-same, Says, Shown, Lived, opened, ran, chose, loaded}
+use Rattle.files.specs.Promises.{Says, Shown, Lived, opened, ran, chose, loaded}
 use Rattle.files.specs.declared.saved.Saved.{Saved}
 use Rattle.files.specs.declared.saved.Loaded.{Loaded}
 use Rattle.files.proofs.Triangle.{table-length}

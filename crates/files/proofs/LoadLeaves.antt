@@ -16,7 +16,7 @@ use Rattle.files.specs.Promises.{Bytes, Left-by-load}
 use Rattle.files.specs.declared.saved.Loaded.{Loaded}
 use Rattle.files.proofs.Loading.{load-taken, memory-length, memory-read, said-passing}
 use Rattle.files.proofs.Passing.{passing-search}
-use Rattle.files.proofs.RoundTrip.{said-canonical, content-word}
+use Rattle.files.proofs.RoundTrip.{said-shape, content-word}
 
 pub load-leaves : (file domains domains′ tables tables′ agenda agenda′ : List ℕ) (r : Loaded) → Bytes file
     → Loads file domains domains′ tables tables′ agenda agenda′ r → r .refusal ≡ 0 → Left-by-load file agenda domains′ tables′ agenda′ r
@@ -32,8 +32,7 @@ load-leaves file domains domains′ tables tables′ agenda agenda′ r bytes lo
     let steps-are : r .state .counts .steps .0 ≡ saidSteps file = rw test at (loads .steps) in
     let checks-are : r .state .counts .checks .0 ≡ saidChecks file = rw test at (loads .checks) in
     let count-is : r .state .subproblems ≡ saidSubproblems file = rw test at (loads .subproblems) in
-    let shaped : Shaped (saidN file) 16 (saidSearch file .stack) = λ P m.
-    let c = said-canonical file bytes (t .accepts .variables) P m in record { long = c .entries; masks = c .masks; past = c .past; marks = c .marks } in
+    let shaped : Shaped (saidN file) 16 (saidSearch file .stack) = said-shape file bytes (t .accepts .variables) in
     let passes = passing-search _ _ _ _ _ _ _ _ (said-passing file (t .accepts) bytes (length agenda) (t .lengths .slots) (t .room)) in
     let high = content-word file bytes 2 in
     let low = content-word file bytes 3 in

@@ -12,7 +12,7 @@ use lib.ListN.{length, getD, List·getD-eq-default}
 use lib.Dec.{eqb, ltb}
 use borrow.Author.Tests.{eq-eqb, eqb-true, lt-ltb, le-ltb, ltb-false}
 use Rattle.splits.specs.Masks.{bit}
-use Rattle.splits.specs.Problem.{Proper, tableOf}
+use Rattle.splits.specs.Problem.{Allow-same, Proper, tableOf}
 use Rattle.splits.proofs.Masks.{bit-le}
 use Rattle.splits.proofs.Tests.{and-left, and-right}
 use Rattle.search.specs.Agenda.{stackOf, stackWords, slotsIn, agendaOf}
@@ -21,16 +21,16 @@ use Rattle.search.proofs.FirstParts.{given-if, else-pass}
 use Rattle.search.proofs.Deserved.{slots-true, slots-is}
 use Rattle.files.specs.Reading.{contentWord, contentFrom, saidN, saidD, saidSteps, saidChecks, saidSubproblems, saidDomains, saidAllowed, saidSearch, saidProblem, gathered, tableWords, refusalOfFile, refusalOfWords}
 use Rattle.files.specs.Calls.{loadRefusal}
-use Rattle.files.specs.Promises.{Bytes, Allow-same}
+use Rattle.files.specs.Promises.{Bytes}
 use Rattle.files.proofs.Lists.{map-length, padded-at}
 use Rattle.files.proofs.Gathered.{gathered-lt, gathered-bit}
 use Rattle.files.proofs.Triangle.{table-length, table-other}
-use Rattle.files.proofs.Stacks.{canonical-length, agenda-length, agenda-read}
+use Rattle.files.proofs.Stacks.{shape-length, agenda-length, agenda-read}
 use Rattle.files.proofs.Whole.{Whole, file-whole}
 use Rattle.files.proofs.Accepted.{Accepts, words-accept}
 use Rattle.files.proofs.Passing.{Passing}
 use Rattle.files.proofs.Tables.{rules-agree, proper-agree}
-use Rattle.files.proofs.RoundTrip.{said-canonical, said-length}
+use Rattle.files.proofs.RoundTrip.{said-shape, said-length}
 
 -- ---- 3
 
@@ -111,21 +111,21 @@ module _ (file : List ℕ) where
       -- The agenda that load leaves is as long as the one lent.
       pub memory-length : length (agendaOf (saidN file) words (saidSearch file .stack)) ≡ words
       memory-length =
-          agenda-length (saidN file) (a .variables) words (saidSearch file .stack) (said-canonical file bytes (a .variables))
+          agenda-length (saidN file) (a .variables) words (saidSearch file .stack) (said-shape file bytes (a .variables))
           (rw (said-length file bytes (a .variables)) within)
 
       -- It holds the stack that the file says.
       pub memory-read : stackOf (saidN file) (agendaOf (saidN file) words (saidSearch file .stack)) (saidSubproblems file) ≡ saidSearch file .stack
       memory-read =
           ap (stackOf (saidN file) (agendaOf (saidN file) words (saidSearch file .stack))) (sym (said-length file bytes (a .variables)))
-          ∙ agenda-read (saidN file) (a .variables) words (saidSearch file .stack) (said-canonical file bytes (a .variables))
+          ∙ agenda-read (saidN file) (a .variables) words (saidSearch file .stack) (said-shape file bytes (a .variables))
 
       memory-zero : (k : ℕ) → saidSubproblems file * (saidN file + 2) ≤ k → getD (agendaOf (saidN file) words (saidSearch file .stack)) k 0 ≡ 0
       unfolding agendaOf
       memory-zero k l =
           padded-at (stackWords (saidN file) (saidSearch file .stack)) (words - length (stackWords (saidN file) (saidSearch file .stack))) k
           ∙ List·getD-eq-default (stackWords (saidN file) (saidSearch file .stack)) 0
-          (rw (canonical-length (saidN file) (a .variables) (saidSearch file .stack) (said-canonical file bytes (a .variables)), said-length file bytes (a .variables)) l)
+          (rw (shape-length (saidN file) (a .variables) (saidSearch file .stack) (said-shape file bytes (a .variables)), said-length file bytes (a .variables)) l)
 
       -- What is loaded passes the first checks.
       pub said-passing : Passing (saidN file) (saidD file) (saidDomains file) (tableWords (saidN file) (saidD file) (saidAllowed file))

@@ -13,7 +13,7 @@ use lib.Pow.{pow-mono}
 use lib.Dec.{eqb, leb, ltb}
 use borrow.Author.Tests.{eq-eqb, le-leb, lt-ltb, le-ltb, eqb-true, leb-true, ltb-true, ltb-false}
 use Rattle.splits.specs.Masks.{bit}
-use Rattle.splits.specs.Problem.{Problem, Proper, Table}
+use Rattle.splits.specs.Problem.{Problem, Proper, Table, Allow-same}
 use Rattle.splits.specs.Subproblems.{Rules, every}
 use Rattle.splits.specs.declared.subproblem.Subproblem.{Subproblem}
 use Rattle.splits.proofs.Tests.{and-left, and-right, or-left, or-right, or-cases, every-at, every-all, same-test}
@@ -22,7 +22,6 @@ use Rattle.search.specs.Agenda.{problemOf, stackOf, slotsIn}
 use Rattle.search.specs.FirstChecks.{WholeSlots, WholeRequests, orElse, refusalOfNumbers, wholeSlots, refusalOfLengths, refusalOfRequests, masksBelow, symmetric, refusalOfProblem, allObey, zerosFrom, refusalOfSearch, openRefusal, searchRefusal, runRefusal}
 use Rattle.search.proofs.FirstParts.{given-not, given-if, else-pass}
 use Rattle.search.proofs.Deserved.{slots-true, slots-is}
-use Rattle.files.specs.Promises.{Allow-same}
 use Rattle.files.proofs.Rules.{all-rules, rules-all}
 
 -- ---- 3

@@ -113,13 +113,13 @@ pub saves-back : Saves-back
 saves-back = Back.saves-back
 
 pub largest : Largest
-largest n d domains allowed s few values words stack canonical =
-    (RoundTrip.content-few n d domains allowed s few values words stack canonical, RoundTrip.blocks-few n d domains allowed s few values words stack canonical)
+largest n d domains allowed s few values words stack shape =
+    (RoundTrip.content-few n d domains allowed s few values words stack shape, RoundTrip.blocks-few n d domains allowed s few values words stack shape)
 
 pub largest-met : Largest-met
 unfolding blocksFor
-largest-met domains allowed s words stack canonical =
-    let e = Contents.content-length 32 16 domains allowed s (omega arith) words canonical in
+largest-met domains allowed s words stack shape =
+    let e = Contents.content-length 32 16 domains allowed s (omega arith) words shape in
     let l : length (contentOf 32 16 domains allowed s) ≡ 25385 = rw stack at e in
     (l, rw l refl)
 

@@ -9,19 +9,18 @@ use lib.ListN.{length, getD, replicate, length-append, length-replicate, List·g
 use lib.Seq.{take-all}
 use lib.Dec.{eqb}
 use borrow.Author.Tests.{eqb-false}
-use Rattle.splits.specs.Problem.{Proper, tableOf}
+use Rattle.splits.specs.Problem.{Allow-same, Proper, tableOf}
 use Rattle.splits.specs.Subproblems.{domain, Instantiated, Rules, some}
 use Rattle.splits.specs.declared.subproblem.Subproblem.{Subproblem}
 use Rattle.splits.proofs.Masks.{bit-none}
 use Rattle.splits.proofs.Tests.{some-none}
-use Rattle.search.specs.Agenda.{problemOf, holding}
+use Rattle.search.specs.Agenda.{problemOf, holding, Shape}
 use Rattle.search.specs.Runs.{Search}
 use Rattle.search.specs.Calls.{opening}
 use Rattle.search.specs.Promises.{Passes, Reached, opened, ran, chose, moved}
-use Rattle.files.specs.Promises.{Canonical, Allow-same}
 use Rattle.files.proofs.Lists.{padded-at}
 use Rattle.search.proofs.Promises.{run-passes, chooser-passes}
-use Rattle.files.proofs.Steps.{Tidy, All-tidy, tidy-canonical, run-tidy, chooser-tidy}
+use Rattle.files.proofs.Steps.{Tidy, All-tidy, tidy-shape, run-tidy, chooser-tidy}
 use Rattle.files.proofs.AgreeingRuns.{run-same, choose-same}
 
 module _ (n d : ℕ) (domains tables : List ℕ) (proper : Proper (problemOf n d domains tables)) (words : length domains ≡ n) where
@@ -111,10 +110,10 @@ module _ (n d : ℕ) (domains tables : List ℕ) (proper : Proper (problemOf n d
   reached-good (moved {room} {other} {s} h l) = move-good room other s l (reached-good h)
 
   -- So each of its subproblems is as memory holds it.
-  pub reached-canonical : {room : ℕ} {s : Search} → Reached n d domains tables room s → (P : Subproblem) → List·Memᴰ P (s .stack) → Canonical n P
-  reached-canonical h P m =
+  pub reached-shape : {room : ℕ} {s : Search} → Reached n d domains tables room s → (P : Subproblem) → List·Memᴰ P (s .stack) → Shape n 16 P
+  reached-shape h P m =
       let g = reached-good h in
-      tidy-canonical (problemOf n d domains tables) P proper (g .passes .rules P m) (g .tidy P m)
+      tidy-shape (problemOf n d domains tables) P proper (g .passes .rules P m) (g .tidy P m)
 
   -- It is reached with every table that agrees.
   pub reached-agree : (tables′ : List ℕ) → Allow-same n d (tableOf n d tables) (tableOf n d tables′) → {room : ℕ} {s : Search}

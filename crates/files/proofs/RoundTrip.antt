@@ -10,16 +10,16 @@ use lib.Arith.{lt-of-le-ne}
 use lib.ListN.{length, getD, List·getD-eq-default}
 use lib.Seq.{take-all}
 use borrow.Author.Tests.{lt-ltb}
-use Rattle.splits.specs.Problem.{Proper, Table}
+use Rattle.splits.specs.Problem.{Proper, Table, Allow-same}
 use Rattle.splits.specs.Subproblems.{Rules}
 use Rattle.splits.specs.Splits.{below}
 use Rattle.splits.specs.declared.subproblem.Subproblem.{Subproblem}
-use Rattle.search.specs.Agenda.{stackWords}
+use Rattle.search.specs.Agenda.{Shape, stackWords}
 use Rattle.search.specs.Runs.{Search}
 use Rattle.files.specs.Blocks.{blocksFor, fileOf}
 use Rattle.files.specs.Content.{contentOf, triangle}
 use Rattle.files.specs.Reading.{blocksIn, blockWord, contentWord, contentFrom, saidN, saidD, saidSteps, saidChecks, saidSubproblems, saidDomains, saidAllowed, saidAgenda, saidSearch, saidWords, agendaFrom, triangleWords}
-use Rattle.files.specs.Promises.{Bytes, Canonical, Allow-same, Says}
+use Rattle.files.specs.Promises.{Bytes, Says}
 use Rattle.files.proofs.Whole.{Whole, rebuilt}
 use Rattle.files.proofs.Triangle.{triangle-from}
 use Rattle.files.proofs.Blocks.{file-blocks, file-content, file-passes}
@@ -27,7 +27,7 @@ use Rattle.files.proofs.Accepted.{Accepts, accept-words}
 use Rattle.files.proofs.Contents.{content-length, says-n, says-d, says-steps, says-checks, says-subproblems, says-domains, says-words, says-search, says-stack, says-below, says-above}
 use Rattle.files.proofs.Words.{word-small}
 use Rattle.files.proofs.Lists.{map-length, map-at, seq, seq-join, seq-length, seq-at}
-use Rattle.files.proofs.Stacks.{of-length, of-canonical, stack-written}
+use Rattle.files.proofs.Stacks.{of-length, of-shape, stack-written}
 use Rattle.files.proofs.Tables.{with-table, rules-agree, agree-back}
 
 -- ---- how large a content is
@@ -41,13 +41,13 @@ triangle-few n d h l =
     mul-le-mul half l
 
 module _ (n d : ℕ) (domains : List ℕ) (allowed : Table) (s : Search) (few : n ≤ 32) (values : d ≤ 16) (words : length domains ≡ n)
-    (stack : length (s .stack) ≤ 512) (canonical : (P : Subproblem) → List·Memᴰ P (s .stack) → Canonical n P) where
+    (stack : length (s .stack) ≤ 512) (shape : (P : Subproblem) → List·Memᴰ P (s .stack) → Shape n 16 P) where
   -- A content has at most 25,385 words.
   pub content-few : length (contentOf n d domains allowed s) ≤ 25385
   content-few =
       let slot : n + 2 ≤ 34 = omega arith in
       let slots : length (s .stack) * (n + 2) ≤ 512 * 34 = mul-le-mul stack slot in
-      omega (arith, content-length n d domains allowed s few words canonical, triangle-few n d few values)
+      omega (arith, content-length n d domains allowed s few words shape, triangle-few n d few values)
 
   -- It fills at most 101 blocks.
   pub blocks-few : blocksFor (length (contentOf n d domains allowed s)) ≤ 101
@@ -57,7 +57,7 @@ module _ (n d : ℕ) (domains : List ℕ) (allowed : Table) (s : Search) (few : 
   -- And at least one.
   pub blocks-some : 1 ≤ blocksFor (length (contentOf n d domains allowed s))
   unfolding blocksFor
-  blocks-some = omega (arith, content-length n d domains allowed s few words canonical)
+  blocks-some = omega (arith, content-length n d domains allowed s few words shape)
 
   -- A content lies within its blocks.
   pub blocks-hold : (k : ℕ) → k < length (contentOf n d domains allowed s)
@@ -82,29 +82,29 @@ module _ (n d : ℕ) (domains : List ℕ) (allowed : Table) (s : Search) (few : 
       its-d = the-d;
       its-domains = the-domains;
       its-allowed = the-allowed;
-      its-subproblems = says-subproblems n d domains allowed s few words canonical file blocks-hold;
-      its-search = says-search n d domains allowed s few words canonical file blocks-hold;
+      its-subproblems = says-subproblems n d domains allowed s few words shape file blocks-hold;
+      its-search = says-search n d domains allowed s few words shape file blocks-hold;
     }
       where
         the-n : saidN file ≡ n
-        the-n = says-n n d domains allowed s few words canonical file blocks-hold
+        the-n = says-n n d domains allowed s few words shape file blocks-hold
 
         the-d : saidD file ≡ d
-        the-d = says-d n d domains allowed s few words canonical file blocks-hold
+        the-d = says-d n d domains allowed s few words shape file blocks-hold
 
         the-domains : saidDomains file ≡ domains
-        the-domains = says-domains n d domains allowed s few words canonical file blocks-hold
+        the-domains = says-domains n d domains allowed s few words shape file blocks-hold
 
         the-allowed : Allow-same n d (saidAllowed file) allowed
         the-allowed i j a l k q m = elim (decLt i j) [
-          | yes h ↦ says-below n d domains allowed s few words canonical file blocks-hold i j a h k m
+          | yes h ↦ says-below n d domains allowed s few words shape file blocks-hold i j a h k m
           | no h ↦
               let less : j < i = lt-of-le-ne (omega arith) (λ e. q (sym e)) in
-              says-above n d domains allowed s few words canonical file blocks-hold i j a less l m (λ b o. proper .symmetric i j a b l k q m o) (proper .masks i j a l k q m)
+              says-above n d domains allowed s few words shape file blocks-hold i j a less l m (λ b o. proper .symmetric i j a b l k q m o) (proper .masks i j a l k q m)
         ]
 
         the-words : saidWords file ≡ length (contentOf n d domains allowed s)
-        the-words = says-words n d domains allowed s few words canonical file blocks-hold
+        the-words = says-words n d domains allowed s few words shape file blocks-hold
 
         accepts : Accepts file
         accepts = record {
@@ -112,7 +112,7 @@ module _ (n d : ℕ) (domains : List ℕ) (allowed : Table) (s : Search) (few : 
           variables = rw the-n few;
           some-value = rw the-d (proper .some-value);
           values = rw the-d values;
-          few = rw (says-subproblems n d domains allowed s few words canonical file blocks-hold) stack;
+          few = rw (says-subproblems n d domains allowed s few words shape file blocks-hold) stack;
           fills = file-blocks (contentOf n d domains allowed s) ∙ ap blocksFor (sym the-words);
           zeros = λ k l m.
               file-content (contentOf n d domains allowed s) k (rw (file-blocks (contentOf n d domains allowed s)) at m)
@@ -125,8 +125,8 @@ module _ (n d : ℕ) (domains : List ℕ) (allowed : Table) (s : Search) (few : 
               rw (the-d, the-allowed i j a (omega arith) below other value) (proper .masks i j a (omega arith) below other value);
           rules = λ P m.
               rw (the-domains, the-n, the-d) (rules-agree n d (λ i. getD domains i 0) allowed (saidAllowed file) (agree-back (saidAllowed file) allowed the-allowed) (proper .domains) P
-              (rules P (rw (says-stack n d domains allowed s few words canonical file blocks-hold) at m)));
-          counted = rw (says-checks n d domains allowed s few words canonical file blocks-hold, says-steps n d domains allowed s few words canonical file blocks-hold) counted;
+              (rules P (rw (says-stack n d domains allowed s few words shape file blocks-hold) at m)));
+          counted = rw (says-checks n d domains allowed s few words shape file blocks-hold, says-steps n d domains allowed s few words shape file blocks-hold) counted;
         }
 
 -- ---- save after load
@@ -171,9 +171,9 @@ module _ (file : List ℕ) (bytes : Bytes file) where
 
   module _ (few : saidN file ≤ 32) where
     -- Each subproblem that it says is as memory holds it.
-    pub said-canonical : (P : Subproblem) → List·Memᴰ P (saidSearch file .stack) → Canonical (saidN file) P
-    said-canonical P m =
-        of-canonical (saidN file) few (saidAgenda file) agenda-small (saidSubproblems file) (omega (arith, agenda-length)) P m
+    pub said-shape : (P : Subproblem) → List·Memᴰ P (saidSearch file .stack) → Shape (saidN file) 16 P
+    said-shape P m =
+        of-shape (saidN file) few (saidAgenda file) agenda-small (saidSubproblems file) (omega (arith, agenda-length)) P m
 
     -- They are as many as it says.
     pub said-length : length (saidSearch file .stack) ≡ saidSubproblems file

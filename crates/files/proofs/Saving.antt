@@ -8,13 +8,13 @@ use native.Mathlib.Nat.{mul-le-mul-right, div-mul-le-self, le-trans}
 use lib.ListN.{length}
 use Rattle.splits.specs.Problem.{tableOf}
 use Rattle.splits.specs.declared.subproblem.Subproblem.{Subproblem}
-use Rattle.search.specs.Agenda.{stackOf, slotsIn}
+use Rattle.search.specs.Agenda.{Words, Shape, stackOf, slotsIn}
 use Rattle.search.specs.Calls.{searchOf}
 use Rattle.search.specs.declared.state.State.{State}
 use Rattle.files.specs.Blocks.{fileOf}
 use Rattle.files.specs.Calls.{handedContent}
-use Rattle.files.specs.Promises.{Words, Canonical, Says}
-use Rattle.files.proofs.Stacks.{of-length, of-canonical}
+use Rattle.files.specs.Promises.{Says}
+use Rattle.files.proofs.Stacks.{of-length, of-shape}
 use Rattle.files.proofs.Passing.{Passing, slots-in}
 use Rattle.files.proofs.RoundTrip.{file-says}
 
@@ -25,8 +25,8 @@ module _ (n d : ℕ) (domains tables agenda : List ℕ) (s : State) (words : Wor
   within = le-trans (mul-le-mul-right (n + 2) (h .fits)) (div-mul-le-self (length agenda) (n + 2))
 
   -- Each subproblem is as memory holds it.
-  pub stack-canonical : (P : Subproblem) → List·Memᴰ P (stackOf n agenda (s .subproblems)) → Canonical n P
-  stack-canonical = of-canonical n (h .proper .variables) agenda words (s .subproblems) within
+  pub stack-shape : (P : Subproblem) → List·Memᴰ P (stackOf n agenda (s .subproblems)) → Shape n 16 P
+  stack-shape = of-shape n (h .proper .variables) agenda words (s .subproblems) within
 
   -- It has at most 512 subproblems.
   pub stack-few : length (stackOf n agenda (s .subproblems)) ≤ 512
@@ -38,5 +38,5 @@ module _ (n d : ℕ) (domains tables agenda : List ℕ) (s : State) (words : Wor
   -- The blocks written say the search.
   pub saved-says : Says (fileOf (handedContent n d domains tables agenda s)) n d domains (tableOf n d tables) (searchOf n agenda s)
   saved-says =
-      file-says n d domains (tableOf n d tables) (searchOf n agenda s) (h .proper .variables) (h .proper .values) (h .domain-words) stack-few stack-canonical
+      file-says n d domains (tableOf n d tables) (searchOf n agenda s) (h .proper .variables) (h .proper .values) (h .domain-words) stack-few stack-shape
       (h .proper) (h .rules) (h .counted)

@@ -11,9 +11,8 @@ use native.Mathlib.Numerals.{add-one}
 use lib.ListN.{length, getD, take, drop, replicate, length-append, length-take, length-drop, length-replicate, take-append-drop, List·getD-eq-default}
 use lib.Seq.{length-take-le, take-suc, take-all, take-at, drop-at, take-add, getD-at, getD-append-add, getD-drop, getD-take, ext-getD}
 use Rattle.splits.specs.declared.subproblem.Subproblem.{Subproblem}
-use Rattle.search.specs.Agenda.{holding, slotWords, subproblemOf, slotAt, stackOf, stackWords, agendaOf}
+use Rattle.search.specs.Agenda.{holding, Shape, slotWords, subproblemOf, slotAt, stackOf, stackWords, agendaOf}
 use Rattle.search.proofs.Copies.{zeros-at}
-use Rattle.files.specs.Promises.{Canonical}
 use Rattle.files.proofs.Lists.{padded-at}
 
 -- ---- one slot
@@ -24,13 +23,13 @@ module _ (n : ℕ) (P : Subproblem) where
   unfolding slotWords
   slot-length h = simp (length-append, length-take) (omega arith)
 
-  module _ (few : n ≤ 32) (c : Canonical n P) where
+  module _ (few : n ≤ 32) (c : Shape n 16 P) where
     front : length (take n (P .domains)) ≡ n
-    front = length-take-le n (P .domains) (omega (arith, c .entries))
+    front = length-take-le n (P .domains) (omega (arith, c .long))
 
     past : drop n (P .domains) ≡ replicate (32 - n) 0
     past =
-        ext-getD 0 (drop n (P .domains)) (replicate (32 - n) 0) (length-drop n (P .domains) ∙ rw (c .entries) (sym (length-replicate (32 - n) 0)))
+        ext-getD 0 (drop n (P .domains)) (replicate (32 - n) 0) (length-drop n (P .domains) ∙ rw (c .long) (sym (length-replicate (32 - n) 0)))
         (λ i l. getD-drop n (P .domains) i 0 ∙ c .past (n + i) (omega arith) ∙ sym (zeros-at (32 - n) i))
 
     -- A subproblem is read back from its slot.
@@ -63,12 +62,12 @@ module _ (n : ℕ) (ws : List ℕ) (words : length ws ≡ n + 2) (small : (k : �
       ∙ sym (take-suc ws (suc n) 0 (omega arith) ∙ ap (λ (l : List ℕ). l ++ (getD ws (suc n) 0 ∷ [])) (take-suc ws n 0 (omega arith))) ∙ all)
 
   -- What a slot holds is as memory holds it.
-  pub slot-canonical : n ≤ 32 → Canonical n (subproblemOf n ws)
+  pub slot-shape : n ≤ 32 → Shape n 16 (subproblemOf n ws)
   unfolding subproblemOf holding
-  slot-canonical few =
+  slot-shape few =
       let size : length (take n ws) ≡ n = length-take-le n ws (omega arith) in
       record {
-        entries = simp (length-append, length-replicate) (omega arith);
+        long = simp (length-append, length-replicate) (omega arith);
         past = λ i l. padded-at (take n ws) (32 - n) i ∙ out i l size;
         marks = omega (arith, small n, small (n + 1));
         masks = λ i. rw (padded-at (take n ws) (32 - n) i) (taken i);
@@ -94,23 +93,23 @@ module _ (n : ℕ) (few : n ≤ 32) where
       length-append (stackWords n S) (slotWords n P)
       ∙ ap₂ _+_ (stack-length S (λ Q m. h Q (List·Memᴰ·tail m))) (slot-length n P (h P (List·Memᴰ·head refl))) ∙ sym (suc-mul (length S) (n + 2))
 
-  enough : (P : Subproblem) → Canonical n P → n ≤ length (P .domains)
-  enough P c = omega (arith, c .entries)
+  enough : (P : Subproblem) → Shape n 16 P → n ≤ length (P .domains)
+  enough P c = omega (arith, c .long)
 
   -- A stack is so many slots.
-  pub canonical-length : (S : List Subproblem) → ((P : Subproblem) → List·Memᴰ P S → Canonical n P) → length (stackWords n S) ≡ length S * (n + 2)
-  canonical-length S h = stack-length S (λ P m. enough P (h P m))
+  pub shape-length : (S : List Subproblem) → ((P : Subproblem) → List·Memᴰ P S → Shape n 16 P) → length (stackWords n S) ≡ length S * (n + 2)
+  shape-length S h = stack-length S (λ P m. enough P (h P m))
 
   -- A stack is read back from its words, whatever stands after them.
-  pub stack-read : (S : List Subproblem) → ((P : Subproblem) → List·Memᴰ P S → Canonical n P) → (more : List ℕ)
+  pub stack-read : (S : List Subproblem) → ((P : Subproblem) → List·Memᴰ P S → Shape n 16 P) → (more : List ℕ)
       → stackOf n (stackWords n S ++ more) (length S) ≡ S
   unfolding stackOf stackWords slotAt
   stack-read [] h more = refl
   stack-read (P ∷ S) h more =
-      let rest : (Q : Subproblem) → List·Memᴰ Q S → Canonical n Q = λ Q m. h Q (List·Memᴰ·tail m) in
-      let c : Canonical n P = h P (List·Memᴰ·head refl) in
+      let rest : (Q : Subproblem) → List·Memᴰ Q S → Shape n 16 Q = λ Q m. h Q (List·Memᴰ·tail m) in
+      let c : Shape n 16 P = h P (List·Memᴰ·head refl) in
       rw (append-assoc (stackWords n S) (slotWords n P) more)
-      (ap₂ {C = List Subproblem} (λ Q T. Q ∷ T) (ap (subproblemOf n) (slot S P more (canonical-length S rest) (slot-length n P (enough P c))) ∙ slot-read n P few c)
+      (ap₂ {C = List Subproblem} (λ Q T. Q ∷ T) (ap (subproblemOf n) (slot S P more (shape-length S rest) (slot-length n P (enough P c))) ∙ slot-read n P few c)
       (stack-read S rest (slotWords n P ++ more)))
     where
       slot : (S : List Subproblem) (P : Subproblem) (more : List ℕ) → length (stackWords n S) ≡ length S * (n + 2) → length (slotWords n P) ≡ n + 2
@@ -119,22 +118,22 @@ module _ (n : ℕ) (few : n ≤ 32) where
           rw (drop-at (stackWords n S) (slotWords n P ++ more) (length S * (n + 2)) e) (take-at (slotWords n P) more (n + 2) f)
 
   -- An agenda that holds it has as many words, and says it.
-  pub agenda-length : (words : ℕ) (S : List Subproblem) → ((P : Subproblem) → List·Memᴰ P S → Canonical n P) → length S * (n + 2) ≤ words
+  pub agenda-length : (words : ℕ) (S : List Subproblem) → ((P : Subproblem) → List·Memᴰ P S → Shape n 16 P) → length S * (n + 2) ≤ words
       → length (agendaOf n words S) ≡ words
   unfolding agendaOf
-  agenda-length words S h l = simp (length-append, length-replicate) (omega (arith, canonical-length S h))
+  agenda-length words S h l = simp (length-append, length-replicate) (omega (arith, shape-length S h))
 
   -- The stack is read back from the agenda that holds it.
-  pub agenda-read : (words : ℕ) (S : List Subproblem) → ((P : Subproblem) → List·Memᴰ P S → Canonical n P) → stackOf n (agendaOf n words S) (length S) ≡ S
+  pub agenda-read : (words : ℕ) (S : List Subproblem) → ((P : Subproblem) → List·Memᴰ P S → Shape n 16 P) → stackOf n (agendaOf n words S) (length S) ≡ S
   unfolding agendaOf
   agenda-read words S h = stack-read S h (replicate (words - length (stackWords n S)) 0)
 
   -- Past the stack it has zeros.
-  pub agenda-zero : (words : ℕ) (S : List Subproblem) → ((P : Subproblem) → List·Memᴰ P S → Canonical n P) → (k : ℕ) → length S * (n + 2) ≤ k
+  pub agenda-zero : (words : ℕ) (S : List Subproblem) → ((P : Subproblem) → List·Memᴰ P S → Shape n 16 P) → (k : ℕ) → length S * (n + 2) ≤ k
       → getD (agendaOf n words S) k 0 ≡ 0
   unfolding agendaOf
   agenda-zero words S h k l =
-      padded-at (stackWords n S) (words - length (stackWords n S)) k ∙ List·getD-eq-default (stackWords n S) 0 (rw (canonical-length S h) l)
+      padded-at (stackWords n S) (words - length (stackWords n S)) k ∙ List·getD-eq-default (stackWords n S) 0 (rw (shape-length S h) l)
 
   -- ---- read, then written
 
@@ -158,13 +157,13 @@ module _ (n : ℕ) (few : n ≤ 32) where
     ]
 
     -- Each is as memory holds it.
-    pub of-canonical : (m : ℕ) → m * (n + 2) ≤ length ws → (P : Subproblem) → List·Memᴰ P (stackOf n ws m) → Canonical n P
+    pub of-shape : (m : ℕ) → m * (n + 2) ≤ length ws → (P : Subproblem) → List·Memᴰ P (stackOf n ws m) → Shape n 16 P
     unfolding stackOf
-    of-canonical zero l P x = absurd (List·Memᴰ·not-nil x)
-    of-canonical (suc m) l P x =
+    of-shape zero l P x = absurd (List·Memᴰ·not-nil x)
+    of-shape (suc m) l P x =
         ⊎-elim
-        (λ (e : P ≡ subproblemOf n (slotAt n ws m)). rw e (slot-canonical n (slotAt n ws m) (slot-words m l) (slot-small m) few))
-        (λ (y : List·Memᴰ P (stackOf n ws m)). of-canonical m (omega (arith, suc-mul m (n + 2))) P y) (List·Memᴰ·cases-cons x)
+        (λ (e : P ≡ subproblemOf n (slotAt n ws m)). rw e (slot-shape n (slotAt n ws m) (slot-words m l) (slot-small m) few))
+        (λ (y : List·Memᴰ P (stackOf n ws m)). of-shape m (omega (arith, suc-mul m (n + 2))) P y) (List·Memᴰ·cases-cons x)
 
     -- A stack that was read is written back.
     pub stack-written : (m : ℕ) → m * (n + 2) ≤ length ws → stackWords n (stackOf n ws m) ≡ take (m * (n + 2)) ws

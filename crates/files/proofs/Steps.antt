@@ -24,6 +24,7 @@ use Rattle.splits.proofs.Lists.{each-none, each-more, each-of, member-keep}
 use Rattle.splits.proofs.Domains.{length-changed, changed-after}
 use Rattle.splits.proofs.ByKind.{kinds, no-kind}
 use Rattle.splits.proofs.Splitting.{domain-lt}
+use Rattle.search.specs.Agenda.{Shape}
 use Rattle.search.specs.Runs.{Search, step, refusalOfRequest, run}
 use Rattle.search.specs.Chooser.{choose}
 use Rattle.search.specs.Promises.{Passes, picks}
@@ -31,7 +32,6 @@ use Rattle.search.proofs.Verdicts.{running-top}
 use Rattle.search.proofs.Runs.{run-ind}
 use Rattle.search.proofs.Passing.{step-is, splits, step-passes}
 use Rattle.search.proofs.Picking.{picked}
-use Rattle.files.specs.Promises.{Canonical}
 
 -- ---- as memory holds it
 
@@ -146,9 +146,9 @@ module _ {p : Problem} {P : Subproblem} {r : List ℕ} (s : Splits p P r) (t : T
   tidy-pieces Q m = tidy-named Q (member-keep (λ Q. not (empty (p .n) Q)) (named (p .n) (p .allowed) P r) m .1)
 
 -- A subproblem that obeys the rules and is tidy is as memory holds it.
-pub tidy-canonical : (p : Problem) (P : Subproblem) → Proper p → Rules p P → Tidy (p .n) P → Canonical (p .n) P
-tidy-canonical p P proper rules t = record {
-  entries = t .entries;
+pub tidy-shape : (p : Problem) (P : Subproblem) → Proper p → Rules p P → Tidy (p .n) P → Shape (p .n) 16 P
+tidy-shape p P proper rules t = record {
+  long = t .entries;
   past = t .past;
   marks = lt-of-lt-of-le (bit-lt (p .n) (P .marked) (λ v l. omega (arith, bit-le (P .marked) v, rules .marks v l))) (pow-mono (proper .variables));
   masks = λ i. elim (decLt i (p .n)) [

@@ -10,7 +10,7 @@ use lib.Arith.{digits-lt}
 use lib.ListN.{length, getD}
 use lib.Dec.{eqb}
 use borrow.Author.Tests.{ne-eqb}
-use Rattle.splits.specs.Problem.{Table, tableOf, total}
+use Rattle.splits.specs.Problem.{Table, Allow-same, tableOf, total}
 use Rattle.splits.specs.Splits.{below}
 use Rattle.splits.proofs.Ranges.{word-at}
 use Rattle.files.specs.Content.{each, after, triangle}
@@ -182,5 +182,5 @@ module _ (n d : ℕ) (allowed : Table) where
       ∙ map-at (mask i j) d a 0 m
 
   -- That of two different variables is what is allowed.
-  pub table-other : (i j a : ℕ) → i < n → j < n → (i ≡ j → ⊥) → a < d → tableOf n d (tableWords n d allowed) i j a ≡ allowed i j a
+  pub table-other : Allow-same n d (tableOf n d (tableWords n d allowed)) allowed
   table-other i j a h l f m = table-at i j a h l m ∙ rw (ne-eqb i j f) refl

@@ -4,13 +4,13 @@ use mathlib.Core.Logic.{_↔_}
 use mathlib.Core.List.{List, List·Memᴰ, [], _∷_, _++_}
 use Prim.Native.Nat.{ℕ, _+_, _-_, _*_, _/_, _%_, _^_, _≤_, _<_}
 use lib.ListN.{length, getD, take, drop}
-use Rattle.splits.specs.Problem.{Problem, Proper, Table, Solution, possibilities, tableOf}
+use Rattle.splits.specs.Problem.{Problem, Proper, Table, Allow-same, Solution, possibilities, tableOf}
 use Rattle.splits.specs.Masks.{lowest, single}
 use Rattle.splits.specs.Subproblems.{domain}
 use Rattle.splits.specs.Measure.{sum}
 use Rattle.splits.specs.Promises.{Solvable, AgreeApart, One}
 use Rattle.splits.specs.declared.subproblem.Subproblem.{Subproblem}
-use Rattle.search.specs.Agenda.{problemOf, stackOf, slotsIn, agendaOf}
+use Rattle.search.specs.Agenda.{Words, problemOf, Shape, stackOf, slotsIn, agendaOf}
 use Rattle.search.specs.FirstChecks.{WholeSlots, WholeRequests, Deserves-3, searchRefusal}
 use Rattle.search.specs.Runs.{Search}
 use Rattle.search.specs.Calls.{searchOf, Opens, Runs, Chooses}
@@ -26,23 +26,9 @@ use Rattle.files.specs.Calls.{Check-of, handedContent, saveRefusal, Save
 use Rattle.files.specs.declared.saved.Saved.{Saved}
 use Rattle.files.specs.declared.saved.Loaded.{Loaded}
 
--- Words of 16 bits, and bytes.
-abbrev pub Words : List ℕ → Type 0
-Words l = (k : ℕ) → getD l k 0 < 65536
-
+-- A list of bytes.
 abbrev pub Bytes : List ℕ → Type 0
 Bytes l = (k : ℕ) → getD l k 0 < 256
-
--- A subproblem of n variables as memory holds it: 32 entries, those from n on empty, masks of 16 bits, 32 marks.
-pub record Canonical (n : ℕ) (P : Subproblem) : Type 0 where
-  pub entries : length (P .domains) ≡ 32
-  pub past : (i : ℕ) → n ≤ i → domain P i ≡ 0
-  pub marks : P .marked < 2 ^ 32
-  pub masks : (i : ℕ) → domain P i < 2 ^ 16
-
--- Two tables allow the same at every place of two different variables.
-abbrev pub Allow-same : ℕ → ℕ → Table → Table → Type 0
-Allow-same n d f g = (i j a : ℕ) → i < n → j < n → (i ≡ j → ⊥) → a < d → f i j a ≡ g i j a
 
 -- ---- blocks
 
@@ -151,14 +137,14 @@ Saves-back =
 abbrev pub Largest : Type 0
 Largest =
     (n d : ℕ) (domains : List ℕ) (allowed : Table) (s : Search) → n ≤ 32 → d ≤ 16 → length domains ≡ n → length (s .stack) ≤ 512
-    → ((P : Subproblem) → List·Memᴰ P (s .stack) → Canonical n P)
+    → ((P : Subproblem) → List·Memᴰ P (s .stack) → Shape n 16 P)
     → (length (contentOf n d domains allowed s) ≤ 25385) × (blocksFor (length (contentOf n d domains allowed s)) ≤ 101)
 
 -- It is met: n 32, d 16, 512 subproblems.
 abbrev pub Largest-met : Type 0
 Largest-met =
     (domains : List ℕ) (allowed : Table) (s : Search) → length domains ≡ 32 → length (s .stack) ≡ 512
-    → ((P : Subproblem) → List·Memᴰ P (s .stack) → Canonical 32 P)
+    → ((P : Subproblem) → List·Memᴰ P (s .stack) → Shape 32 16 P)
     → (length (contentOf 32 16 domains allowed s) ≡ 25385) × (blocksFor (length (contentOf 32 16 domains allowed s)) ≡ 101)
 
 -- ---- refusals

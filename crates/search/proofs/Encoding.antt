@@ -10,9 +10,8 @@ use native.Mathlib.Numerals.{add-one}
 use lib.ListN.{length, getD, take, drop, set, replicate, length-append, length-take, length-drop, length-replicate, take-append-drop, drop-of-length-le, getD-replicate, List·getD-eq-default, replicate-append-replicate}
 use lib.Seq.{length-take-le, drop-cons, append-snoc, set-append-left, take-set-lt, set-at, take-at, drop-at, getD-at, getD-take, getD-drop, getD-append-add, take-add, ext-getD}
 use Rattle.splits.specs.declared.subproblem.Subproblem.{Subproblem}
-use Rattle.search.specs.Agenda.{holding, slotWords, subproblemOf, slotAt, stackOf, stackWords, agendaOf}
+use Rattle.search.specs.Agenda.{holding, Shape, slotWords, subproblemOf, slotAt, stackOf, stackWords, agendaOf}
 use Rattle.search.specs.Work.Slots.{splice, SlotIn}
-use Rattle.search.specs.Work.Kept.{Shape}
 use Rattle.search.proofs.Copies.{drop-zeros, splice-between, splice-set}
 
 -- What the loop that copies domains makes.

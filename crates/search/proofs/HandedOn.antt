@@ -19,7 +19,7 @@ use Rattle.splits.specs.Splits.{pieces}
 use Rattle.splits.specs.declared.subproblem.Subproblem.{Subproblem}
 use Rattle.splits.proofs.Promises.{refusal-none}
 use Rattle.splits.specs.Ranges.{Sized}
-use Rattle.search.specs.Agenda.{problemOf, holding, stackOf, slotWords, stackWords, slotsIn, agendaOf}
+use Rattle.search.specs.Agenda.{problemOf, holding, Shape, stackOf, slotWords, stackWords, slotsIn, agendaOf}
 use Rattle.search.specs.Runs.{Search, Stopped, step, refusalOfRequest, run, requestsIn}
 use Rattle.search.specs.Chooser.{choose}
 use Rattle.search.specs.FirstChecks.{openRefusal, WholeSlots, WholeRequests, refusalOfRequests}
@@ -32,7 +32,6 @@ use Rattle.search.proofs.FirstPassing.{requests-none, open-is-passed, s
 use Rattle.search.proofs.Admitting.{search-ready}
 use Rattle.search.proofs.Picking.{picked}
 use Rattle.search.proofs.Reaching.{reached-holds}
-use Rattle.search.specs.Work.Kept.{Shape}
 use Rattle.search.specs.Verdicts.{numberOf, verdictOf}
 use Rattle.search.proofs.Verdicts.{running-top, is-unsolvable, is-solved, unsolvable-if, solved-top, shown, all-instantiated}
 use Rattle.search.proofs.Runs.{run-ind}

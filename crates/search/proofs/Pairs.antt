@@ -22,8 +22,9 @@ use Rattle.splits.proofs.Masks.{bit-none, bit-above}
 use Rattle.splits.proofs.Ranges.{word-at}
 use Rattle.splits.proofs.Tests.{or-cases, every-at, every-all, same-test}
 use Rattle.splits.proofs.Refusals.{every-same}
+use Rattle.search.specs.Agenda.{Words}
 use Rattle.search.specs.declared.matrix.Matrix.{Matrix}
-use Rattle.search.specs.Work.Matrices.{Words, rowIn, four, matrixOf, columns, difference}
+use Rattle.search.specs.Work.Matrices.{rowIn, four, matrixOf, columns, difference}
 use Rattle.search.specs.Work.FirstTests.{Narrow, maskBelow, pairBelow, rowBelow, bothWays, valueBothWays, pairBothWays, rowBothWays, joined, padded, oneWay}
 use Rattle.search.proofs.Copies.{drop-zeros, zeros-at}
 use Rattle.search.proofs.Joining.{joined-zero}
@@ -174,12 +175,12 @@ module _ (n d i j : ℕ) (t : List ℕ) (fit : Sized n d t) (h : i < n) (k : j <
 -- ---- 16 values
 
 -- of 16 values no word of the tables has a bit too many
-pub words-below : (n d : ℕ) (t : List ℕ) → d ≡ 16 → Words (rowIn t) → every n (rowBelow n d (tableOf n d t)) ≡ true
-unfolding rowBelow pairBelow maskBelow rowIn
+pub words-below : (n d : ℕ) (t : List ℕ) → d ≡ 16 → Words t → every n (rowBelow n d (tableOf n d t)) ≡ true
+unfolding rowBelow pairBelow maskBelow
 words-below n d t e w =
     let most : 2 ^ d ≡ 65536 = ap (λ (x : ℕ). 2 ^ x) e in
     every-all (rowBelow n d (tableOf n d t)) n (λ i h. every-all (pairBelow d (tableOf n d t) i) n (λ j k.
-    rw (every-all (maskBelow d (tableOf n d t) i j) d (λ a l. lt-ltb (tableOf n d t i j a) (2 ^ d) (rw (most, word-at n d t i j a l) (w .small ((i * n + j) * d + a))))) (or-true (eqb i j))))
+    rw (every-all (maskBelow d (tableOf n d t) i j) d (λ a l. lt-ltb (tableOf n d t i j a) (2 ^ d) (rw (most, word-at n d t i j a l) (w ((i * n + j) * d + a))))) (or-true (eqb i j))))
 
 pub whole-narrow : (n d : ℕ) (t : List ℕ) → d ≡ 16 → Narrow n d t → Narrow n 16 t
 whole-narrow n d t e h = subst (λ (x : ℕ). Narrow n x t) e h

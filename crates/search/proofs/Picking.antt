@@ -27,7 +27,7 @@ use Rattle.search.specs.Verdicts.{finished}
 use Rattle.search.specs.Runs.{Search, Stopped, splitTop, step, refusalOfRequest, runFrom}
 use Rattle.search.specs.Chooser.{fewestOf, fewest, request, chosen, chooseFrom}
 use Rattle.search.specs.Promises.{Passes, Fewest, Lowest, Chosen, picks}
-use Rattle.search.proofs.Verdicts.{running-top, instantiated-all}
+use Rattle.search.proofs.Verdicts.{running-top, finished-top, instantiated-all}
 use Rattle.search.proofs.Refusals.{only-11-12}
 use Rattle.search.proofs.Passing.{top-held, step-passes}
 
@@ -275,11 +275,10 @@ module _ (p : Problem) (room : ℕ) (P : Subproblem) (S : List Subproblem) (held
 pick-refusals : (p : Problem) (room : ℕ) (P : Subproblem) (S : List Subproblem) (s : Search) → Passes p room s → s .stack ≡ P ∷ S
     → finished (p .n) (s .stack) ≡ false →
     let k : ℕ = refusalOfRequest p room (chosen p room (s .stack)) s in (k ≡ 0) ⊎ (k ≡ 11) ⊎ (k ≡ 12)
-unfolding finished
 pick-refusals p room P S s h top e =
     let fits : length (P ∷ S) ≤ room = rw top at (h .fits) in
     only-11-12 p room P S s (chosen p room (s .stack)) top fits
-    (rw top (chosen-accepted p room P S (top-held p room P S s h top) (rw top at e) fits))
+    (rw top (chosen-accepted p room P S (top-held p room P S s h top) (sym (finished-top (p .n) P S) ∙ rw top at e) fits))
 
 -- So does the chooser.
 pub choose-refusals : (p : Problem) (room m : ℕ) (s : Search) (j : ℕ) → Passes p room s →

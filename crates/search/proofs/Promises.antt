@@ -7,7 +7,7 @@ use Prim.Native.Nat.{ℕ}
 use native.Mathlib.Omega.{arith}
 use lib.ListN.{getD}
 use Rattle.search.specs.Agenda.{problemOf}
-use Rattle.search.specs.Verdicts.{finished, numberOf, verdictOf}
+use Rattle.search.specs.Verdicts.{numberOf, verdictOf}
 use Rattle.search.specs.Runs.{Stopped}
 use Rattle.search.specs.Calls.{Ends}
 use Rattle.search.specs.declared.state.State.{State}
@@ -94,14 +94,12 @@ pub picks : Picks
 picks p room limit s = Picking.picked p room limit s 0
 
 pub chosen-so : Chosen-so
-unfolding finished
 chosen-so p room P S s h top e =
-    rw top (Picking.chosen-so p room P S (Passing.top-held p room P S s h top) (Verdicts.is-running (p .n) (P ∷ S) (Verdicts.is-run-on (verdictOf (p .n) (P ∷ S)) (rw top at e))) (rw top at (h .fits)))
+    rw top (Picking.chosen-so p room P S (Passing.top-held p room P S s h top) (sym (Verdicts.finished-top (p .n) P S) ∙ Verdicts.is-running (p .n) (P ∷ S) (Verdicts.is-run-on (verdictOf (p .n) (P ∷ S)) (rw top at e))) (rw top at (h .fits)))
 
 pub chosen-accepted : Chosen-accepted
-unfolding finished
 chosen-accepted p room P S s h top e =
-    rw top (Picking.chosen-accepted p room P S (Passing.top-held p room P S s h top) (Verdicts.is-running (p .n) (P ∷ S) (Verdicts.is-run-on (verdictOf (p .n) (P ∷ S)) (rw top at e))) (rw top at (h .fits)))
+    rw top (Picking.chosen-accepted p room P S (Passing.top-held p room P S s h top) (sym (Verdicts.finished-top (p .n) P S) ∙ Verdicts.is-running (p .n) (P ∷ S) (Verdicts.is-run-on (verdictOf (p .n) (P ∷ S)) (rw top at e))) (rw top at (h .fits)))
 
 pub chooser-refusals : Chooser-refusals
 chooser-refusals p room limit s h = Picking.choose-refusals p room limit s 0 h

@@ -1,7 +1,7 @@
 -- The loops of a run and of the chooser: a search goes on in memory as it does by the rules, request by request.
 -- Assumes nothing.
 use mathlib.Core.Path.{_≡_, refl, sym, ap, _∙_}
-use mathlib.Core.Bool.{Bool, true, false}
+use mathlib.Core.Bool.{Bool, true, false, not}
 use mathlib.Core.List.{List, List·Memᴰ·head, [], _∷_}
 use Prim.Native.Nat.{ℕ, zero, suc, _+_, _-_, _*_, _/_, _≤_, _<_}
 use native.Mathlib.Omega.{arith}
@@ -10,6 +10,7 @@ use native.Mathlib.Nat.{mul-le-mul-right, zero-mul, div-mul-le-self}
 use lib.ListN.{length, take, drop}
 use lib.Seq.{drop-drop}
 use lib.Dec.{eqb}
+use borrow.Author.Tests.{not-true, not-false}
 use Rattle.splits.specs.Problem.{Problem}
 use Rattle.splits.specs.Subproblems.{instantiated}
 use Rattle.splits.specs.declared.subproblem.Subproblem.{Subproblem}
@@ -27,6 +28,7 @@ use Rattle.search.specs.declared.state.State.{State}
 use Rattle.search.specs.declared.state.Verdict.the-variants.{Running, Solved, Unsolvable}
 use Rattle.search.specs.declared.step.Stop.{Stop}
 use Rattle.search.proofs.Encoding.{length-stackOf, agenda-back}
+use Rattle.search.proofs.Verdicts.{finished-top}
 use Rattle.search.proofs.Stepping.{stack-more, run-on, run-stops, one-finished}
 use Rattle.search.proofs.Choosing.{chosen-is}
 
@@ -39,7 +41,7 @@ used-slot n m words u h = let up : (m - 1) + 1 ≡ m = omega arith in record { f
 module _ (n : ℕ) (agenda : List ℕ) (m : ℕ) where
   -- The empty agenda is finished.
   pub finished-empty : m ≡ 0 → finished n (stackOf n agenda m) ≡ true
-  unfolding finished stackOf
+  unfolding finished verdictOf stackOf
   finished-empty e = rw e refl
 
   -- It is unsolvable.
@@ -53,9 +55,8 @@ module _ (n : ℕ) (agenda : List ℕ) (m : ℕ) where
     stack-is = stack-more n agenda m P (omega arith) top
 
     -- A search is finished if its top is solved.
-    pub finished-is : finished n (stackOf n agenda m) ≡ b
-    unfolding finished
-    finished-is = rw stack-is (sym tested)
+    pub finished-is : not b ≡ false → finished n (stackOf n agenda m) ≡ true
+    finished-is e = rw stack-is (finished-top n P (stackOf n agenda (m - 1)) ∙ sym tested ∙ not-false b e)
 
     -- It is solved then.
     pub verdict-solved : b ≡ true → Solved ≡ verdictOf n (stackOf n agenda m)
@@ -94,8 +95,8 @@ module _ (n d : ℕ) (t agenda : List ℕ) (s : State) (ready : Ready n d t agen
 
   -- A search that runs may take a request.
   pub taking : (P : Subproblem) (b : Bool) → (s .subproblems ≡ 0 → ⊥) → P ≡ subproblemOf n (slotAt n agenda (s .subproblems - 1))
-      → b ≡ instantiated n P → b ≡ false → Taking n d t agenda P s
-  taking P b h top tested e = record { ready = ready; some = omega arith; top = top; runs = sym tested ∙ e }
+      → b ≡ instantiated n P → not b ≡ true → Taking n d t agenda P s
+  taking P b h top tested e = record { ready = ready; some = omega arith; top = top; runs = sym tested ∙ not-true b e }
 
 -- The search that a step left is the one that its words hold.
 pub left-is : (n d : ℕ) (t before after : List ℕ) (to : Stopped) (r : Stop) → StopsAt n d t before after to r → searchOf n after (r .state) ≡ to .search

@@ -25,7 +25,8 @@ use Rattle.splits.proofs.Domains.{Within, length-changed, within-changed, withi
 use Rattle.splits.proofs.Tests.{some-none}
 use Rattle.splits.proofs.ByKind.{kinds}
 use Rattle.splits.specs.Ranges.{Sized}
-use Rattle.search.specs.Work.Kept.{Shape, Regular}
+use Rattle.search.specs.Agenda.{Shape}
+use Rattle.search.specs.Work.Kept.{Regular}
 use Rattle.search.proofs.Candidates.{one, firsts, pieces-are}
 use Rattle.search.proofs.Accepting.{its-variable, its-value, its-target, a-kind, accepted-reads}
 

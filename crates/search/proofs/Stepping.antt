@@ -25,17 +25,18 @@ use Rattle.splits.proofs.ByKind.{kind-any}
 use Rattle.splits.proofs.Looking.{keep-append}
 use Rattle.splits.proofs.CheckLimit.{looked-le}
 use Rattle.splits.specs.Ranges.{Sized}
-use Rattle.search.specs.Agenda.{problemOf, subproblemOf, slotAt, stackOf, stackWords, slotsIn, agendaOf}
+use Rattle.search.specs.Agenda.{problemOf, Shape, subproblemOf, slotAt, stackOf, stackWords, slotsIn, agendaOf}
 use Rattle.search.specs.Verdicts.{finished}
 use Rattle.search.specs.Runs.{Search, splitTop, step, refusalOfTop, refusalOfRequest, runFrom}
 use Rattle.search.specs.Work.Slots.{splice}
-use Rattle.search.specs.Work.Kept.{Shape, Regular, Ready}
+use Rattle.search.specs.Work.Kept.{Regular, Ready}
 use Rattle.search.specs.Work.Steps.{Replaced, Taking, StopsAt, refusalFor}
 use Rattle.search.specs.Calls.{searchOf}
 use Rattle.search.specs.declared.state.State.{State}
 use Rattle.search.proofs.Encoding.{length-stack, length-stackOf, stack-append, length-agenda, agenda-pop, agenda-push}
 use Rattle.search.proofs.Accepting.{accepted-reads, Unrefused, unrefused}
 use Rattle.search.proofs.Shapes.{pieces-regular}
+use Rattle.search.proofs.Verdicts.{finished-top}
 
 -- ---- the checks of a request are at most 512
 
@@ -178,8 +179,7 @@ module _ (n d : ℕ) (t agenda : List ℕ) (P : Subproblem) (r : List ℕ) (s : 
 
   -- The search is not finished.
   runs : finished n (stackOf n agenda (s .subproblems)) ≡ false
-  unfolding finished
-  runs = rw top-is (h .runs)
+  runs = rw top-is (finished-top n P (stackOf n agenda (s .subproblems - 1)) ∙ h .runs)
 
   -- The refusal that the code works out is that of the rules.
   its-refusal : refusalFor n d t P r (s .counts .steps .0) (slotsIn n (length agenda) - (s .subproblems - 1))

@@ -20,7 +20,8 @@ use Rattle.splits.proofs.Masks.{bit-zero, bit-suc, bit-le, bit-common, bit-or, 
 use Rattle.splits.proofs.Tests.{every-at}
 use Rattle.search.specs.declared.matrix.Matrix.{Matrix}
 use Rattle.search.specs.Matrix.{Turned}
-use Rattle.search.specs.Work.Matrices.{rowIn, four, matrixOf, risen, sunk, byOne, byTwo, within, byFour, byEight, columns, difference, wordAt, fourOf, rowsOf, Words}
+use Rattle.search.specs.Agenda.{Words}
+use Rattle.search.specs.Work.Matrices.{rowIn, four, matrixOf, risen, sunk, byOne, byTwo, within, byFour, byEight, columns, difference, wordAt, fourOf, rowsOf}
 use Rattle.search.proofs.Joining.{bit-shr}
 
 -- ---- digits of shifted words
@@ -457,17 +458,17 @@ rows-long : (m : Matrix) → length (rowsOf m) ≡ 16
 unfolding rowsOf fourOf
 rows-long m = refl
 
-all-turned : (rows : List ℕ) → Words (rowIn rows) → Turned rows (rowsOf (columns (matrixOf (rowIn rows))))
+all-turned : (rows : List ℕ) → Words rows → Turned rows (rowsOf (columns (matrixOf (rowIn rows))))
 unfolding rowIn
 all-turned rows w = record {
   long = rows-long (columns (matrixOf (rowIn rows)));
   small = row-lt (columns (matrixOf (rowIn rows)));
   mirror = λ a b h k.
-      row-digit (columns (matrixOf (rowIn rows))) a b h k ∙ mirror (matrixOf (rowIn rows)) a b h k ∙ matrix-cell (rowIn rows) b a (w .small) k h;
+      row-digit (columns (matrixOf (rowIn rows))) a b h k ∙ mirror (matrixOf (rowIn rows)) a b h k ∙ matrix-cell (rowIn rows) b a w k h;
 }
 
 -- What is packed, turned and taken apart again is turned.
-pub turned-made : (rows r : List ℕ) (m o : Matrix) → Words (rowIn rows) → m ≡ matrixOf (rowIn rows) → o ≡ columns m → r ≡ rowsOf o → Turned rows r
+pub turned-made : (rows r : List ℕ) (m o : Matrix) → Words rows → m ≡ matrixOf (rowIn rows) → o ≡ columns m → r ≡ rowsOf o → Turned rows r
 turned-made rows r m o w em eo er = rw (er, eo, em) (all-turned rows w)
 
 -- Two that are turned of the same rows are the same.

@@ -1,13 +1,13 @@
 -- When a search is unsolvable, solved or running, and that it is finished when it is not running.
 -- Assumes nothing.
-use mathlib.Core.Path.{_≡_, refl, sym}
+use mathlib.Core.Path.{_≡_, refl, sym, ap}
 use mathlib.Core.Logic.{_↔_}
-use mathlib.Core.Bool.{Bool, true, false, cond}
+use mathlib.Core.Bool.{Bool, true, false, not, cond}
 use mathlib.Core.List.{List, [], _∷_}
 use Prim.Native.Nat.{ℕ, _<_}
 use native.Mathlib.Omega.{arith}
 use lib.Dec.{eqb}
-use borrow.Author.Tests.{eq-eqb, eqb-true}
+use borrow.Author.Tests.{eq-eqb, ne-eqb, eqb-true, eqb-false, not-true, not-false}
 use Rattle.splits.specs.Masks.{bit, single, lowest}
 use Rattle.splits.specs.Problem.{Problem, Solution}
 use Rattle.splits.specs.Subproblems.{domain, Instantiated, instantiated}
@@ -51,38 +51,56 @@ top-solved n P S e = go (instantiated n P) e
     go true e = refl
     go false e = absurd (solved-running (sym e))
 
--- Finished is not running.
+-- ---- verdicts by their numbers
+
+pub is-unsolvable : (v : Verdict) → numberOf v ≡ 3 → v ≡ Unsolvable
+is-unsolvable None e = absurd (omega (arith, e))
+is-unsolvable Running e = absurd (omega (arith, e))
+is-unsolvable Solved e = absurd (omega (arith, e))
+is-unsolvable Unsolvable e = refl
+
+pub is-solved : (v : Verdict) → numberOf v ≡ 2 → v ≡ Solved
+is-solved None e = absurd (omega (arith, e))
+is-solved Running e = absurd (omega (arith, e))
+is-solved Solved e = refl
+is-solved Unsolvable e = absurd (omega (arith, e))
+
+pub is-run-on : (v : Verdict) → numberOf v ≡ 1 → v ≡ Running
+is-run-on None e = absurd (omega (arith, e))
+is-run-on Running e = refl
+is-run-on Solved e = absurd (omega (arith, e))
+is-run-on Unsolvable e = absurd (omega (arith, e))
+
+-- ---- finished is not running
+
 pub finished-not : (n : ℕ) (S : List Subproblem) → finished n S ≡ true → verdictOf n S ≡ Running → ⊥
-unfolding finished verdictOf
-finished-not n [] e h = unsolvable-running h
-finished-not n (P ∷ S) e h = go (instantiated n P) e h
-  where
-    go : (b : Bool) → b ≡ true → cond b Solved Running ≡ Running → ⊥
-    go true e h = solved-running h
-    go false e h = true-false (sym e)
+unfolding finished
+finished-not n S e h = eqb-false (numberOf (verdictOf n S)) 1 (not-true (eqb (numberOf (verdictOf n S)) 1) e) (ap numberOf h)
 
 pub running : (n : ℕ) (S : List Subproblem) → finished n S ≡ false → verdictOf n S ≡ Running
-unfolding finished verdictOf
-running n [] e = absurd (true-false e)
-running n (P ∷ S) e = rw e
+unfolding finished
+running n S e = is-run-on (verdictOf n S) (eqb-true (numberOf (verdictOf n S)) 1 (not-false (eqb (numberOf (verdictOf n S)) 1) e))
 
 pub not-running : (n : ℕ) (S : List Subproblem) → (verdictOf n S ≡ Running → ⊥) → finished n S ≡ true
-not-running n S h = go (finished n S) refl
-  where
-    go : (b : Bool) → finished n S ≡ b → b ≡ true
-    go true e = refl
-    go false e = absurd (h (running n S e))
+unfolding finished
+not-running n S h = ap not (ne-eqb (numberOf (verdictOf n S)) 1 (λ e. h (is-run-on (verdictOf n S) e)))
 
 pub is-running : (n : ℕ) (S : List Subproblem) → verdictOf n S ≡ Running → finished n S ≡ false
-is-running n S h = go (finished n S) refl
+unfolding finished
+is-running n S h = ap not (eq-eqb (numberOf (verdictOf n S)) 1 (ap numberOf h))
+
+-- Where there is a top, its test says it.
+pub finished-top : (n : ℕ) (P : Subproblem) (S : List Subproblem) → finished n (P ∷ S) ≡ instantiated n P
+unfolding finished verdictOf
+finished-top n P S = go (instantiated n P)
   where
-    go : (b : Bool) → finished n S ≡ b → b ≡ false
-    go true e = absurd (finished-not n S e h)
-    go false e = refl
+    go : (b : Bool) → not (eqb (numberOf (cond b Solved Running)) 1) ≡ b
+    go true = refl
+    go false = refl
 
 -- A running search has a top.
 pub running-top : (n : ℕ) (S : List Subproblem) → finished n S ≡ false → (P : Subproblem) × (T : List Subproblem) × (S ≡ P ∷ T)
-unfolding finished
+unfolding finished verdictOf
 running-top n [] e = absurd (true-false e)
 running-top n (P ∷ T) e = (P, T, refl)
 
@@ -110,26 +128,6 @@ running-if n (P ∷ S) = go (instantiated n P)
     go : (b : Bool) → (cond b Solved Running ≡ Running) ↔ ((cond b Solved Running ≡ Unsolvable → ⊥) × (cond b Solved Running ≡ Solved → ⊥))
     go true = (λ e. absurd (solved-running e), λ h. absurd (h .1 refl))
     go false = (λ e. (λ f. unsolvable-running (sym f), λ f. solved-running (sym f)), λ h. refl)
-
--- ---- verdicts by their numbers
-
-pub is-unsolvable : (v : Verdict) → numberOf v ≡ 3 → v ≡ Unsolvable
-is-unsolvable None e = absurd (omega (arith, e))
-is-unsolvable Running e = absurd (omega (arith, e))
-is-unsolvable Solved e = absurd (omega (arith, e))
-is-unsolvable Unsolvable e = refl
-
-pub is-solved : (v : Verdict) → numberOf v ≡ 2 → v ≡ Solved
-is-solved None e = absurd (omega (arith, e))
-is-solved Running e = absurd (omega (arith, e))
-is-solved Solved e = refl
-is-solved Unsolvable e = absurd (omega (arith, e))
-
-pub is-run-on : (v : Verdict) → numberOf v ≡ 1 → v ≡ Running
-is-run-on None e = absurd (omega (arith, e))
-is-run-on Running e = refl
-is-run-on Solved e = absurd (omega (arith, e))
-is-run-on Unsolvable e = absurd (omega (arith, e))
 
 -- ---- what "solved" shows
 

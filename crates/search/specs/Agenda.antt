@@ -1,9 +1,15 @@
 -- The agenda: a stack of subproblems, top first, and the words that hold it.
+use mathlib.Core.Path.{_≡_}
 use mathlib.Core.List.{List, [], _∷_, _++_}
-use Prim.Native.Nat.{ℕ, zero, suc, _+_, _-_, _*_, _/_, _%_}
+use Prim.Native.Nat.{ℕ, zero, suc, _+_, _-_, _*_, _/_, _%_, _^_, _≤_, _<_}
 use lib.ListN.{length, getD, take, drop, replicate}
 use Rattle.splits.specs.Problem.{Problem, tableOf}
+use Rattle.splits.specs.Subproblems.{domain}
 use Rattle.splits.specs.declared.subproblem.Subproblem.{Subproblem}
+
+-- Words of 16 bits.
+abbrev pub Words : List ℕ → Type 0
+Words l = (k : ℕ) → getD l k 0 < 65536
 
 -- The problem that the words say.
 abbrev pub problemOf : ℕ → ℕ → List ℕ → List ℕ → Problem
@@ -12,6 +18,13 @@ problemOf n d domains tables = record { n = n; d = d; domain = λ i. getD domain
 -- The subproblem of n domains, its entries past them empty.
 unfoldable pub holding : ℕ → List ℕ → ℕ → Subproblem
 holding n domains marked = record { domains = take n domains ++ replicate (32 - n) 0; marked = marked }
+
+-- A subproblem as a slot can hold it: 32 domains of d values, those from n on empty, and marks of 32 bits.
+pub record Shape (n d : ℕ) (P : Subproblem) : Type 0 where
+  pub long : length (P .domains) ≡ 32
+  pub masks : (i : ℕ) → domain P i < 2 ^ d
+  pub past : (i : ℕ) → n ≤ i → domain P i ≡ 0
+  pub marks : P .marked < 2 ^ 32
 
 -- A slot: n masks, then the instantiated set as two words, high first.
 unfoldable pub slotWords : ℕ → Subproblem → List ℕ

@@ -3,7 +3,7 @@
 use mathlib.Core.Path.{_≡_}
 use mathlib.Core.Logic.{_⊎_, _↔_}
 use mathlib.Core.List.{List, List·Memᴰ, [], _∷_, _++_, map}
-use Prim.Native.Nat.{ℕ, zero, suc, _+_, _-_, _*_, _^_, _≤_, _<_}
+use Prim.Native.Nat.{ℕ, zero, suc, _+_, _-_, _*_, _≤_, _<_}
 use lib.ListN.{length, getD, take, drop}
 use Rattle.splits.specs.Masks.{_∈_, single, size, lowest}
 use Rattle.splits.specs.Problem.{Problem, Proper, Solution, possibilities, tableOf}
@@ -14,7 +14,7 @@ use Rattle.splits.specs.Checks.{checks}
 use Rattle.splits.specs.Refusals.{Deserves-7, Deserves-8, Deserves-9, Deserves-10, Accepted}
 use Rattle.splits.specs.Promises.{Solvable, AgreeApart, One}
 use Rattle.splits.specs.declared.subproblem.Subproblem.{Subproblem}
-use Rattle.search.specs.Agenda.{problemOf, slotsIn, stackOf}
+use Rattle.search.specs.Agenda.{Words, problemOf, slotsIn, stackOf}
 use Rattle.search.specs.Verdicts.{numberOf, verdictOf}
 use Rattle.search.specs.Runs.{Search, Stopped, step, refusalOfRequest, run, requestsIn}
 use Rattle.search.specs.Chooser.{request, chosen, choose}
@@ -277,7 +277,7 @@ Reached-steps =
 
 -- A search in lent words that passes the first checks of the chooser and of save, its steps fitting their counter.
 pub record Handed (n d : ℕ) (domains tables agenda : List ℕ) (s : State) : Type 0 where
-  pub words : (i : ℕ) → getD agenda i 0 < 2 ^ 16
+  pub words : Words agenda
   pub stepped : s .counts .steps .0 ≤ 4294967295
   pub passes : searchRefusal n d domains tables agenda (s .counts .steps .0) (s .counts .checks .0) (s .subproblems) ≡ 0
 

@@ -1,9 +1,10 @@
 -- The verdicts, their numbers and their words.
-use mathlib.Core.Bool.{Bool, cond}
+use mathlib.Core.Bool.{Bool, not, cond}
 use mathlib.Core.List.{List, [], _∷_}
 use Prim.Native.Nat.{ℕ}
 use Prim.Native.Char.{code}
 use Prim.Native.String.{String, [] as []ᵗ, _∷_ as _∷ᵗ_}
+use lib.Dec.{eqb}
 use Rattle.splits.specs.Subproblems.{instantiated}
 use Rattle.splits.specs.declared.subproblem.Subproblem.{Subproblem}
 use Rattle.search.specs.declared.state.Verdict.{Verdict}
@@ -35,5 +36,4 @@ verdictOf n (P ∷ S) = cond (instantiated n P) Solved Running
 
 -- A search is finished when its verdict is not running.
 unfoldable pub finished : ℕ → List Subproblem → Bool
-finished n [] = Bool.true
-finished n (P ∷ S) = instantiated n P
+finished n S = not (eqb (numberOf (verdictOf n S)) 1)

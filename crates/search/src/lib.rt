@@ -116,14 +116,11 @@ fn run_on(
     while taken < count {
         let at = taken * (n + 3);
         let end = at + (n + 3);
-        let stop = step_by(n, d, tables, agenda, &requests[at..end], state);
+        let mut stop = step_by(n, d, tables, agenda, &requests[at..end], state);
         state = stop.state;
         if stop.taken == 0 {
-            return Stop {
-                refusal: stop.refusal,
-                taken,
-                state,
-            };
+            stop.taken = taken;
+            return stop;
         }
         taken += 1;
     }
@@ -147,22 +144,17 @@ fn step_by(
     ensures { λ r. ⌜ TakesOne n d (now (tables .entry)) (now (agenda .entry)) (now (agenda .exit)) (now (request .entry)) state r ⌝ }
 {
     let subproblems = state.subproblems;
-    if subproblems == 0 {
-        return Stop {
-            refusal: 0,
-            taken: 0,
-            state,
-        };
+    if subproblems != 0 {
+        let top = agenda::read_slot(n, agenda, subproblems - 1);
+        if !top.all_instantiated(n) {
+            return step::take(top, n, d, tables, agenda, request, state);
+        }
     }
-    let top = agenda::read_slot(n, agenda, subproblems - 1);
-    if top.all_instantiated(n) {
-        return Stop {
-            refusal: 0,
-            taken: 0,
-            state,
-        };
+    Stop {
+        refusal: 0,
+        taken: 0,
+        state,
     }
-    step::take(top, n, d, tables, agenda, request, state)
 }
 
 // Runs up to `limit` steps by the house chooser.
@@ -208,14 +200,11 @@ fn choose_on(
     let mut rows = [none; 512];
     let below = lanes::below(n);
     while taken < limit {
-        let stop = step_chosen(below, n, d, tables, agenda, &mut rows, state);
+        let mut stop = step_chosen(below, n, d, tables, agenda, &mut rows, state);
         state = stop.state;
         if stop.taken == 0 {
-            return Stop {
-                refusal: stop.refusal,
-                taken,
-                state,
-            };
+            stop.taken = taken;
+            return stop;
         }
         taken += 1;
     }
@@ -240,22 +229,17 @@ fn step_chosen(
     ensures { λ r. ⌜ ChoosesOne n d (now (tables .entry)) (now (agenda .entry)) (now (agenda .exit)) state r × Rows n d (now (tables .entry)) (now (rows .exit)) ⌝ }
 {
     let subproblems = state.subproblems;
-    if subproblems == 0 {
-        return Stop {
-            refusal: 0,
-            taken: 0,
-            state,
-        };
+    if subproblems != 0 {
+        let top = agenda::read_lanes(below, n, agenda, subproblems - 1);
+        if !top.all_instantiated(n) {
+            return choice::take_chosen(top, n, d, tables, agenda, rows, state);
+        }
     }
-    let top = agenda::read_lanes(below, n, agenda, subproblems - 1);
-    if top.all_instantiated(n) {
-        return Stop {
-            refusal: 0,
-            taken: 0,
-            state,
-        };
+    Stop {
+        refusal: 0,
+        taken: 0,
+        state,
     }
-    choice::take_chosen(top, n, d, tables, agenda, rows, state)
 }
 
 // What a call returns that stopped so.

@@ -4,7 +4,8 @@ ghost use Prim.Native.Nat.{_+_, _-_, _*_, _%_, _^_, _≤_, _<_};
 ghost use lib.Bits.{bitAnd};
 ghost use lib.ListN.{length};
 ghost use Rattle.search.specs.Matrix.{Turned};
-ghost use Rattle.search.specs.Work.Matrices.{rowIn, four, matrixOf, unlike, risen, sunk, byOne, byTwo, within, byFour, byEight, columns, difference, wordAt, rowsOf, Words};
+ghost use Rattle.search.specs.Agenda.{Words};
+ghost use Rattle.search.specs.Work.Matrices.{rowIn, four, matrixOf, unlike, risen, sunk, byOne, byTwo, within, byFour, byEight, columns, difference, wordAt, rowsOf};
 
 // 16 rows of 16 bits, four rows to a word.
 pub(crate) struct Matrix {
@@ -114,7 +115,7 @@ pub(crate) fn difference(m: Matrix, o: Matrix) -> u64
 // Four rows in a word.
 fn four(rows: &[u16], k: usize) -> u64
     requires { ⌜ k + 4 ≤ length (now rows) ⌝ }
-    ensures { λ r. ⌜ (r ≡ four (rowIn (now (rows .entry))) k) × Words (rowIn (now (rows .entry))) ⌝ }
+    ensures { λ r. ⌜ (r ≡ four (rowIn (now (rows .entry))) k) × Words (now (rows .entry)) ⌝ }
 {
     (rows[k] as u64)
         + (rows[k + 1] as u64) * 65536
@@ -125,7 +126,7 @@ fn four(rows: &[u16], k: usize) -> u64
 // 16 rows.
 pub(crate) fn matrix_of(rows: &[u16]) -> Matrix
     requires { ⌜ length (now rows) ≡ 16 ⌝ }
-    ensures { λ r. ⌜ (r ≡ matrixOf (rowIn (now (rows .entry)))) × Words (rowIn (now (rows .entry))) ⌝ }
+    ensures { λ r. ⌜ (r ≡ matrixOf (rowIn (now (rows .entry)))) × Words (now (rows .entry)) ⌝ }
 {
     Matrix {
         first: four(rows, 0),

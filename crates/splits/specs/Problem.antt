@@ -16,6 +16,10 @@ Table = ℕ → ℕ → ℕ → ℕ
 unfoldable pub tableOf : ℕ → ℕ → List ℕ → Table
 tableOf n d words i j a = cond (ltb a d) (getD words ((i * n + j) * d + a) 0) 0
 
+-- Two tables allow the same at every place of two different variables.
+abbrev pub Allow-same : ℕ → ℕ → Table → Table → Type 0
+Allow-same n d f g = (i j a : ℕ) → i < n → j < n → (i ≡ j → ⊥) → a < d → f i j a ≡ g i j a
+
 pub record Problem : Type 0 where
   pub n : ℕ
   pub d : ℕ

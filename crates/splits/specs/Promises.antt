@@ -6,7 +6,7 @@ use mathlib.Core.List.{List, [], _∷_, map, List·Memᴰ}
 use Prim.Native.Nat.{ℕ, _+_, _-_, _/_, _^_, _≤_, _<_}
 use lib.ListN.{length, getD}
 use Rattle.splits.specs.Masks.{_∈_, Part, single, size, lowest, smallerHalf}
-use Rattle.splits.specs.Problem.{Table, Problem, Proper, Possibility, tableOf}
+use Rattle.splits.specs.Problem.{Table, Allow-same, Problem, Proper, Possibility, tableOf}
 use Rattle.splits.specs.Subproblems.{domain, Instantiated, Rules, SolutionOf, sizeOf}
 use Rattle.splits.specs.Requests.{kindOf, variableOf, valueOf, targetOf}
 use Rattle.splits.specs.Splits.{below, without, cutBeside, precluded, filled, pieces, candidates, candidate}
@@ -207,7 +207,7 @@ Reads-checks = (n : ℕ) (allowed : Table) (P : Subproblem) (r s : List ℕ) →
 -- Tables of as many words that agree wherever two different variables meet.
 pub record AgreeApart (n d : ℕ) (tables others : List ℕ) : Type 0 where
   pub words : length tables ≡ length others
-  pub masks : (i j a : ℕ) → i < n → j < n → (i ≡ j → ⊥) → a < d → tableOf n d tables i j a ≡ tableOf n d others i j a
+  pub masks : Allow-same n d (tableOf n d tables) (tableOf n d others)
 
 -- The places for i with itself are never read: no piece depends on them.
 abbrev pub Diagonal-piece : Type 0

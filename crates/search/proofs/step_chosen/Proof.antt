@@ -1,52 +1,52 @@
 -- `search::step_chosen` meets its contract.
 -- Assumes nothing.
 use native.Mathlib.Omega.{arith}
-use mathlib.Core.Path.{refl, _∙_}
+use mathlib.Core.Path.{refl}
 use Rattle.search.proofs.Running.{used-slot, ready-used, finished-empty, finished-is, stays-chosen, taking, chosen-stops}
 use Rattle.search.proofs.step_chosen.Statement.{statement}
 use Rattle.search.proofs.step_chosen.Tie as tie
-
-returns : tie.Need-returns
-returns c = (stays-chosen _ _ _ _ _ (c .before .before .before .pre .0) (finished-empty _ _ _ (c .if1 .taken)), c .before .before .before .pre .1 .0)
 
 sub-read-lanes : tie.Need-sub-read-lanes
 sub-read-lanes c = omega arith
 
 read-lanes-requires : tie.Need-read-lanes-requires
-read-lanes-requires c κs = (used-slot _ _ _ (ready-used _ _ (c .before .before .before .before .args .tables .now) _ _ (c .before .before .before .before .pre .0)) (c .before .if1 .left), c .before .before .before .before .pre .1 .1)
+read-lanes-requires c κs = (used-slot _ _ _ (ready-used _ _ (c .before .before .before .before .args .tables .now) _ _ (c .before .before .before .before .pre .0)) (c .before .if1 .taken), c .before .before .before .before .pre .1 .1)
 
 all-instantiated-requires : tie.Need-all-instantiated-requires
 all-instantiated-requires c κs = tt
 
+take-chosen-requires : tie.Need-take-chosen-requires
+take-chosen-requires c κs = (taking _ _ _ _ _ (c .before .before .before .before .before .before .before .before .before .pre .0) _ _ (c .before .before .before .before .before .before .if1 .taken) (c .before .before .before .before .read-lanes .ensures) (c .before .before .before .all-instantiated .ensures) (c .before .before .if2 .taken), c .before .before .before .before .before .before .before .before .before .pre .1 .0)
+
 same-length : tie.Need-same-length
 same-length c = omega arith
-
-returns-2 : tie.Need-returns-2
-returns-2 c = (stays-chosen _ _ _ _ _ (c .before .before .before .before .before .before .before .pre .0) (finished-is _ _ _ (c .before .before .before .before .if1 .left) _ (c .before .before .read-lanes .ensures) _ (c .before .all-instantiated .ensures) ∙ c .if2 .taken), c .before .before .before .before .before .before .before .pre .1 .0)
-
-take-chosen-requires : tie.Need-take-chosen-requires
-take-chosen-requires c κs = (taking _ _ _ _ _ (c .before .before .before .before .before .before .before .before .before .pre .0) _ _ (c .before .before .before .before .before .before .if1 .left) (c .before .before .before .before .read-lanes .ensures) (c .before .before .before .all-instantiated .ensures) (c .before .before .if2 .left), c .before .before .before .before .before .before .before .before .before .pre .1 .0)
 
 same-length-2 : tie.Need-same-length-2
 same-length-2 c = omega arith
 
+returns : tie.Need-returns
+returns c = (chosen-stops _ _ _ _ _ (c .before .before .before .before .before .before .before .before .before .before .before .before .before .pre .0) _ (c .before .before .before .before .before .before .before .before .before .before .if1 .taken) (c .before .before .before .before .before .before .before .before .read-lanes .ensures) _ _ _ refl (c .before .before .before .take-chosen .ensures .0), c .before .before .before .take-chosen .ensures .1)
+
 same-length-3 : tie.Need-same-length-3
 same-length-3 c = omega arith
 
+returns-2 : tie.Need-returns-2
+returns-2 c = (stays-chosen _ _ _ _ _ (c .before .before .before .before .before .before .before .pre .0) (finished-is _ _ _ (c .before .before .before .before .if1 .taken) _ (c .before .before .read-lanes .ensures) _ (c .before .all-instantiated .ensures) (c .if2 .left)), c .before .before .before .before .before .before .before .pre .1 .0)
+
 returns-3 : tie.Need-returns-3
-returns-3 c = (chosen-stops _ _ _ _ _ (c .before .before .before .before .before .before .before .before .before .before .before .before .before .pre .0) _ (c .before .before .before .before .before .before .before .before .before .before .if1 .left) (c .before .before .before .before .before .before .before .before .read-lanes .ensures) _ _ _ refl (c .before .before .before .take-chosen .ensures .0), c .before .before .before .take-chosen .ensures .1)
+returns-3 c = (stays-chosen _ _ _ _ _ (c .before .before .before .pre .0) (finished-empty _ _ _ (c .if1 .left)), c .before .before .before .pre .1 .0)
 
 pub step-chosen-spec : {M : Type 1} → statement M
 step-chosen-spec =
     tie.close
     (tie.spec
-    returns
     sub-read-lanes
     read-lanes-requires
     all-instantiated-requires
-    same-length
-    returns-2
     take-chosen-requires
+    same-length
     same-length-2
+    returns
     same-length-3
+    returns-2
     returns-3)

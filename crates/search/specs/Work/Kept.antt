@@ -6,17 +6,10 @@ use lib.ListN.{length}
 use Rattle.splits.specs.Subproblems.{domain}
 use Rattle.splits.specs.declared.subproblem.Subproblem.{Subproblem}
 use Rattle.splits.specs.Ranges.{Sized}
-use Rattle.search.specs.Agenda.{slotsIn, agendaOf}
+use Rattle.search.specs.Agenda.{Shape, slotsIn, agendaOf}
 use Rattle.search.specs.Runs.{Search}
 
--- A subproblem as a slot can hold it: 32 domains of d values, those from n on empty, and marks of 32 bits.
-pub record Shape (n d : ℕ) (P : Subproblem) : Type 0 where
-  pub long : length (P .domains) ≡ 32
-  pub masks : (i : ℕ) → domain P i < 2 ^ d
-  pub past : (i : ℕ) → n ≤ i → domain P i ≡ 0
-  pub marks : P .marked < 2 ^ 32
-
--- One on the agenda: no domain is empty.
+-- A subproblem on the agenda: no domain is empty.
 pub record Regular (n d : ℕ) (P : Subproblem) : Type 0 where
   pub shape : Shape n d P
   pub filled : (i : ℕ) → i < n → domain P i ≡ 0 → ⊥

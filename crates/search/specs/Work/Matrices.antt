@@ -1,6 +1,6 @@
 -- 16 rows of 16 bits in four words of 64, and rows for columns in four steps.
 use mathlib.Core.List.{List, [], _∷_, _++_}
-use Prim.Native.Nat.{ℕ, _+_, _-_, _*_, _/_, _%_, _^_, _<_}
+use Prim.Native.Nat.{ℕ, _+_, _-_, _*_, _/_, _%_, _^_}
 use lib.Bits.{bitAnd, bitOr, bitXor}
 use lib.ListN.{getD}
 use Rattle.search.specs.declared.matrix.Matrix.{Matrix}
@@ -8,10 +8,6 @@ use Rattle.search.specs.declared.matrix.Matrix.{Matrix}
 -- Word a of some.
 unfoldable pub rowIn : List ℕ → ℕ → ℕ
 rowIn rows a = getD rows a 0
-
--- Rows of 16 bits.
-pub record Words (row : ℕ → ℕ) : Type 0 where
-  pub small : (a : ℕ) → row a < 65536
 
 -- 16 rows, four to a word.
 unfoldable pub four : (ℕ → ℕ) → ℕ → ℕ

@@ -2,14 +2,12 @@
 -- Assumes nothing.
 use mathlib.Core.Path.{sym}
 use borrow.Author.Needs.{needs}
-use Rattle.search.specs.Work.Matrices.{rowIn}
 use Rattle.search.proofs.Pairs.{words-below}
 use Rattle.search.proofs.first.tables_below.Statement.{statement}
 use Rattle.search.proofs.first.tables_below.Tie as tie
 
 returns : tie.Need-returns
-unfolding rowIn
-returns c = sym (words-below _ _ _ (c .if1 .taken) (record { small = λ a. c .before .shared-slice-known .given a .fits }))
+returns c = sym (words-below _ _ _ (c .if1 .taken) (λ a. c .before .shared-slice-known .given a .fits))
 
 rows-below-requires : tie.Need-rows-below-requires
 rows-below-requires c κs = search needs

@@ -92,7 +92,7 @@ add-result-6 c =
 
 returns : tie.Need-returns
 unfolding four rowIn
-returns c = (refl, record { small = λ a. c .shared-slice-known4 .given a .fits })
+returns c = (refl, λ a. c .shared-slice-known4 .given a .fits)
 
 pub four-spec : {M : Type 1} → statement M
 four-spec =
