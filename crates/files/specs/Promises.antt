@@ -4,7 +4,7 @@ use mathlib.Core.Logic.{_↔_}
 use mathlib.Core.List.{List, List·Memᴰ, [], _∷_, _++_}
 use Prim.Native.Nat.{ℕ, _+_, _-_, _*_, _/_, _%_, _^_, _≤_, _<_}
 use lib.ListN.{length, getD, take, drop}
-use Rattle.splits.specs.Problem.{Problem, Proper, Table, Allow-same, Solution, possibilities, tableOf}
+use Rattle.splits.specs.Problem.{Problem, Proper, Table, Allow-same, Solution, tableOf}
 use Rattle.splits.specs.Masks.{lowest, single}
 use Rattle.splits.specs.Subproblems.{domain}
 use Rattle.splits.specs.Measure.{sum}
@@ -14,7 +14,7 @@ use Rattle.search.specs.Agenda.{Words, problemOf, Shape, stackOf, slotsIn, agen
 use Rattle.search.specs.FirstChecks.{WholeSlots, WholeRequests, Deserves-3, searchRefusal}
 use Rattle.search.specs.Runs.{Search}
 use Rattle.search.specs.Calls.{searchOf, Opens, Runs, Chooses}
-use Rattle.search.specs.Promises.{Handed, Reached, Has-solution}
+use Rattle.search.specs.Promises.{Limited, Handed, Reached, Has-solution}
 use Rattle.search.specs.Verdicts.{numberOf}
 use Rattle.search.specs.declared.state.State.{State}
 use Rattle.search.specs.declared.state.Opened.{Opened}
@@ -275,12 +275,9 @@ Lives Said =
 abbrev pub Lived-solvable : Type 0
 Lived-solvable = Lives (λ p slots s. Has-solution p ↔ ((P : Subproblem) × List·Memᴰ P (s .stack) × Solvable p P))
 
--- With S possibilities at most S × (n + 1) − 1 steps were taken, none where S is 0; hence at most S × (n + 2).
+-- The steps taken are limited by the possibilities.
 abbrev pub Lived-steps : Type 0
-Lived-steps =
-    Lives (λ p slots s.
-    let S : ℕ = possibilities (p .n) (p .domain) in
-    (s .steps ≤ S * (p .n + 1) - 1) × (S ≡ 0 → s .steps ≡ 0) × (s .steps ≤ S * (p .n + 2)))
+Lived-steps = Lives (λ p slots s. Limited p s)
 
 -- The checks are at most 496 × steps.
 abbrev pub Lived-checks : Type 0

@@ -266,12 +266,14 @@ Reached-solvable =
 abbrev pub Reached-unsolvable : Type 0
 Reached-unsolvable = Reaches (λ p room s. numberOf (verdictOf (p .n) (s .stack)) ≡ 3 → Has-solution p → ⊥)
 
--- With S possibilities at most S × (n + 1) − 1 steps were taken, none where S is 0; hence at most S × (n + 2).
+-- With S possibilities, `count` here, at most S × (n + 1) − 1 steps were taken, none where S is 0; hence at most S × (n + 2).
+abbrev pub Limited : Problem → Search → Type 0
+Limited p s =
+    let count : ℕ = possibilities (p .n) (p .domain) in
+    (s .steps ≤ count * (p .n + 1) - 1) × (count ≡ 0 → s .steps ≡ 0) × (s .steps ≤ count * (p .n + 2))
+
 abbrev pub Reached-steps : Type 0
-Reached-steps =
-    Reaches (λ p room s.
-    let S : ℕ = possibilities (p .n) (p .domain) in
-    (s .steps ≤ S * (p .n + 1) - 1) × (S ≡ 0 → s .steps ≡ 0) × (s .steps ≤ S * (p .n + 2)))
+Reached-steps = Reaches (λ p room s. Limited p s)
 
 -- ---- what a call leaves, handed on unaltered with its problem
 
