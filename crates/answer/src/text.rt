@@ -105,7 +105,7 @@ impl Text {
         ensures { λ r. ⌜ Adds self (valueLine variable domain) r ⌝ }
     {
         let text = self.with_number(variable as u64).with_byte(32);
-        text.with_number(mask::first(domain) as u64).with_byte(10)
+        text.with_number(mask::lowest(domain) as u64).with_byte(10)
     }
 
     // A line for each of the domains.

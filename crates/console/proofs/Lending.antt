@@ -5,7 +5,6 @@ use mathlib.Core.Logic.{inl, inr}
 use mathlib.Core.List.{List, [], _++_, append-nil}
 use Prim.Native.Nat.{ℕ, _+_, _*_, _/_, _%_, _^_, _≤_, _<_}
 use native.Mathlib.Omega.{arith}
-use native.Mathlib.Nat.{mul-le-mul}
 use native.Mathlib.Decide.{ℕ-discrete, decLt}
 use lib.ListN.{length, getD, take, drop, length-append, length-drop, take-append-drop, drop-of-length-le, List·getD-eq-default}
 use lib.Seq.{take-at, take-all, take-take, length-take-le, getD-drop, ext-getD}
@@ -16,14 +15,12 @@ use Rattle.search.specs.declared.state.State.{State}
 use Rattle.search.specs.declared.state.Opened.{Opened}
 use Rattle.search.specs.declared.state.Ran.{Ran}
 use Rattle.files.specs.Blocks.{blocksFor}
-use Rattle.files.specs.Reading.{triangleWords}
 use Rattle.files.specs.Calls.{handedContent, saveRefusal, Saves, Loads}
 use Rattle.files.specs.declared.saved.Saved.{Saved}
 use Rattle.files.specs.declared.saved.Loaded.{Loaded}
 use Rattle.files.proofs.Refusals.{save-none}
-use Rattle.files.proofs.RoundTrip.{triangle-few}
-use Rattle.files.proofs.SaveOutcomes.{first-passed}
-use Rattle.files.proofs.Written.{handed-length}
+use Rattle.files.proofs.Passing.{search-passing}
+use Rattle.files.proofs.Saving.{saved-few}
 use Rattle.console.specs.Bytes.{Whole, wordsOf, bytesOf}
 use Rattle.console.specs.Calls.{OpensWords, RunsWords, ChoosesWords, LoadsWords}
 use Rattle.console.specs.Work.Rooms.{WritesBack, FrontOf}
@@ -184,15 +181,12 @@ choose-fits n d domains tables before after limit s r small stepped few h =
 -- The blocks that save writes.
 pub save-fits : (n d : ℕ) (domains tables agenda : List ℕ) (s : State) (before after : List ℕ) (r : Saved)
     → ((i : ℕ) → getD agenda i 0 < 256) → Saves n d domains tables (wordsOf agenda) s before after r → r .blocks < 4294967296
-unfolding blocksFor
 save-fits n d domains tables bytes s before after r small h = elim (ℕ-discrete (saveRefusal n d domains tables (wordsOf bytes) s before) 0) [
   | yes e ↦
       let passed = save-none n d domains tables (wordsOf bytes) s before .0 e .0 in
-      let held = first-passed n d domains tables (wordsOf bytes) s passed in
-      let slot : n + 2 ≤ 34 = omega (arith, held .numbers .variables) in
-      let slots : s .subproblems * (n + 2) ≤ 512 * 34 = mul-le-mul (held .few) slot in
-      let words : length (handedContent n d domains tables (wordsOf bytes) s) ≡ 9 + n + triangleWords n d + s .subproblems * (n + 2) = handed-length n d domains tables (wordsOf bytes) s held (words-small bytes small) in
-      let blocks : r .blocks ≡ (length (handedContent n d domains tables (wordsOf bytes) s) + 252) / 253 = rw e at (h .blocks) in
-      omega (arith, triangle-few n d (held .numbers .variables) (held .numbers .values), held .numbers .variables)
+      let passing = search-passing n d domains tables (wordsOf bytes) (s .counts .steps .0) (s .counts .checks .0) (s .subproblems) passed in
+      let few = saved-few n d domains tables (wordsOf bytes) s (words-small bytes small) passing in
+      let blocks : r .blocks ≡ blocksFor (length (handedContent n d domains tables (wordsOf bytes) s)) = rw e at (h .blocks) in
+      omega arith
   | no f ↦ let none : r .blocks ≡ 0 = rw (ne-eqb (saveRefusal n d domains tables (wordsOf bytes) s before) 0 f) at (h .blocks) in omega arith
 ]

@@ -3,31 +3,26 @@
 use mathlib.Core.Path.{_≡_, refl, sym, ap, ap₂, subst, _∙_}
 use mathlib.Core.Logic.{_⊎_, inl, inr}
 use mathlib.Core.Bool.{Bool, true, false, cond}
-use mathlib.Core.List.{List, List·Memᴰ, _++_}
+use mathlib.Core.List.{List, _++_}
 use Prim.Native.Nat.{ℕ, zero, suc, _+_, _-_, _*_, _≤_, _<_}
 use native.Mathlib.Omega.{arith}
-use native.Mathlib.Nat.{mul-le-mul-right, div-mul-le-self, le-trans, le-refl}
 use lib.ListN.{length, drop, length-append}
 use lib.Dec.{eqb}
-use Rattle.splits.specs.Problem.{Problem, Proper}
-use Rattle.splits.specs.declared.subproblem.Subproblem.{Subproblem}
-use Rattle.search.specs.Agenda.{problemOf, Shape, slotsIn, agendaOf}
-use Rattle.search.specs.FirstChecks.{WholeSlots, WholeRequests, runRefusal, searchRefusal}
+use Rattle.splits.specs.Problem.{Problem}
+use Rattle.search.specs.Agenda.{problemOf, slotsIn, agendaOf}
+use Rattle.search.specs.FirstChecks.{WholeRequests, runRefusal, searchRefusal}
 use Rattle.search.specs.Verdicts.{verdictOf, finished}
 use Rattle.search.specs.Runs.{Search, Stopped, step, refusalOfRequest, run, requestsIn}
 use Rattle.search.specs.Chooser.{chosen, chooseFrom, choose}
 use Rattle.search.specs.Calls.{searchOf, Ends, Runs, Chooses}
-use Rattle.search.specs.Promises.{Passes, Reached, Handed, Leaves}
+use Rattle.search.specs.Promises.{Handed, Leaves}
 use Rattle.search.specs.declared.state.State.{State}
 use Rattle.search.specs.declared.state.Ran.{Ran}
 use Rattle.search.proofs.Runs.{stop, after, two-lists, stops}
-use Rattle.search.proofs.HandedOn.{agenda-small}
 use Rattle.search.proofs.Promises.{run-leaves, chooser-leaves, choose-two}
-use Rattle.files.specs.Promises.{Held-in, Two-ways, Trip, Chooser-trip, Same-end}
-use Rattle.files.proofs.Stacks.{agenda-length, agenda-read, agenda-zero}
-use Rattle.files.proofs.Passing.{Passing, slots-in, search-passing, passing-search, passing-run}
+use Rattle.files.specs.Promises.{Two-ways, Trip, Chooser-trip, Same-end}
+use Rattle.files.proofs.Passing.{search-passing, passing-run}
 use Rattle.files.proofs.Requests.{whole-append, requests-append, whole-drop, requests-drop}
-use Rattle.files.proofs.Reaching.{reached-good, reached-shape}
 use Rattle.files.proofs.Carried.{Carried, carried, run-on, choose-on}
 
 -- ---- a call whose first checks pass
@@ -243,50 +238,3 @@ module _ (n d : ℕ) (domains tables agenda : List ℕ) (s : State) (m k : ℕ) 
       joined-end n d domains tables agenda (t .ways) (choose q slots (m + k) (searchOf n agenda s)) y₁ y₂
       (chosen-outcome agenda (t .ways .whole-agenda) (m + k) s (t .ways .whole) handed (t .uncut)) first second joined
       (left .length-kept) (carried n d domains tables (t .ways) (left .handed))
-
--- ---- reached searches
-
-module _ (n d : ℕ) (domains tables : List ℕ) (x : Search) (words : ℕ) (passes : Passes (problemOf n d domains tables) (slotsIn n words) x)
-    (shape : (P : Subproblem) → List·Memᴰ P (x .stack) → Shape n 16 P) where
-  few-variables : n ≤ 32
-  few-variables = passes .proper .variables
-
-  -- The agenda has as many words as were lent.
-  memory-length : length (agendaOf n words (x .stack)) ≡ words
-  memory-length =
-      agenda-length n few-variables words (x .stack) shape (le-trans (mul-le-mul-right (n + 2) (passes .fits)) (div-mul-le-self words (n + 2)))
-
-  -- It passes the first checks.
-  memory-passing : length domains ≡ n → length tables ≡ n * n * d → WholeSlots n words
-      → Passing n d domains tables (agendaOf n words (x .stack)) (x .steps) (x .checks) (length (x .stack))
-  memory-passing ds ts ws = record {
-    proper = passes .proper;
-    domain-words = ds;
-    table-words = ts;
-    slots = rw memory-length ws;
-    rules = λ P m. passes .rules P (rw (agenda-read n few-variables words (x .stack) shape) at m);
-    fits = rw memory-length (passes .fits);
-    unused = λ k l m. agenda-zero n few-variables words (x .stack) shape k l;
-    counted = passes .counted;
-  }
-
-  -- It is a search handed on.
-  memory-handed : length domains ≡ n → length tables ≡ n * n * d → WholeSlots n words → (agenda : List ℕ) (s : State) → agenda ≡ agendaOf n words (x .stack)
-      → s .counts .steps .0 ≡ x .steps → s .counts .checks .0 ≡ x .checks → s .subproblems ≡ length (x .stack) → Handed n d domains tables agenda s
-  memory-handed ds ts ws agenda s a b c e = record {
-    words = rw a (agenda-small n 16 words (x .stack) (le-refl 16) shape);
-    stepped = rw b (passes .stepped);
-    passes = rw (a, b, c, e) (passing-search n d domains tables (agendaOf n words (x .stack)) (x .steps) (x .checks) (length (x .stack)) (memory-passing ds ts ws));
-  }
-
--- The cut of a reached search.
-pub reached-cut : (n d : ℕ) (domains tables : List ℕ) (slots : ℕ) (begun : Search) (agenda : List ℕ) (s : State) (requests more : List ℕ)
-    → Proper (problemOf n d domains tables) → length domains ≡ n → length tables ≡ n * n * d → 1 ≤ slots → slots ≤ 512
-    → Reached n d domains tables slots begun → Held-in n slots agenda s begun
-    → WholeRequests n (length requests) → WholeRequests n (length more)
-    → (t : Trip n d domains tables agenda s requests more) → Same-end (t .ways)
-reached-cut n d domains tables slots begun agenda s requests more proper ds ts some most h held w v t =
-    let passes : Passes (problemOf n d domains tables) (slotsIn n (slots * (n + 2))) begun = rw (slots-in n slots) (reached-good n d domains tables proper ds h .passes) in
-    run-end n d domains tables agenda s requests more
-    (memory-handed n d domains tables begun (slots * (n + 2)) passes (reached-shape n d domains tables proper ds h) ds ts (slots, some, most, refl) agenda s
-    (held .memory) (held .steps) (held .checks) (held .subproblems)) w v t

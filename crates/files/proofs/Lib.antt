@@ -16,7 +16,6 @@ pub mod RoundTrip
 pub mod Saving
 pub mod Loading
 pub mod Refusals
-pub mod Steps
 pub mod Agreeing
 pub mod AgreeingRuns
 pub mod Requests

@@ -22,7 +22,7 @@ use Rattle.search.specs.declared.state.Ran.{Ran}
 use Rattle.search.specs.declared.state.Verdict.{Verdict}
 use Rattle.search.specs.declared.state.Verdict.the-variants.{None}
 use Rattle.search.proofs.HandedOn.{known, leaves, some-slots, whole-requests}
-use Rattle.search.proofs.Promises.{open-leaves, run-leaves, chooser-leaves, run-says, run-passed, reached-passes, reached-unsolvable, solved-shows}
+use Rattle.search.proofs.Promises.{open-leaves, run-leaves, chooser-leaves, run-says, run-passed, reached-passes, reached-unsolvable, solved-shows, reached-passes}
 use Rattle.files.specs.Blocks.{fileOf}
 use Rattle.files.specs.Reading.{saidAllowed, tableWords}
 use Rattle.files.specs.Calls.{handedContent, saveRefusal, Saves, Loads}
@@ -34,7 +34,7 @@ use Rattle.files.proofs.Tables.{proper-agree, agree-back}
 use Rattle.files.proofs.Passing.{search-passing}
 use Rattle.files.proofs.Saving.{saved-says}
 use Rattle.files.proofs.Loading.{Fits, load-taken}
-use Rattle.files.proofs.Reaching.{reached-good, reached-agree}
+use Rattle.files.proofs.Reaching.{reached-agree}
 use Rattle.files.proofs.Back.{stateOf, lent, lent-agree, written-blocks}
 
 -- What is known of each: it is a reached search of the problem in memory, which agrees with the one that was opened.
@@ -79,11 +79,11 @@ module _ (n d : ℕ) (domains tables₀ tables agenda : List ℕ) (s : State) (l
       rw (back .its-tables) (agree-back (tableOf n d (tableWords n d (saidAllowed file))) (tableOf n d tables) (lent-agree file n d domains (tableOf n d tables) x says)) in
       let proper : Proper (problemOf n d domains tables′) = proper-agree n d (λ i. getD domains i 0) (tableOf n d tables) (tableOf n d tables′) agree (life .proper) in
       let reached : Reached n d domains tables′ (slotsIn n (length agenda₁)) x =
-      reached-agree n d domains tables (life .proper) (life .words) tables′ agree (Reached.moved (life .reached) room) in
+      reached-agree n d domains tables (life .proper) tables′ agree (Reached.moved (life .reached) room) in
       let long : length tables′ ≡ n * n * d = ap length (back .its-tables) ∙ table-length n d (saidAllowed file) in
       let passed : Passed n d domains tables′ agenda₁ = record { proper = proper; domains-words = life .words; tables-words = long; slots = fits .slots } in
       let l =
-      leaves n d domains tables′ agenda₁ agenda′ (r .state) x passed (reached-good n d domains tables′ proper (life .words) reached .passes)
+      leaves n d domains tables′ agenda₁ agenda′ (r .state) x passed (reached-passes n d domains tables′ (slotsIn n (length agenda₁)) x proper reached)
       (known n d domains tables agenda s (life .handed) .shaped) (back .its-agenda) (ap (λ st. st .counts .steps .0) (back .its-state))
       (ap (λ st. st .counts .checks .0) (back .its-state)) (ap (λ st. st .subproblems) (back .its-state)) in
       record {
@@ -132,7 +132,7 @@ module _ {n d : ℕ} {domains tables₀ tables agenda : List ℕ} {s : State} (l
   proper₀ = proper-agree n d (λ i. getD domains i 0) (tableOf n d tables) (tableOf n d tables₀) back (life .proper)
 
   pub reached₀ : Reached n d domains tables₀ (slotsIn n (length agenda)) (searchOf n agenda s)
-  reached₀ = reached-agree n d domains tables (life .proper) (life .words) tables₀ back (life .reached)
+  reached₀ = reached-agree n d domains tables (life .proper) tables₀ back (life .reached)
 
   -- What a verdict says of it.
   pub says-unsolvable : (v : Verdict) → v ≡ verdictOf n (stackOf n agenda (s .subproblems)) → numberOf v ≡ 3 → Has-solution (problemOf n d domains tables₀) → ⊥

@@ -1,6 +1,6 @@
 -- The promises of save and load, proved.
 -- Assumes nothing.
-use mathlib.Core.Path.{_≡_, refl}
+use mathlib.Core.Path.{_≡_, refl, _∙_}
 use native.Mathlib.Omega.{arith}
 use lib.ListN.{length}
 use Rattle.files.specs.Blocks.{blocksFor, carried, onesSum, checkOf}
@@ -24,6 +24,7 @@ use Rattle.files.specs.Promises.{
   Saves-back,
   Largest,
   Largest-met,
+  Save-enough,
   Save-first,
   Save-13,
   Save-none,
@@ -48,7 +49,6 @@ use Rattle.files.specs.Promises.{
   Solved-run,
   Solved-choose,
   Same-solutions,
-  Cut,
   Cut-any,
   Cut-lived,
   Cut-choose,
@@ -66,6 +66,7 @@ use Rattle.files.proofs.Loading
 use Rattle.files.proofs.Passing
 use Rattle.files.proofs.Refusals
 use Rattle.files.proofs.Diagonal
+use Rattle.files.specs.Calls.{handedContent}
 use Rattle.files.proofs.Cut as Cutting
 use Rattle.files.proofs.LoadLeaves
 use Rattle.files.proofs.Back
@@ -122,6 +123,14 @@ largest-met domains allowed s words stack shape =
     let e = Contents.content-length 32 16 domains allowed s (omega arith) words shape in
     let l : length (contentOf 32 16 domains allowed s) ≡ 25385 = rw stack at e in
     (l, rw l refl)
+
+pub save-enough : Save-enough
+save-enough n d domains tables agenda s before after r words e long h =
+    let passing = Passing.search-passing n d domains tables agenda (s .counts .steps .0) (s .counts .checks .0) (s .subproblems) e in
+    let few = Saving.saved-few n d domains tables agenda s words passing in
+    let none = Refusals.save-none n d domains tables agenda s before .1 (e, λ short. absurd (omega arith)) in
+    let blocks : r .blocks ≡ blocksFor (length (handedContent n d domains tables agenda s)) = rw none at (h .blocks) in
+    (h .refusal ∙ none, omega arith)
 
 pub save-first : Save-first
 save-first = Refusals.save-first
@@ -204,9 +213,6 @@ solved-choose n d domains tables₀ tables before after limit s r h chooses e =
 
 pub same-solutions : Same-solutions
 same-solutions = Solutions.same-solutions
-
-pub cut : Cut
-cut = Cutting.reached-cut
 
 pub cut-any : Cut-any
 cut-any n d domains tables agenda s requests more words short e w v t =

@@ -11,12 +11,12 @@ use Rattle.splits.specs.declared.subproblem.Subproblem.{Subproblem}
 use Rattle.search.specs.Agenda.{Words, Shape, stackOf, slotsIn}
 use Rattle.search.specs.Calls.{searchOf}
 use Rattle.search.specs.declared.state.State.{State}
-use Rattle.files.specs.Blocks.{fileOf}
+use Rattle.files.specs.Blocks.{blocksFor, fileOf}
 use Rattle.files.specs.Calls.{handedContent}
 use Rattle.files.specs.Promises.{Says}
 use Rattle.files.proofs.Stacks.{of-length, of-shape}
 use Rattle.files.proofs.Passing.{Passing, slots-in}
-use Rattle.files.proofs.RoundTrip.{file-says}
+use Rattle.files.proofs.RoundTrip.{blocks-few, file-says}
 
 module _ (n d : ℕ) (domains tables agenda : List ℕ) (s : State) (words : Words agenda)
     (h : Passing n d domains tables agenda (s .counts .steps .0) (s .counts .checks .0) (s .subproblems)) where
@@ -34,6 +34,11 @@ module _ (n d : ℕ) (domains tables agenda : List ℕ) (s : State) (words : Wor
       let (slots, some, few, e) = h .slots in
       let all : slotsIn n (length agenda) ≡ slots = ap (slotsIn n) e ∙ slots-in n slots in
       omega (arith, of-length n (h .proper .variables) agenda (s .subproblems), h .fits)
+
+  -- Its content fills at most 101 blocks.
+  pub saved-few : blocksFor (length (handedContent n d domains tables agenda s)) ≤ 101
+  saved-few =
+      blocks-few n d domains (tableOf n d tables) (searchOf n agenda s) (h .proper .variables) (h .proper .values) (h .domain-words) stack-few stack-shape
 
   -- The blocks written say the search.
   pub saved-says : Says (fileOf (handedContent n d domains tables agenda s)) n d domains (tableOf n d tables) (searchOf n agenda s)

@@ -147,6 +147,13 @@ Largest-met =
     → ((P : Subproblem) → List·Memᴰ P (s .stack) → Shape 32 16 P)
     → (length (contentOf 32 16 domains allowed s) ≡ 25385) × (blocksFor (length (contentOf 32 16 domains allowed s)) ≡ 101)
 
+-- So a buffer of 101 blocks takes any search that passes the first checks, in memory of words.
+abbrev pub Save-enough : Type 0
+Save-enough =
+    (n d : ℕ) (domains tables agenda : List ℕ) (s : State) (before after : List ℕ) (r : Saved) → Words agenda
+    → searchRefusal n d domains tables agenda (s .counts .steps .0) (s .counts .checks .0) (s .subproblems) ≡ 0 → 51712 ≤ length before
+    → Saves n d domains tables agenda s before after r → (r .refusal ≡ 0) × (r .blocks ≤ 101)
+
 -- ---- refusals
 
 -- 13: the file buffer is shorter than the blocks to write.
@@ -321,13 +328,6 @@ Same-solutions =
 
 -- ---- the cut
 
--- Memory and a state that hold a search of n variables in so many slots.
-pub record Held-in (n slots : ℕ) (agenda : List ℕ) (s : State) (held : Search) : Type 0 where
-  pub memory : agenda ≡ agendaOf n (slots * (n + 2)) (held .stack)
-  pub steps : s .counts .steps .0 ≡ held .steps
-  pub checks : s .counts .checks .0 ≡ held .checks
-  pub subproblems : s .subproblems ≡ length (held .stack)
-
 -- Two ways on from one search. Uncut: one call, the whole. Cut: a first call, what it leaves saved into a buffer of at least its blocks, loaded from
 -- exactly these blocks into domains and tables of the right lengths and an agenda of equal length, and a second call on what was loaded. Whatever
 -- the lent buffers held before.
@@ -385,16 +385,7 @@ pub record Same-end {n d : ℕ} {domains tables : List ℕ} (w : Two-ways n d do
   pub taken : w .first .taken + w .second .taken ≡ w .whole .taken
 
 -- Any list of requests, cut anywhere, saved, loaded into an agenda of equal length, gone on with: the same verdict, agenda and counts as uncut. Of
--- every reached search.
-abbrev pub Cut : Type 0
-Cut =
-    (n d : ℕ) (domains tables : List ℕ) (slots : ℕ) (gone : Search) (agenda : List ℕ) (s : State) (requests more : List ℕ)
-    → Proper (problemOf n d domains tables) → length domains ≡ n → length tables ≡ n * n * d → 1 ≤ slots → slots ≤ 512
-    → Reached n d domains tables slots gone → Held-in n slots agenda s gone
-    → WholeRequests n (length requests) → WholeRequests n (length more)
-    → (t : Trip n d domains tables agenda s requests more) → Same-end (t .ways)
-
--- So of every search begun by opening and saved and loaded any number of times since.
+-- every search begun by opening and saved and loaded any number of times since.
 abbrev pub Cut-lived : Type 0
 Cut-lived =
     (n d : ℕ) (domains tables₀ tables agenda : List ℕ) (s : State) (requests more : List ℕ) → Lived n d domains tables₀ tables agenda s

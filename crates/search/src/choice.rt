@@ -42,7 +42,7 @@ fn look(top: Subproblem, n: usize, d: usize, tables: &[u16], rows: &mut [[u16; 3
     let domains = top.domains;
     let key = lanes::least_key(domains, top.marked | lanes::beyond(n));
     let variable = (key % 32) as usize;
-    let value = mask::first(top.domain(variable));
+    let value = mask::lowest(top.domain(variable));
     let row = rows::row(n, d, tables, rows, variable, value);
     let lost = lanes::loses(domains, row);
     Choice {

@@ -73,11 +73,11 @@ fn pair_allowed(slot: &[u16], n: usize, d: usize, tables: &[u16], i: usize, j: u
     requires { ⌜ Sized n d (now tables) × ((length (now slot) ≡ n + 2) × ((i < n) × (j < i))) ⌝ }
     ensures { λ r. ⌜ r ≡ pairAllowed (tableOf n d (now (tables .entry))) (subproblemOf n (now (slot .entry))) i j ⌝ }
 {
-    let a = mask::first(slot[i]);
+    let a = mask::lowest(slot[i]);
     if d <= a {
         return false;
     }
-    has(rows::allowed(n, d, tables, i, j, a), mask::first(slot[j]))
+    has(rows::allowed(n, d, tables, i, j, a), mask::lowest(slot[j]))
 }
 
 // Whether the value of the instantiated variable `i` agrees with every one's before it that is instantiated: so each two are looked at once.

@@ -31,8 +31,8 @@ readable n d tables r =
 abbrev pub Count : ℕ → ℕ → Type 0
 Count mask r = r ≡ size mask
 
-abbrev pub First : ℕ → ℕ → Type 0
-First mask r = r ≡ lowest mask
+abbrev pub Lowest : ℕ → ℕ → Type 0
+Lowest mask r = r ≡ lowest mask
 
 abbrev pub Smaller-half : ℕ → ℕ → Type 0
 Smaller-half mask r = r ≡ smallerHalf mask

@@ -15,7 +15,7 @@ use Rattle.splits.specs.Refusals.{Accepted, Deserves-7, Deserves-8, Dese
 use Rattle.splits.specs.Measure.{sum, measure}
 use Rattle.splits.specs.Shortcuts.{skipping, weak, untargeted, two, two-top, three, three-top, pair, pair-top}
 use Rattle.splits.specs.declared.subproblem.Subproblem.{Subproblem}
-use Rattle.splits.specs.Calls.{Count, First, Smaller-half, Domain, Is-instantiated, All-instantiated, Is-empty, Instantiate, Without, Cut, Precluded, Precluded-empty, Candidates, Piece, Checks-of, Refusal-of}
+use Rattle.splits.specs.Calls.{Count, Lowest, Smaller-half, Domain, Is-instantiated, All-instantiated, Is-empty, Instantiate, Without, Cut, Precluded, Precluded-empty, Candidates, Piece, Checks-of, Refusal-of}
 
 -- The request r, accepted, splits P, a subproblem that obeys the rules, of the proper problem p.
 pub record Splits (p : Problem) (P : Subproblem) (r : List ℕ) : Type 0 where
@@ -244,8 +244,8 @@ abbrev pub Count-one : Type 0
 Count-one = (mask : ℕ) → One (Count mask)
 
 -- The lowest value of a mask.
-abbrev pub First-one : Type 0
-First-one = (mask : ℕ) → One (First mask)
+abbrev pub Lowest-one : Type 0
+Lowest-one = (mask : ℕ) → One (Lowest mask)
 
 -- The smallest ⌈k/2⌉ values of a mask with k values.
 abbrev pub Smaller-half-one : Type 0

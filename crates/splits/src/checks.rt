@@ -41,7 +41,7 @@ fn does_forbid(
     requires { ⌜ Inside n d (now tables) variable value × (i < n) ⌝ }
     ensures { λ r. ⌜ r ≡ forbids (tableOf n d (now (tables .entry))) top variable value i ⌝ }
 {
-    let a = mask::first(top.domain(i));
+    let a = mask::lowest(top.domain(i));
     if d <= a {
         return true;
     }

@@ -3,7 +3,7 @@ ghost use mathlib.Core.Path.{_≡_};
 ghost use Prim.Native.Nat.{_+_, _-_, _/_, _<_, _≤_};
 ghost use lib.Dec.{eqb};
 ghost use Rattle.splits.specs.Masks.{bit, single, size, smallest};
-ghost use Rattle.splits.specs.Calls.{Count, First, Smaller-half};
+ghost use Rattle.splits.specs.Calls.{Count, Lowest, Smaller-half};
 
 // The number of values in a mask.
 pub fn count(mask: u16) -> usize
@@ -13,8 +13,8 @@ pub fn count(mask: u16) -> usize
 }
 
 // The lowest value of a mask; 16 where it is empty.
-pub fn first(mask: u16) -> usize
-    ensures { λ r. ⌜ First mask r ⌝ }
+pub fn lowest(mask: u16) -> usize
+    ensures { λ r. ⌜ Lowest mask r ⌝ }
 {
     u16::trailing_zeros(mask) as usize
 }
@@ -53,7 +53,7 @@ fn smallest_of(mask: u16, k: usize) -> u16
     let mut half: u16 = 0;
     let mut i = 0;
     while i < k {
-        half = half | only(first(mask & !half));
+        half = half | only(lowest(mask & !half));
         i += 1;
     }
     half

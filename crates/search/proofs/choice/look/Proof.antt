@@ -18,11 +18,11 @@ cast-variable c = omega arith
 domain-requires : tie.Need-domain-requires
 domain-requires c κs = tt
 
-first-requires : tie.Need-first-requires
-first-requires c κs = tt
+lowest-requires : tie.Need-lowest-requires
+lowest-requires c κs = tt
 
 row-requires : tie.Need-row-requires
-row-requires c κs = let k = c .before .before .before .before .before .before .before .before .pre in (found-inside _ _ _ _ (k .0) (k .1 .0) (k .1 .1 .0) _ _ _ _ _ (c .before .before .before .before .before .beyond .ensures) (c .before .before .before .least-key .ensures) refl (c .before .before .domain .ensures) (c .before .first .ensures), k .1 .1 .1)
+row-requires c κs = let k = c .before .before .before .before .before .before .before .before .pre in (found-inside _ _ _ _ (k .0) (k .1 .0) (k .1 .1 .0) _ _ _ _ _ (c .before .before .before .before .before .beyond .ensures) (c .before .before .before .least-key .ensures) refl (c .before .before .domain .ensures) (c .before .lowest .ensures), k .1 .1 .1)
 
 loses-requires : tie.Need-loses-requires
 loses-requires c κs = tt
@@ -31,7 +31,7 @@ same-length : tie.Need-same-length
 same-length c = omega arith
 
 returns : tie.Need-returns
-returns c = let k = c .before .before .before .before .before .before .before .before .before .before .before .pre in (found-is _ _ _ _ (k .0) (k .1 .0) (k .1 .1 .0) _ _ _ _ _ (c .before .before .before .before .before .before .before .before .beyond .ensures) (c .before .before .before .before .before .before .least-key .ensures) refl (c .before .before .before .before .before .domain .ensures) (c .before .before .before .before .first .ensures) _ _ (c .before .before .row .ensures .0) (c .loses .ensures), c .before .before .row .ensures .1)
+returns c = let k = c .before .before .before .before .before .before .before .before .before .before .before .pre in (found-is _ _ _ _ (k .0) (k .1 .0) (k .1 .1 .0) _ _ _ _ _ (c .before .before .before .before .before .before .before .before .beyond .ensures) (c .before .before .before .before .before .before .least-key .ensures) refl (c .before .before .before .before .before .domain .ensures) (c .before .before .before .before .lowest .ensures) _ _ (c .before .before .row .ensures .0) (c .loses .ensures), c .before .before .row .ensures .1)
 
 pub look-spec : {M : Type 1} → statement M
 look-spec =
@@ -41,7 +41,7 @@ look-spec =
     least-key-requires
     cast-variable
     domain-requires
-    first-requires
+    lowest-requires
     row-requires
     loses-requires
     same-length

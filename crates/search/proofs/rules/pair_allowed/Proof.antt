@@ -14,33 +14,33 @@ use borrow.Author.Needs.{needs}
 use Rattle.search.proofs.rules.pair_allowed.Statement.{statement}
 use Rattle.search.proofs.rules.pair_allowed.Tie as tie
 
-mul-first : tie.Need-mul-first
-mul-first c = search needs
+mul-lowest : tie.Need-mul-lowest
+mul-lowest c = search needs
 
-shared-slice-read-first : tie.Need-shared-slice-read-first
-shared-slice-read-first c = search needs
+shared-slice-read-lowest : tie.Need-shared-slice-read-lowest
+shared-slice-read-lowest c = search needs
 
-first-requires : tie.Need-first-requires
-first-requires c κs = search needs
+lowest-requires : tie.Need-lowest-requires
+lowest-requires c κs = search needs
 
 returns : tie.Need-returns
 returns c =
     let a = c .before .before .before .before .before .args in
     let p = c .before .before .before .before .before .pre in
     let long : a .n ≤ length (a .slot .now) = omega (arith, p .1 .0) in
-    allowed-read (tableOf (a .n) (a .d) (a .tables .now)) (subproblemOf (a .n) (a .slot .now)) (a .i) (a .j) _ _ _ _ _ (slot-domain (a .n) (a .slot .now) (a .i) long (p .1 .1 .0)) (c .before .first .ensures) refl refl (allowed-out _ _ _ _ _ _ _ (c .if1 .taken))
+    allowed-read (tableOf (a .n) (a .d) (a .tables .now)) (subproblemOf (a .n) (a .slot .now)) (a .i) (a .j) _ _ _ _ _ (slot-domain (a .n) (a .slot .now) (a .i) long (p .1 .1 .0)) (c .before .lowest .ensures) refl refl (allowed-out _ _ _ _ _ _ _ (c .if1 .taken))
 
 allowed-requires : tie.Need-allowed-requires
 allowed-requires c κs = let p = c .before .before .before .before .before .pre in (p .0, record { first = p .1 .1 .0; second = omega arith; third = c .if1 .left })
 
-mul-first-2 : tie.Need-mul-first-2
-mul-first-2 c = search needs
+mul-lowest-2 : tie.Need-mul-lowest-2
+mul-lowest-2 c = search needs
 
-shared-slice-read-first-2 : tie.Need-shared-slice-read-first-2
-shared-slice-read-first-2 c = search needs
+shared-slice-read-lowest-2 : tie.Need-shared-slice-read-lowest-2
+shared-slice-read-lowest-2 c = search needs
 
-first-requires-2 : tie.Need-first-requires-2
-first-requires-2 c κs = search needs
+lowest-requires-2 : tie.Need-lowest-requires-2
+lowest-requires-2 c κs = search needs
 
 has-requires : tie.Need-has-requires
 has-requires c κs = search needs
@@ -51,19 +51,19 @@ returns-2 c =
     let p = c .before .before .before .before .before .before .before .before .before .pre in
     let long : a .n ≤ length (a .slot .now) = omega (arith, p .1 .0) in
     let apart : a .i ≡ a .j → ⊥ = λ z. absurd (omega (arith, p .1 .1 .1)) in
-    allowed-read (tableOf (a .n) (a .d) (a .tables .now)) (subproblemOf (a .n) (a .slot .now)) (a .i) (a .j) _ _ _ _ _ (slot-domain (a .n) (a .slot .now) (a .i) long (p .1 .1 .0)) (c .before .before .before .before .before .first .ensures) (slot-domain (a .n) (a .slot .now) (a .j) long (omega (arith, p .1 .1 .0, p .1 .1 .1))) (c .before .first2 .ensures) (c .has .ensures ∙ ap (λ (x : ℕ). eqb (bit x (c .before .first2 .result)) 1) (c .before .before .before .allowed .ensures apart))
+    allowed-read (tableOf (a .n) (a .d) (a .tables .now)) (subproblemOf (a .n) (a .slot .now)) (a .i) (a .j) _ _ _ _ _ (slot-domain (a .n) (a .slot .now) (a .i) long (p .1 .1 .0)) (c .before .before .before .before .before .lowest .ensures) (slot-domain (a .n) (a .slot .now) (a .j) long (omega (arith, p .1 .1 .0, p .1 .1 .1))) (c .before .lowest2 .ensures) (c .has .ensures ∙ ap (λ (x : ℕ). eqb (bit x (c .before .lowest2 .result)) 1) (c .before .before .before .allowed .ensures apart))
 
 pub pair-allowed-spec : {M : Type 1} → statement M
 pair-allowed-spec =
     tie.close
     (tie.spec
-    mul-first
-    shared-slice-read-first
-    first-requires
+    mul-lowest
+    shared-slice-read-lowest
+    lowest-requires
     returns
     allowed-requires
-    mul-first-2
-    shared-slice-read-first-2
-    first-requires-2
+    mul-lowest-2
+    shared-slice-read-lowest-2
+    lowest-requires-2
     has-requires
     returns-2)

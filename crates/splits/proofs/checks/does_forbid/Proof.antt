@@ -10,11 +10,11 @@ use Rattle.splits.proofs.checks.does_forbid.Tie as tie
 domain-requires : tie.Need-domain-requires
 domain-requires c κs = search needs
 
-first-requires : tie.Need-first-requires
-first-requires c κs = search needs
+lowest-requires : tie.Need-lowest-requires
+lowest-requires c κs = search needs
 
 returns : tie.Need-returns
-returns c = forbids-none _ _ _ _ _ _ _ _ _ (c .before .before .domain .ensures) (c .before .first .ensures) (c .if1 .taken)
+returns c = forbids-none _ _ _ _ _ _ _ _ _ (c .before .before .domain .ensures) (c .before .lowest .ensures) (c .if1 .taken)
 
 allowed-requires : tie.Need-allowed-requires
 allowed-requires c κs = let p = c .before .before .before .before .pre in (p .0 .fit, record { first = p .1; second = p .0 .a-variable; third = c .if1 .left })
@@ -23,17 +23,17 @@ has-requires : tie.Need-has-requires
 has-requires c κs = search needs
 
 returns-2 : tie.Need-returns-2
-returns-2 c = sym (ap not (c .if2 .taken)) ∙ forbids-is _ _ _ _ _ _ _ _ _ _ _ (c .before .before .before .before .before .domain .ensures) (c .before .before .before .before .first .ensures) (c .before .before .allowed .ensures) (c .before .has .ensures)
+returns-2 c = sym (ap not (c .if2 .taken)) ∙ forbids-is _ _ _ _ _ _ _ _ _ _ _ (c .before .before .before .before .before .domain .ensures) (c .before .before .before .before .lowest .ensures) (c .before .before .allowed .ensures) (c .before .has .ensures)
 
 returns-3 : tie.Need-returns-3
-returns-3 c = sym (ap not (c .if2 .left)) ∙ forbids-is _ _ _ _ _ _ _ _ _ _ _ (c .before .before .before .before .before .domain .ensures) (c .before .before .before .before .first .ensures) (c .before .before .allowed .ensures) (c .before .has .ensures)
+returns-3 c = sym (ap not (c .if2 .left)) ∙ forbids-is _ _ _ _ _ _ _ _ _ _ _ (c .before .before .before .before .before .domain .ensures) (c .before .before .before .before .lowest .ensures) (c .before .before .allowed .ensures) (c .before .has .ensures)
 
 pub does-forbid-spec : {M : Type 1} → statement M
 does-forbid-spec =
     tie.close
     (tie.spec
     domain-requires
-    first-requires
+    lowest-requires
     returns
     allowed-requires
     has-requires

@@ -12,7 +12,7 @@ use Rattle.answer.proofs.text.Text.with_value.Reads as reads
 use Rattle.answer.proofs.text.Text.with_value.Lts as lts
 use Rattle.answer.proofs.text.Text.with_byte.Reads as with-byte-reads
 use Rattle.answer.proofs.text.Text.with_number.Reads as with-number-reads
-use Rattle.splits.proofs.mask.first.Reads as first-reads
+use Rattle.splits.proofs.mask.lowest.Reads as lowest-reads
 
 -- src/text.rt:99:20
 with-number-requires : tie.Need-with-number-requires
@@ -23,8 +23,8 @@ with-byte-requires : tie.Need-with-byte-requires
 with-byte-requires c κs = search needs
 
 -- src/text.rt:100:26
-first-requires : tie.Need-first-requires
-first-requires c κs = search needs
+lowest-requires : tie.Need-lowest-requires
+lowest-requires c κs = search needs
 
 -- src/text.rt:100:9
 with-number-requires-2 : tie.Need-with-number-requires-2
@@ -38,7 +38,7 @@ with-byte-requires-2 c κs = search needs
 returns : tie.Need-returns
 unfolding valueLine ascii
 returns c =
-    let value = adds-same _ _ _ _ (ap decimal (c .before .before .first .ensures)) (c .before .with-number2 .ensures) in
+    let value = adds-same _ _ _ _ (ap decimal (c .before .before .lowest .ensures)) (c .before .with-number2 .ensures) in
     let both = adds-both _ _ _ _ _ (adds-both _ _ _ _ _ (c .before .before .before .before .with-number .ensures) (c .before .before .before .with-byte .ensures)) value in
     adds-both _ _ _ _ _ both (c .with-byte2 .ensures)
 
@@ -48,7 +48,7 @@ with-value-spec =
     (tie.spec
     with-number-requires
     with-byte-requires
-    first-requires
+    lowest-requires
     with-number-requires-2
     with-byte-requires-2
     returns)
