@@ -313,14 +313,6 @@ lower-few n subproblems taken few h l =
     let slot : n + 2 ≤ 34 = omega arith in
     omega (arith, mul-le-mul slots slot)
 
--- The bytes of the words between two places.
-pub part-lengths : (j k : ℕ) (words b : List ℕ) → j ≤ k → k ≤ length words → length b ≡ 2 * length words
-    → length (take (2 * k - 2 * j) (drop (2 * j) b)) ≡ 2 * length (take (k - j) (drop j words))
-part-lengths j k words b h l e =
-    let bytes : length (take (2 * k - 2 * j) (drop (2 * j) b)) ≡ 2 * k - 2 * j = length-take-le (2 * k - 2 * j) (drop (2 * j) b) (rw length-drop (omega arith)) in
-    let these : length (take (k - j) (drop j words)) ≡ k - j = length-take-le (k - j) (drop j words) (rw length-drop (omega arith)) in
-    omega arith
-
 pub written-back : (n before taken after from to : ℕ) (words b bytes : List ℕ) → (from ≤ to) × (from ≤ (before - taken) * (n + 2))
     → Front n before after (length words) to → bytes ≡ bytesOf (take (to - from) (drop from words))
     → WritesBack n before taken after words b (putMid (2 * from) (2 * to - 2 * from) b bytes)

@@ -1,6 +1,6 @@
 -- What passing the first checks of save, chooser and run says, and that whoever has it passes.
 -- Assumes nothing.
-use mathlib.Core.Path.{_≡_, refl, sym, ap, ap₂, _∙_}
+use mathlib.Core.Path.{_≡_, refl, sym, _∙_}
 use mathlib.Core.Logic.{⊎-elim}
 use mathlib.Core.Bool.{Bool, true, false, cond, _&&_, _||_, or-true}
 use mathlib.Core.List.{List, List·Memᴰ}
@@ -13,11 +13,10 @@ use lib.Pow.{pow-mono}
 use lib.Dec.{eqb, leb, ltb}
 use borrow.Author.Tests.{eq-eqb, le-leb, lt-ltb, le-ltb, eqb-true, leb-true, ltb-true, ltb-false}
 use Rattle.splits.specs.Masks.{bit}
-use Rattle.splits.specs.Problem.{Problem, Proper, Table, Allow-same}
+use Rattle.splits.specs.Problem.{Problem, Proper}
 use Rattle.splits.specs.Subproblems.{Rules, every}
 use Rattle.splits.specs.declared.subproblem.Subproblem.{Subproblem}
-use Rattle.splits.proofs.Tests.{and-left, and-right, or-left, or-right, or-cases, every-at, every-all, same-test}
-use Rattle.splits.proofs.Refusals.{every-same}
+use Rattle.splits.proofs.Tests.{and-left, and-right, or-left, or-right, or-cases, every-at, every-all}
 use Rattle.search.specs.Agenda.{problemOf, stackOf, slotsIn}
 use Rattle.search.specs.FirstChecks.{WholeSlots, WholeRequests, orElse, refusalOfNumbers, wholeSlots, refusalOfLengths, refusalOfRequests, masksBelow, symmetric, refusalOfProblem, allObey, zerosFrom, refusalOfSearch, openRefusal, searchRefusal, runRefusal}
 use Rattle.search.proofs.FirstParts.{given-not, given-if, else-pass}
@@ -54,11 +53,6 @@ pairs-all n t h =
       | yes e ↦ simp (eq-eqb i j e)
       | no f ↦ simp (h i j l k f, or-true)
     ]))
-
-pairs-same : (n : ℕ) (t u : ℕ → ℕ → Bool) → ((i j : ℕ) → i < n → j < n → (i ≡ j → ⊥) → t i j ≡ u i j) → pairs n t ≡ pairs n u
-pairs-same n t u h =
-    same-test (pairs n t) (pairs n u) (λ e. pairs-all n u (λ i j l k f. sym (h i j l k f) ∙ pairs-at n t e i j l k f))
-    (λ e. pairs-all n t (λ i j l k f. h i j l k f ∙ pairs-at n u e i j l k f))
 
 module _ (p : Problem) where
   -- The tests of a problem.
@@ -117,25 +111,6 @@ module _ (p : Problem) where
             (λ i j l k f. every-all (λ a. every (p .d) (mirror-test i j a)) (p .d)
             (λ a m. every-all (mirror-test i j a) (p .d) (λ b o. eq-eqb (bit (p .allowed i j a) b) (bit (p .allowed j i b) a) (h .symmetric i j a b l k f m o)))),
       ) refl
-
-  -- Another table that agrees at every two different variables is refused alike.
-  pub problem-agree : (g : Table) → Allow-same (p .n) (p .d) (p .allowed) g
-      → refusalOfProblem p ≡ refusalOfProblem (record { n = p .n; d = p .d; domain = p .domain; allowed = g })
-  unfolding refusalOfProblem masksBelow symmetric pairs
-  problem-agree g a =
-      let masks : pairs (p .n) (λ i j. every (p .d) (λ v. ltb (p .allowed i j v) (2 ^ p .d))) ≡ pairs (p .n) (λ i j. every (p .d) (λ v. ltb (g i j v) (2 ^ p .d))) =
-      pairs-same (p .n) (λ i j. every (p .d) (λ v. ltb (p .allowed i j v) (2 ^ p .d))) (λ i j. every (p .d) (λ v. ltb (g i j v) (2 ^ p .d)))
-      (λ i j l k f. every-same (λ v. ltb (p .allowed i j v) (2 ^ p .d)) (λ v. ltb (g i j v) (2 ^ p .d)) (p .d)
-      (λ v m. ap (λ (x : ℕ). ltb x (2 ^ p .d)) (a i j v l k f m))) in
-      let mirrors : pairs (p .n) (λ i j. every (p .d) (λ v. every (p .d) (λ w. eqb (bit (p .allowed i j v) w) (bit (p .allowed j i w) v))))
-      ≡ pairs (p .n) (λ i j. every (p .d) (λ v. every (p .d) (λ w. eqb (bit (g i j v) w) (bit (g j i w) v)))) =
-      pairs-same (p .n) (λ i j. every (p .d) (λ v. every (p .d) (λ w. eqb (bit (p .allowed i j v) w) (bit (p .allowed j i w) v))))
-      (λ i j. every (p .d) (λ v. every (p .d) (λ w. eqb (bit (g i j v) w) (bit (g j i w) v))))
-      (λ i j l k f. every-same (λ v. every (p .d) (λ w. eqb (bit (p .allowed i j v) w) (bit (p .allowed j i w) v)))
-      (λ v. every (p .d) (λ w. eqb (bit (g i j v) w) (bit (g j i w) v))) (p .d)
-      (λ v m. every-same (λ w. eqb (bit (p .allowed i j v) w) (bit (p .allowed j i w) v)) (λ w. eqb (bit (g i j v) w) (bit (g j i w) v)) (p .d)
-      (λ w o. ap₂ (λ (x y : ℕ). eqb (bit x w) (bit y v)) (a i j v l k f m) (a j i w k l (λ e. f (sym e)) o)))) in
-      ap₂ (λ (x y : Bool). cond (every (p .n) (λ i. ltb (p .domain i) (2 ^ p .d)) && x) (cond y 0 5) 4) masks mirrors
 
   -- A proper problem's domains are masks of 16 bits.
   pub proper-small : Proper p → (i : ℕ) → i < p .n → p .domain i < 2 ^ 16

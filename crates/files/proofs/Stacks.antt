@@ -128,13 +128,6 @@ module _ (n : ℕ) (few : n ≤ 32) where
   unfolding agendaOf
   agenda-read words S h = stack-read S h (replicate (words - length (stackWords n S)) 0)
 
-  -- Past the stack it has zeros.
-  pub agenda-zero : (words : ℕ) (S : List Subproblem) → ((P : Subproblem) → List·Memᴰ P S → Shape n 16 P) → (k : ℕ) → length S * (n + 2) ≤ k
-      → getD (agendaOf n words S) k 0 ≡ 0
-  unfolding agendaOf
-  agenda-zero words S h k l =
-      padded-at (stackWords n S) (words - length (stackWords n S)) k ∙ List·getD-eq-default (stackWords n S) 0 (rw (shape-length S h) l)
-
   -- ---- read, then written
 
   -- So many slots hold so many subproblems.

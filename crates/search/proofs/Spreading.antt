@@ -4,7 +4,7 @@ use mathlib.Core.Path.{_≡_, refl, sym, ap, _∙_, subst}
 use mathlib.Core.Logic.{inr}
 use mathlib.Core.Bool.{true, false, not, cond, _&&_}
 use mathlib.Core.List.{List, [], _∷_, _++_}
-use Prim.Native.Nat.{ℕ, zero, suc, _+_, _-_, _*_, _^_, _≤_, _<_}
+use Prim.Native.Nat.{ℕ, zero, suc, _+_, _-_, _*_, _≤_, _<_}
 use native.Mathlib.Omega.{arith}
 use native.Mathlib.Nat.{le-refl, add-zero}
 use native.Mathlib.Decide.{decLt, ℕ-discrete}
@@ -19,7 +19,7 @@ use Rattle.splits.specs.Subproblems.{domain, empty}
 use Rattle.splits.specs.Splits.{changed, without, cut, cutBeside, disjunct, inferred, pieces, candidates, candidate}
 use Rattle.splits.specs.Calls.{readable, Piece, Candidates}
 use Rattle.splits.specs.declared.subproblem.Subproblem.{Subproblem}
-use Rattle.splits.proofs.Masks.{common-none, none-minus, minus-part, part-lt}
+use Rattle.splits.proofs.Masks.{common-none, none-minus}
 use Rattle.splits.proofs.Tests.{true-false, some-none, some-all-not}
 use Rattle.splits.proofs.Loops.{changed-next}
 use Rattle.splits.proofs.Domains.{length-changed, changed-before, changed-after}
@@ -33,7 +33,7 @@ use Rattle.search.specs.Work.Found.{AtTop, RoomFor, innerBy, outerBy, Sp
 use Rattle.search.specs.declared.choice.Choice.{Choice}
 use Rattle.search.proofs.Candidates.{firsts, firsts-start, firsts-drop, firsts-keep, pieces-are}
 use Rattle.search.proofs.Gathering.{Gathered, gather-none, gather-drop, gather-slot, gather-keep, gather-replaced}
-use Rattle.search.proofs.AtOnce.{word, or-none, or-parts}
+use Rattle.search.proofs.AtOnce.{or-none, or-parts}
 use Rattle.search.proofs.Lone.{some-left}
 use Rattle.search.proofs.Settling.{several-kept, several-more, put-variable, put-member, put-reads, put-precluded, put-kept}
 
@@ -73,12 +73,6 @@ module _ (n d : ℕ) (t : List ℕ) (P : Subproblem) (c : Choice) (below words :
   less-other : (i : ℕ) → (i ≡ c .variable → ⊥) → getD less i 0 ≡ domain P i
   unfolding less without
   less-other i k = getD-set-other (P .domains) (c .variable) i _ 0 k
-
-  less-word : (i : ℕ) → getD less i 0 < 2 ^ 16
-  less-word i = elim (ℕ-discrete i (c .variable)) [
-    | yes e ↦ rw (e, less-own) (part-lt 16 (minus (domain P (c .variable)) (single (c .value))) (domain P (c .variable)) (minus-part (domain P (c .variable)) (single (c .value))) (word n d P few (h .fitting .small) (h .regular) (c .variable)))
-    | no k ↦ rw (less-other i k) (word n d P few (h .fitting .small) (h .regular) i)
-  ]
 
   less-past : (i : ℕ) → n ≤ i → getD less i 0 ≡ 0
   less-past i k = less-other i (λ e. omega (arith, below-n)) ∙ h .regular .shape .past i k
