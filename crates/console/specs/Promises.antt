@@ -2,8 +2,8 @@
 use mathlib.Core.Path.{_≡_}
 use mathlib.Core.Logic.{_↔_}
 use mathlib.Core.List.{List, _++_}
-use Prim.Native.Nat.{ℕ, _+_, _≤_, _<_}
-use lib.ListN.{length, getD}
+use Prim.Native.Nat.{ℕ, _+_, _≤_}
+use lib.ListN.{length}
 use Rattle.search.specs.Verdicts.{numberOf}
 use Rattle.search.specs.Runs.{requestsIn}
 use Rattle.search.specs.FirstChecks.{Deserves-1, Deserves-2, WholeRequests}
@@ -12,6 +12,8 @@ use Rattle.search.specs.declared.state.State.{State}
 use Rattle.search.specs.declared.state.Opened.{Opened}
 use Rattle.search.specs.declared.state.Ran.{Ran}
 use Rattle.files.specs.Reading.{Deserves-14, Deserves-15}
+use Rattle.search.specs.Agenda.{Words}
+use Rattle.files.specs.Promises.{Bytes}
 use Rattle.files.specs.Calls.{Loads}
 use Rattle.files.specs.declared.saved.Loaded.{Loaded}
 use Rattle.console.specs.Bytes.{Whole, wordsOf, bytesOf}
@@ -19,17 +21,13 @@ use Rattle.console.specs.Calls.{unwhole, unwholeFile, WholeProblem, Open
 
 -- ---- words and bytes say each other
 
--- Every word is below a bound.
-abbrev pub Below : ℕ → List ℕ → Type 0
-Below bound l = (i : ℕ) → getD l i 0 < bound
-
 -- The bytes of words are whole words, bytes if the words have 16 bits, and say the words again.
 abbrev pub Words-again : Type 0
-Words-again = (words : List ℕ) → Whole (bytesOf words) × (Below 65536 words → Below 256 (bytesOf words)) × (wordsOf (bytesOf words) ≡ words)
+Words-again = (words : List ℕ) → Whole (bytesOf words) × (Words words → Bytes (bytesOf words)) × (wordsOf (bytesOf words) ≡ words)
 
 -- The words that whole words of bytes say have 16 bits, and their bytes are the bytes again.
 abbrev pub Bytes-again : Type 0
-Bytes-again = (bytes : List ℕ) → Whole bytes → Below 256 bytes → Below 65536 (wordsOf bytes) × (bytesOf (wordsOf bytes) ≡ bytes)
+Bytes-again = (bytes : List ℕ) → Whole bytes → Bytes bytes → Words (wordsOf bytes) × (bytesOf (wordsOf bytes) ≡ bytes)
 
 -- ---- a slice that is not whole words, in 3's place of the order
 
@@ -86,7 +84,7 @@ Load-in-words =
 -- more, it is the run of `requests`.
 abbrev pub Run-in-parts : Type 0
 Run-in-parts =
-    (n d : ℕ) (domains tables before mid requests more : List ℕ) (s : State) (r : Ran) → Below 65536 before → s .counts .steps .0 ≤ 4294967295
+    (n d : ℕ) (domains tables before mid requests more : List ℕ) (s : State) (r : Ran) → Words before → s .counts .steps .0 ≤ 4294967295
     → WholeRequests n (length requests) → WholeRequests n (length more) → Runs n d domains tables before mid requests s r
     → (r .refusal ≡ 0 → r .taken ≡ length (requestsIn n requests) → (after : List ℕ) (q : Ran) → Runs n d domains tables mid after more (r .state) q
     → Runs n d domains tables before after (requests ++ more) s
