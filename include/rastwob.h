@@ -51,7 +51,8 @@ extern "C" {
 #define RASTWOB_AGENDA_BYTES(n, slots) ((size_t)2 * (size_t)(slots) * ((size_t)(n) + 2u))
 #define RASTWOB_REQUESTS_BYTES(n, requests) ((size_t)2 * (size_t)(requests) * ((size_t)(n) + 3u))
 
-/* The words that save writes for so many subproblems, their blocks (253 words of each are content), and bytes. */
+/* The words that save writes for so many subproblems, their blocks (253 words of each are content), and bytes. A file
+ * buffer of the largest is never refused 13. */
 #define RASTWOB_FILE_WORDS(n, d, subproblems) \
     (9u + (size_t)(n) + (size_t)(n) * ((size_t)(n) - 1u) / 2u * (size_t)(d) + \
      (size_t)(subproblems) * ((size_t)(n) + 2u))

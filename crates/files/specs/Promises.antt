@@ -147,7 +147,7 @@ Largest-met =
     → ((P : Subproblem) → List·Memᴰ P (s .stack) → Shape 32 16 P)
     → (length (contentOf 32 16 domains allowed s) ≡ 25385) × (blocksFor (length (contentOf 32 16 domains allowed s)) ≡ 101)
 
--- So a buffer of 101 blocks takes any search that passes the first checks, in memory of words.
+-- So a buffer of 101 blocks, 51,712 bytes, takes any search that passes the first checks, in memory of words.
 abbrev pub Save-enough : Type 0
 Save-enough =
     (n d : ℕ) (domains tables agenda : List ℕ) (s : State) (before after : List ℕ) (r : Saved) → Words agenda

@@ -4,7 +4,6 @@ use crate::rows;
 use splits::mask;
 ghost use mathlib.Core.Path.{_≡_};
 ghost use Prim.Native.Nat.{_+_, _*_, _≤_, _<_};
-ghost use lib.Dec.{eqb};
 ghost use lib.ListN.{length};
 ghost use Rattle.splits.specs.Masks.{bit};
 ghost use Rattle.splits.specs.Problem.{tableOf};
@@ -13,17 +12,6 @@ ghost use Rattle.splits.specs.Ranges.{Sized};
 ghost use Rattle.search.specs.Agenda.{problemOf, subproblemOf, stackOf};
 ghost use Rattle.search.specs.FirstChecks.{obeys, allObey};
 ghost use Rattle.search.specs.Work.FirstTests.{Mirrored, SlotFits, Next, joined, partWrong, wrongIn, pairAllowed, beforeAgrees, markObeys};
-
-// Whether a value is in a mask.
-fn has(mask: u16, value: usize) -> bool
-    ensures { λ r. ⌜ r ≡ eqb (bit mask value) 1 ⌝ }
-{
-    if value < 16 {
-        (mask >> value) % 2 == 1
-    } else {
-        false
-    }
-}
 
 // What is wrong with a domain beside the problem's: that it is empty, or values that the problem's has not; 0 for nothing.
 fn part_wrong(whole: u16, domain: u16) -> u16
@@ -77,7 +65,7 @@ fn pair_allowed(slot: &[u16], n: usize, d: usize, tables: &[u16], i: usize, j: u
     if d <= a {
         return false;
     }
-    has(rows::allowed(n, d, tables, i, j, a), mask::lowest(slot[j]))
+    mask::has(rows::allowed(n, d, tables, i, j, a), mask::lowest(slot[j]))
 }
 
 // Whether the value of the instantiated variable `i` agrees with every one's before it that is instantiated: so each two are looked at once.

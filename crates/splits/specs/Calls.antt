@@ -34,6 +34,9 @@ Count mask r = r ≡ size mask
 abbrev pub Lowest : ℕ → ℕ → Type 0
 Lowest mask r = r ≡ lowest mask
 
+abbrev pub Has : ℕ → ℕ → Bool → Type 0
+Has mask value r = r ≡ eqb (bit mask value) 1
+
 abbrev pub Smaller-half : ℕ → ℕ → Type 0
 Smaller-half mask r = r ≡ smallerHalf mask
 

@@ -1,9 +1,8 @@
 // A mask: a set of values, bit v for value v.
 ghost use mathlib.Core.Path.{_≡_};
 ghost use Prim.Native.Nat.{_+_, _-_, _/_, _<_, _≤_};
-ghost use lib.Dec.{eqb};
-ghost use Rattle.splits.specs.Masks.{bit, single, size, smallest};
-ghost use Rattle.splits.specs.Calls.{Count, Lowest, Smaller-half};
+ghost use Rattle.splits.specs.Masks.{single, size, smallest};
+ghost use Rattle.splits.specs.Calls.{Count, Lowest, Has, Smaller-half};
 
 // The number of values in a mask.
 pub fn count(mask: u16) -> usize
@@ -28,8 +27,8 @@ pub(crate) fn only(value: usize) -> u16
 }
 
 // Whether a value is in a mask.
-pub(crate) fn has(mask: u16, value: usize) -> bool
-    ensures { λ r. ⌜ r ≡ eqb (bit mask value) 1 ⌝ }
+pub fn has(mask: u16, value: usize) -> bool
+    ensures { λ r. ⌜ Has mask value r ⌝ }
 {
     if value < 16 {
         (mask >> value) % 2 == 1
