@@ -1,5 +1,5 @@
 // The calls on bytes: at the words that the bytes say, or refused where these are not whole words or more than the rules allow. Tables are made
-// last: the first checks begin with them, and find them in the cache.
+// last, but of a run before its agenda: the first checks begin with them, and find them in the cache.
 use crate::bytes;
 use crate::numbers;
 use crate::parts;
