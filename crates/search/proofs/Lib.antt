@@ -24,6 +24,7 @@ pub mod Cases
 pub mod Planners
 pub mod Candidates
 pub mod Gathering
+pub mod Keeping
 pub mod Accepting
 pub mod Shapes
 pub mod Stepping

@@ -1,5 +1,7 @@
 // A step: the top subproblem gives way to the pieces of a request, in the lent agenda.
 use crate::agenda;
+use crate::lanes;
+use crate::rows;
 use crate::state::Checks;
 use crate::state::Counts;
 use crate::state::State;
@@ -18,7 +20,7 @@ ghost use Rattle.splits.specs.Splits.{pieces, candidates};
 ghost use Rattle.splits.specs.Checks.{checks};
 ghost use Rattle.splits.specs.Calls.{readable};
 ghost use Rattle.splits.specs.Ranges.{Sized};
-ghost use Rattle.search.specs.Work.Steps.{Placing, Placed, Replaced, Taking, TakesOne, refusalFor};
+ghost use Rattle.search.specs.Work.Steps.{TellsEmpty, Placing, Placed, Replaced, Taking, TakesOne, refusalFor};
 
 // Where a run stops: the refusal, the requests taken and the state it leaves.
 pub(crate) struct Stop {
@@ -92,6 +94,36 @@ fn refusal_of(
     0
 }
 
+// Whether variable k - 1 keeps no value in its own further piece, the k-th of kind 3 or 5: such a piece is empty and need not be made.
+fn keeps_none(
+    top: Subproblem,
+    n: usize,
+    d: usize,
+    tables: &[u16],
+    request: &[u16],
+    k: usize,
+) -> bool
+    requires { ⌜ (readable n d (now tables) (now request) ≡ true) × (k < candidates n (now request)) ⌝ }
+    ensures { λ r. ⌜ TellsEmpty n d (now (tables .entry)) top (now (request .entry)) k r ⌝ }
+{
+    if request.len() < n + 3 {
+        return false;
+    }
+    if k == 0 {
+        return false;
+    }
+    let j = k - 1;
+    let domain = top.domain(j);
+    if request[0] == 3 {
+        let beside = rows::allowed(n, d, tables, request[1] as usize, j, request[2] as usize);
+        return lanes::outside(domain, beside) == 0;
+    }
+    if request[0] == 5 {
+        return lanes::outside(domain, request[3 + j]) == 0;
+    }
+    false
+}
+
 // The pieces written from slot `from` on, the last named lowest; the number of slots then used.
 fn place(
     top: Subproblem,
@@ -109,10 +141,12 @@ fn place(
     let mut k = split::candidates(n, request);
     while 0 < k {
         k -= 1;
-        let piece = split::piece(top, n, d, tables, request, k);
-        if !piece.is_empty(n) {
-            agenda::write_slot(n, agenda, at, piece);
-            at += 1;
+        if !keeps_none(top, n, d, tables, request, k) {
+            let piece = split::piece(top, n, d, tables, request, k);
+            if !piece.is_empty(n) {
+                agenda::write_slot(n, agenda, at, piece);
+                at += 1;
+            }
         }
     }
     at

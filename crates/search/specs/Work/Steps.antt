@@ -1,13 +1,13 @@
 -- What a step asks of memory and of a request, and what a step or a run leaves.
 use mathlib.Core.Path.{_≡_}
-use mathlib.Core.Bool.{true, false, cond}
+use mathlib.Core.Bool.{Bool, true, false, cond}
 use mathlib.Core.List.{List, [], _∷_}
 use Prim.Native.Nat.{ℕ, _+_, _-_, _*_, _≤_}
 use lib.ListN.{length, replicate}
 use lib.Dec.{eqb, ltb}
 use Rattle.splits.specs.Problem.{tableOf}
-use Rattle.splits.specs.Subproblems.{instantiated}
-use Rattle.splits.specs.Splits.{pieces}
+use Rattle.splits.specs.Subproblems.{instantiated, empty}
+use Rattle.splits.specs.Splits.{pieces, candidate}
 use Rattle.splits.specs.Refusals.{refusalOf}
 use Rattle.splits.specs.Calls.{readable}
 use Rattle.splits.specs.declared.subproblem.Subproblem.{Subproblem}
@@ -24,6 +24,10 @@ use Rattle.search.specs.declared.step.Stop.{Stop}
 pub record Placing (n d : ℕ) (tables : List ℕ) (P : Subproblem) (r : List ℕ) (from words : ℕ) : Type 0 where
   pub reads : readable n d tables r ≡ true
   pub room : (from + length (pieces n (tableOf n d tables) P r)) * (n + 2) ≤ words
+
+-- A test that is passed only by a candidate that is empty.
+abbrev pub TellsEmpty : ℕ → ℕ → List ℕ → Subproblem → List ℕ → ℕ → Bool → Type 0
+TellsEmpty n d tables P r k b = b ≡ true → empty n (candidate n (tableOf n d tables) P r k) ≡ true
 
 -- Its pieces written from a slot on; how many slots are used then.
 pub record Placed (n : ℕ) (l : List Subproblem) (from : ℕ) (before after : List ℕ) (r : ℕ) : Type 0 where
