@@ -10,7 +10,7 @@ use native.Mathlib.Numerals.{add-one}
 use native.Mathlib.Nat.{lt-of-lt-of-le, add-zero}
 use native.Mathlib.Decide.{decLt, ℕ-discrete}
 use lib.ListN.{getD, set}
-use lib.Bits.{bitOr}
+use lib.Bits.{bitOr, or-zero-r}
 use lib.Count.{ones-le}
 use lib.Pow.{pow-mono}
 use lib.Dec.{eqb}
@@ -20,11 +20,11 @@ use Rattle.splits.specs.Problem.{total}
 use Rattle.splits.specs.Subproblems.{domain, some}
 use Rattle.splits.specs.Checks.{valuesIn, others}
 use Rattle.splits.specs.declared.subproblem.Subproblem.{Subproblem}
-use Rattle.splits.proofs.Masks.{bit-le, bit-none, bit-ext, bit-common, bit-minus, bit-or, bit-single-same, member-some, size-of-none}
+use Rattle.splits.proofs.Masks.{bit-le, bit-or, bit-single-same, member-some, size-of-none}
 use Rattle.splits.proofs.Loops.{changed-more, changed-next}
 use Rattle.search.specs.Promises.{Fewest}
 use Rattle.search.specs.Work.Kept.{Regular}
-use Rattle.search.specs.Work.Lanes.{keyOf, LeastKey, lost, cutTo, outsideTo}
+use Rattle.search.specs.Work.Lanes.{keyOf, LeastKey, lost, outsideTo}
 
 -- ---- turns of the loops
 
@@ -80,14 +80,7 @@ module _ (m mask : ℕ) where
   unfolding lost
   loss-none h e = rw (ne-eqb m 0 h, ne-eqb (common m mask) 0 e) refl
 
--- A number joined with none, and with 1.
-pub or-none : (x : ℕ) → bitOr x 0 ≡ x
-or-none x = bit-ext (bitOr x 0) x (λ v. rw (bit-or, bit-none v) (omega arith))
-
--- What is common with a mask, joined with the rest.
-pub or-parts : (x mask : ℕ) → bitOr (common x mask) (minus x mask) ≡ x
-or-parts x mask = bit-ext (bitOr (common x mask) (minus x mask)) x (λ v. rw (bit-or, bit-common, bit-minus) (omega (arith, bit-le x v, bit-le mask v)))
-
+-- A number joined with 1.
 or-one : (x : ℕ) → bitOr x 1 ≡ 0 → ⊥
 or-one x = member-some (bitOr x 1) 0 (rw (bit-or, bit-single-same 0) (omega (arith, bit-le x 0)))
 
@@ -102,17 +95,11 @@ some-turn f i x m e h = rw (add-one, ← e, h) (go (f i))
         or-true : (a : Bool) → (a || true) ≡ true
         or-true true = refl
         or-true false = refl
-    go false = rw (or-none x) (or-false (not (eqb x 0)))
+    go false = rw (or-zero-r x) (or-false (not (eqb x 0)))
       where
         or-false : (a : Bool) → a ≡ (a || false)
         or-false true = refl
         or-false false = refl
-
--- One mask more cut.
-pub cut-more : (l row m : List ℕ) (i : ℕ) → m ≡ cutTo l row i → set m i (common (getD m i 0) (getD row i 0)) ≡ cutTo l row (i + 1)
-unfolding cutTo
-cut-more l row m i e =
-    rw (e, add-one, changed-next i (λ j m. common m (getD row j 0)) l) (changed-more i (λ j m. common m (getD row j 0)) l)
 
 -- One mask more left outside.
 pub outside-more : (l row m : List ℕ) (i x : ℕ) → m ≡ outsideTo l row i → x ≡ minus (getD m i 0) (getD row i 0) → set m i x ≡ outsideTo l row (i + 1)

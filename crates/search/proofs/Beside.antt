@@ -10,7 +10,8 @@ use lib.ListN.{length, getD, set, replicate, length-set, length-replicate, getD-
 use lib.Seq.{getD-set-same, getD-set-other}
 use Rattle.splits.specs.Masks.{single}
 use Rattle.splits.specs.Problem.{Table, tableOf}
-use Rattle.search.specs.Work.Lanes.{RowOf, Rows}
+use Rattle.splits.specs.Splits.{RowOf}
+use Rattle.search.specs.Work.Lanes.{Rows}
 
 -- A row of which the first j masks are made, but for V's own.
 pub record Begun (allowed : Table) (V′ v j : ℕ) (row : List ℕ) : Type 0 where

@@ -12,14 +12,14 @@ use borrow.Author.Tests.{le-leb, lt-ltb, le-ltb}
 use Rattle.splits.specs.Masks.{single}
 use Rattle.splits.specs.Problem.{tableOf}
 use Rattle.splits.specs.Subproblems.{empty}
-use Rattle.splits.specs.Splits.{precluded, without, pieces, filled, named, keep, forwardChecking, checked, candidates, candidate}
+use Rattle.splits.specs.Splits.{precluded, precludedBy, without, pieces, filled, named, keep, forwardChecking, checked, candidates, candidate}
 use Rattle.splits.specs.Calls.{Piece, Candidates}
 use Rattle.splits.specs.declared.subproblem.Subproblem.{Subproblem}
 use Rattle.search.specs.Agenda.{slotWords, slotsIn}
 use Rattle.search.specs.Work.Slots.{splice, SlotIn}
 use Rattle.search.specs.Work.Steps.{Replaced}
 use Rattle.search.specs.Work.Choices.{chosenFor}
-use Rattle.search.specs.Work.Found.{AtTop, RoomFor, Puts, requestBy, precludedBy, leftBy, several}
+use Rattle.search.specs.Work.Found.{AtTop, RoomFor, Puts, requestBy, leftBy, several}
 use Rattle.search.specs.declared.choice.Choice.{Choice}
 use Rattle.search.proofs.Gathering.{Gathered, gather-none, gather-slot, gather-keep, gather-replaced}
 use Rattle.search.proofs.Settling.{several-kept, left-is, left-few, kindBy, chosen-by, put-reads, put-precluded, put-kept, put-rest}
@@ -42,7 +42,7 @@ module _ (n d : ℕ) (t : List ℕ) (P : Subproblem) (c : Choice) (below words :
   piece-of k Q l e = e ∙ rw (put-reads n d t P c below words h 2 (inl refl), lt-ltb k 2 l) refl
 
   module _ (before : List ℕ) (whole : length before ≡ words) (room : RoomFor n d t P c 2 below words) (Q : Subproblem) (q : Q ≡ without P (c .variable) (getD (c .row) (c .variable) 0))
-      (R : Subproblem) (p : R ≡ precludedBy P c) where
+      (R : Subproblem) (p : R ≡ precludedBy P (c .variable) (c .row)) where
     start : Gathered n d t P r before below before below 2
     start = gather-none n d t P r (put-reads n d t P c below words h 2 (inl refl)) before below 2 (h .regular .shape .long) two-named
 

@@ -13,7 +13,7 @@ use Rattle.search.specs.Work.Matrices.{risen, sunk, unlike}
 use Rattle.search.proofs.Joining.{bit-shr}
 use Rattle.search.proofs.Turning.{bit-low, bit-shl, bit-not}
 
-bit-xor : (a b v : ℕ) → bit (bitXor a b) v ≡ (bit a v + bit b v) % 2
+pub bit-xor : (a b v : ℕ) → bit (bitXor a b) v ≡ (bit a v + bit b v) % 2
 bit-xor a b zero = simp bit-zero (omega (arith, xor-add-and a b))
 bit-xor a b (suc v) =
     let half : bitXor a b / 2 ≡ bitXor (a / 2) (b / 2) = xor-shr a b 1 in

@@ -3,28 +3,27 @@
 use mathlib.Core.Path.{_≡_, refl, sym, ap, _∙_}
 use mathlib.Core.Bool.{true, cond}
 use mathlib.Core.List.{List, _++_}
-use Prim.Native.Nat.{ℕ, _+_, _-_, _*_, _/_, _%_, _^_, _≤_, _<_}
+use Prim.Native.Nat.{ℕ, _+_, _-_, _*_, _/_, _%_, _^_, _≤_, _<_, min, max}
 use native.Mathlib.Omega.{arith}
 use native.Mathlib.Decide.{decLt, ℕ-discrete}
-use native.Mathlib.Numerals.{add-one}
 use lib.ListN.{length, getD, set, take, drop, replicate, length-set, length-append, length-take, length-drop, length-replicate, List·getD-append}
 use lib.Seq.{length-take-le, getD-set-same, getD-set-other, getD-take, getD-drop, getD-append-add, take-take, ext-getD}
-use lib.Bits.{bitOr}
+use lib.Bits.{bitOr, bitXor, xor-zero-r, or-zero-r}
 use lib.Pow.{pow-mono, pow-pos}
 use lib.Dec.{eqb, ltb, leb}
-use borrow.Author.Tests.{lt-ltb, le-ltb, eqb-true, le-leb, lt-leb}
+use borrow.Author.Tests.{eq-eqb, ne-eqb, lt-ltb, le-ltb, eqb-true, le-leb, lt-leb}
 use Rattle.splits.specs.Masks.{bit, common, minus, size}
 use Rattle.splits.specs.Subproblems.{every}
-use Rattle.splits.proofs.Masks.{common-none, not-minus}
+use Rattle.splits.proofs.Masks.{bit-le, bit-ext, bit-above, bit-common, bit-minus, bit-or, all-set, common-none, not-minus}
 use Rattle.splits.proofs.Tests.{every-at}
-use Rattle.splits.proofs.Loops.{changed-more, changed-next}
 use Rattle.splits.proofs.Subproblems.{shifted}
 use Rattle.search.specs.Agenda.{holding, subproblemOf, slotAt}
 use Rattle.search.specs.Work.Slots.{SlotIn}
-use Rattle.search.specs.Work.Lanes.{Half, Beyond, Below, Kept, KeptTo, keyOf, Sides, joinedTo}
+use Rattle.search.specs.Work.Lanes.{Half, Beyond, Below, Kept, KeptTo, keyOf, Sides, Share, FurtherTo}
 use Rattle.search.proofs.Copies.{zeros-at}
 use Rattle.search.proofs.Joining.{bit-shr}
 use Rattle.search.proofs.Turning.{bit-low}
+use Rattle.search.proofs.Exchanging.{bit-xor}
 
 -- ---- sets
 
@@ -66,6 +65,11 @@ beyond-is i h = record {
 pub all-common : (x : ℕ) → x < 2 ^ 16 → common x 65535 ≡ x
 unfolding minus
 all-common x h = not-minus 16 x 0 h (omega arith) ∙ rw (common-none x) (omega arith)
+
+-- Nothing of it is outside them.
+pub all-minus : (x : ℕ) → x < 2 ^ 16 → minus x 65535 ≡ 0
+unfolding minus
+all-minus x h = rw (all-common x h) (omega arith)
 
 -- No lane yet, and one more.
 pub below-none : Below 0 (replicate 32 0)
@@ -152,15 +156,45 @@ sides-more l i s h k = record {
   ];
 }
 
--- One mask more joined.
-pub joined-more : (cut out sides m : List ℕ) (j i x : ℕ) → m ≡ joinedTo cut out j i → Sides 64 sides → i < 32 → j ≤ 32 → Kept (getD out i 0) (getD sides (32 - j + i) 0) x
-    → set m i (bitOr (getD m i 0) x) ≡ joinedTo cut out j (i + 1)
-unfolding joinedTo
-joined-more cut out sides m j i x e s h l w =
-    rw (its-side, e, add-one, changed-next i (λ k m. bitOr m (cond (ltb k j) 0 (getD out k 0))) cut) (changed-more i (λ k m. bitOr m (cond (ltb k j) 0 (getD out k 0))) cut)
+-- A mask that is turned round by all bits, and all bits.
+pub share-is : (mask from past : ℕ) → Share mask from past (bitOr (bitXor mask from) past)
+share-is mask from past = record {
+  before = λ e f. rw (e, f, xor-zero-r, or-zero-r) refl;
+  own = λ e f m h. rw (e, f, or-zero-r) (bit-ext (common m (bitXor mask 65535)) (minus m mask) (λ v. rw (bit-common, bit-xor, bit-minus) (turned m h v)));
+  after = λ f m h. rw f (bit-ext (common m (bitOr (bitXor mask from) 65535)) m (λ v. rw (bit-common, bit-or) (whole m h v)));
+}
   where
-    its-side : x ≡ cond (ltb i j) 0 (getD out i 0)
-    its-side = elim (decLt i j) [
-      | yes k ↦ rw (lt-ltb i j k) (w .1 (s .none (32 - j + i) (omega arith)))
-      | no k ↦ rw (le-ltb i j (omega arith)) (w .0 (s .all (32 - j + i) (omega arith) (omega arith)))
+    turned : (m : ℕ) → m < 65536 → (v : ℕ) → min (bit m v) ((bit mask v + bit 65535 v) % 2) ≡ bit m v - bit mask v
+    turned m h v = elim (decLt v 16) [
+      | yes k ↦ let all : bit 65535 v ≡ 1 = all-set 16 v k in rw all (omega (arith, bit-le m v, bit-le mask v))
+      | no k ↦ rw (bit-above 16 m v h (omega arith)) (omega arith)
+    ]
+
+    whole : (m : ℕ) → m < 65536 → (v : ℕ) → min (bit m v) (max (bit (bitXor mask from) v) (bit 65535 v)) ≡ bit m v
+    whole m h v = elim (decLt v 16) [
+      | yes k ↦ let all : bit 65535 v ≡ 1 = all-set 16 v k in rw all (omega (arith, bit-le m v, bit-le (bitXor mask from) v))
+      | no k ↦ rw (bit-above 16 m v h (omega arith)) (omega arith)
+    ]
+
+-- No variable of a further piece yet, and one more.
+pub further-none : (row : List ℕ) (j : ℕ) → FurtherTo row j 0 (replicate 32 0)
+further-none row j = record { long = refl; each = λ k h. absurd (omega arith) }
+
+pub further-more : (row sides masks : List ℕ) (j i x : ℕ) → FurtherTo row j i masks → Sides 64 sides → i < 32 → j < 32
+    → Share (getD row i 0) (getD sides (32 - j + i) 0) (getD sides (31 - j + i) 0) x → FurtherTo row j (i + 1) (set masks i x)
+further-more row sides masks j i x so-far s h l w = record {
+  long = length-set masks i x ∙ so-far .long;
+  each = λ k q m b. elim (ℕ-discrete k i) [
+    | yes e ↦ rw (e, getD-set-same masks i x 0 (omega (arith, so-far .long))) (here m b)
+    | no e ↦ rw (getD-set-other masks i k x 0 e) (so-far .each k (omega arith) m b)
+  ];
+}
+  where
+    here : (m : ℕ) → m < 65536 → common m x ≡ cond (ltb i j) (common m (getD row i 0)) (cond (eqb i j) (minus m (getD row i 0)) m)
+    here m b = elim (decLt i j) [
+      | yes k ↦ rw (lt-ltb i j k, w .before (s .none (32 - j + i) (omega arith)) (s .none (31 - j + i) (omega arith))) refl
+      | no k ↦ rw (le-ltb i j (omega arith)) (elim (ℕ-discrete i j) [
+        | yes e ↦ rw (eq-eqb i j e) (w .own (s .all (32 - j + i) (omega arith) (omega arith)) (s .none (31 - j + i) (omega arith)) m b)
+        | no e ↦ rw (ne-eqb i j e) (w .after (s .all (31 - j + i) (omega arith) (omega arith)) m b)
+      ])
     ]

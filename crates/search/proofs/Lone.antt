@@ -7,23 +7,22 @@ use Prim.Native.Nat.{ℕ, _-_, _≤_, _<_}
 use native.Mathlib.Omega.{arith}
 use native.Mathlib.Decide.{decLt, ℕ-discrete}
 use lib.ListN.{length, getD, set, length-set}
-use lib.Seq.{getD-set-same, getD-set-other, ext-getD}
-use lib.Bits.{bitOr}
+use lib.Seq.{getD-set-same, getD-set-other}
 use lib.Dec.{eqb}
 use borrow.Author.Tests.{eq-eqb, ne-eqb, eqb-true, eqb-false}
 use Rattle.splits.specs.Masks.{_∈_, single, common, minus, size}
 use Rattle.splits.specs.Problem.{Table}
 use Rattle.splits.specs.Subproblems.{domain, some, empty}
-use Rattle.splits.specs.Splits.{changed, below, keep, filled, instantiate, without, cutBeside, precluded, disjunct, forwardChecking, idc, named, pieces}
+use Rattle.splits.specs.Splits.{changed, below, keep, filled, without, cutBeside, precluded, disjunct, forwardChecking, idc, named, pieces, RowOf}
 use Rattle.splits.specs.declared.subproblem.Subproblem.{Subproblem}
-use Rattle.splits.proofs.Masks.{none-common, minus-self, size-of-none, size-split, size-single, part-common, part-single, single-of}
+use Rattle.splits.proofs.Masks.{minus-self, size-of-none, size-split, size-single, part-common, part-single, single-of}
 use Rattle.splits.proofs.Tests.{true-false, same-test, some-at, some-found, some-all-not, and-left, and-right}
-use Rattle.splits.proofs.Domains.{length-changed, changed-before, changed-after}
+use Rattle.splits.proofs.Domains.{changed-before, changed-after}
 use Rattle.splits.proofs.Subproblems.{empty-at, precluded-empty}
 use Rattle.splits.proofs.Lists.{each-of}
 use Rattle.search.specs.Chooser.{request}
 use Rattle.search.specs.Work.Kept.{Regular}
-use Rattle.search.specs.Work.Lanes.{RowOf, lost, loses, cutTo}
+use Rattle.search.specs.Work.Lanes.{lost, loses}
 
 -- A list of which nothing passes.
 keep-none : {A : Type 0} (f : A → Bool) (l : List A) → ((x : A) → List·Memᴰ x l → f x ≡ false) → keep f l ≡ []
@@ -77,31 +76,6 @@ module _ (n d : ℕ) (allowed : Table) (P : Subproblem) (V′ v : ℕ) (few : n 
           ]
           | no l ↦ absurd (eqb-false (domain P i) 0 e (reg .shape .past i (omega arith)))
         ]
-
-    -- All domains cut to the row, with V marked, are the precluded piece.
-    pub cut-is : (m : ℕ) → m ≡ bitOr (P .marked) (single V′) → record { domains = cutTo (P .domains) row 32; marked = m } ≡ precluded n allowed P V′ v
-    unfolding cutTo precluded instantiate cutBeside besides
-    cut-is m e = λ t. record { domains = all t; marked = e t }
-      where
-        long : length (changed n besides (P .domains)) ≡ 32
-        long = length-changed n besides (P .domains) ∙ reg .shape .long
-
-        at : (i : ℕ) → i < 32 → common (domain P i) (getD row i 0) ≡ getD (set (changed n besides (P .domains)) V′ (single v)) i 0
-        at i l = elim (ℕ-discrete i V′) [
-          | yes s ↦ rw (s, its .own, getD-set-same (changed n besides (P .domains)) V′ (single v) 0 (omega (arith, long))) own-common
-          | no s ↦ rw (getD-set-other (changed n besides (P .domains)) V′ i (single v) 0 s) (elim (decLt i n) [
-            | yes k ↦ rw (its .other i k s, changed-before n besides (P .domains) i k (at-most i k), ne-eqb i V′ s) refl
-            | no k ↦ rw (changed-after n besides (P .domains) i (omega arith), reg .shape .past i (omega arith)) (none-common (getD row i 0))
-          ])
-        ]
-
-        all : changed 32 (λ j m. common m (getD row j 0)) (P .domains) ≡ set (changed n besides (P .domains)) V′ (single v)
-        all =
-            ext-getD 0 _ _
-            (length-changed 32 (λ j m. common m (getD row j 0)) (P .domains) ∙ reg .shape .long ∙ sym (length-set (changed n besides (P .domains)) V′ (single v) ∙ long))
-            (λ i l.
-            let k : i < 32 = omega (arith, length-changed 32 (λ j m. common m (getD row j 0)) (P .domains), reg .shape .long) in
-            changed-before 32 (λ j m. common m (getD row j 0)) (P .domains) i k (omega (arith, reg .shape .long)) ∙ at i k)
 
   -- What is left of V without v.
   left : getD (without P V′ (single v) .domains) V′ 0 ≡ minus (domain P V′) (single v)

@@ -6,7 +6,6 @@ use mathlib.Core.Bool.{Bool, true, false, not, cond, _||_}
 use mathlib.Core.List.{List, [], _∷_}
 use Prim.Native.Nat.{ℕ, _+_, _-_, _*_, _%_, _/_, _^_, _≤_, _<_}
 use native.Mathlib.Omega.{arith}
-use native.Mathlib.Nat.{one-mul, mod-eq-of-lt}
 use lib.ListN.{length, getD, replicate, length-replicate}
 use lib.Bits.{bitOr}
 use lib.Dec.{eqb, ltb}
@@ -14,24 +13,25 @@ use borrow.Author.Tests.{eq-eqb, ne-eqb, eqb-true, eqb-false, not-true, not-fals
 use Rattle.splits.specs.Masks.{_∈_, single, size, lowest}
 use Rattle.splits.specs.Problem.{tableOf, total}
 use Rattle.splits.specs.Subproblems.{domain, empty, instantiated}
-use Rattle.splits.specs.Splits.{pieces, precluded, without}
+use Rattle.splits.specs.Splits.{pieces, precluded, without, RowOf, precludedBy}
 use Rattle.splits.specs.Checks.{checks, valuesIn, others}
 use Rattle.splits.specs.Refusals.{refusalOf}
 use Rattle.splits.specs.Calls.{inside, readable}
 use Rattle.splits.specs.Ranges.{Sized, Inside}
 use Rattle.splits.specs.declared.subproblem.Subproblem.{Subproblem}
-use Rattle.splits.proofs.Masks.{bit-le, bit-or, single-lt, lowest-member}
+use Rattle.splits.proofs.Masks.{bit-le, bit-or, lowest-member}
 use Rattle.splits.proofs.Tests.{true-false}
 use Rattle.splits.proofs.Ranges.{inside-is}
 use Rattle.splits.proofs.Refusals.{is-none}
+use Rattle.splits.proofs.Promises.{by-row}
 use Rattle.search.specs.Agenda.{slotWords, stackWords, slotsIn}
 use Rattle.search.specs.Chooser.{fewest, request}
 use Rattle.search.specs.Work.Slots.{splice, SlotIn}
 use Rattle.search.specs.Work.Kept.{Regular}
 use Rattle.search.specs.Work.Choices.{kindFor, chosenFor}
 use Rattle.search.specs.Work.Steps.{Replaced, Taking, refusalFor}
-use Rattle.search.specs.Work.Lanes.{Beyond, RowOf, LeastKey, loses, cutTo}
-use Rattle.search.specs.Work.Found.{Found, AtTop, Puts, requestBy, precludedBy, leftBy, several, TakesChosen}
+use Rattle.search.specs.Work.Lanes.{Beyond, LeastKey, loses}
+use Rattle.search.specs.Work.Found.{Found, AtTop, Puts, requestBy, leftBy, several, TakesChosen}
 use Rattle.search.specs.declared.state.State.{State}
 use Rattle.search.specs.declared.choice.Choice.{Choice}
 use Rattle.search.specs.declared.choice.Left.{Left}
@@ -41,7 +41,7 @@ use Rattle.search.proofs.Accepting.{refused-at-11}
 use Rattle.search.proofs.Stepping.{take-refused, take-steps, take-taken}
 use Rattle.search.proofs.Picking.{accepted, fewest-is}
 use Rattle.search.proofs.AtOnce.{word, least-is, values-are}
-use Rattle.search.proofs.Lone.{lost-is, cut-is, rest-full, two-none, two-rest, three-one}
+use Rattle.search.proofs.Lone.{lost-is, rest-full, two-none, two-rest, three-one}
 use Rattle.search.proofs.Running.{top-regular}
 use Rattle.search.proofs.Gathering.{splice-none}
 use Rattle.search.proofs.Choosing.{variable-below, value-below}
@@ -63,14 +63,6 @@ module _ (c : Choice) where
 
 -- ---- the pieces, as the code makes them
 
--- The marks that the code joins.
-pub precluded-made : (P : Subproblem) (c : Choice) (D : List ℕ) → c .variable < 32 → D ≡ cutTo (P .domains) (c .row) 32
-    → record { domains = D; marked = bitOr (P .marked) (1 * 2 ^ c .variable % 2 ^ 32) } ≡ precludedBy P c
-unfolding precludedBy
-precluded-made P c D h e =
-    let bit : 1 * 2 ^ c .variable % 2 ^ 32 ≡ single (c .variable) = simp one-mul (mod-eq-of-lt (single-lt 32 (c .variable) h)) in
-    λ t. record { domains = e t; marked = bitOr (P .marked) (bit t) }
-
 module _ (n : ℕ) (P : Subproblem) (c : Choice) (before after : List ℕ) (below : ℕ) (slot : SlotIn n below (length before)) where
   -- One piece in the place of the top.
   replaced-one : (Q : Subproblem) → length (Q .domains) ≡ 32 → after ≡ splice before (below * (n + 2)) (slotWords n Q)
@@ -90,7 +82,7 @@ module _ (n : ℕ) (P : Subproblem) (c : Choice) (before after : List ℕ) (belo
   replaced-none e = record { count = omega arith; words = e ∙ splice-none _ (below * (n + 2)) }
 
   -- What is left, case by case.
-  left-kept : not (c .lost) ≡ true → leftBy P c ≡ precludedBy P c ∷ []
+  left-kept : not (c .lost) ≡ true → leftBy P c ≡ precludedBy P (c .variable) (c .row) ∷ []
   unfolding leftBy
   left-kept b = rw (not-true (c .lost) b) refl
 
@@ -102,7 +94,7 @@ module _ (n : ℕ) (P : Subproblem) (c : Choice) (before after : List ℕ) (belo
   unfolding leftBy
   left-rest b k = rw (not-false (c .lost) b, ne-eqb (c .values) 1 k) refl
 
-  pub settle-kept : not (c .lost) ≡ true → (Q : Subproblem) → Q ≡ precludedBy P c → length (Q .domains) ≡ 32
+  pub settle-kept : not (c .lost) ≡ true → (Q : Subproblem) → Q ≡ precludedBy P (c .variable) (c .row) → length (Q .domains) ≡ 32
       → after ≡ splice before (below * (n + 2)) (slotWords n Q) → Replaced n (leftBy P c) below before after (below + 1)
   settle-kept b Q e long w =
       subst (λ (l : List Subproblem). Replaced n l below before after (below + 1)) (ap (λ (R : Subproblem). R ∷ []) e ∙ sym (left-kept b)) (replaced-one Q long w)
@@ -121,7 +113,7 @@ pub left-few : (P : Subproblem) (c : Choice) → length (leftBy P c) ≤ 1
 unfolding leftBy
 left-few P c = go (c .lost) (eqb (c .values) 1)
   where
-    go : (b k : Bool) → length (cond b (cond k [] (without P (c .variable) (getD (c .row) (c .variable) 0) ∷ [])) (precludedBy P c ∷ [])) ≤ 1
+    go : (b k : Bool) → length (cond b (cond k [] (without P (c .variable) (getD (c .row) (c .variable) 0) ∷ [])) (precludedBy P (c .variable) (c .row) ∷ [])) ≤ 1
     go true true = omega arith
     go true false = omega arith
     go false k = omega arith
@@ -188,9 +180,8 @@ module _ (n d : ℕ) (t : List ℕ) (P : Subproblem) (fit : Sized n d t) (reg : 
         ⊎-elim (λ (q : k ≡ 2). rw q all) (λ (q : k ≡ 3). rw q all) e
 
     -- The precluded piece.
-    pub precluded-is : precludedBy P c ≡ precluded n (tableOf n d t) P (c .variable) (c .value)
-    unfolding precludedBy
-    precluded-is = cut-is n d (tableOf n d t) P (c .variable) (c .value) (fit .few) reg variable-is value-is (c .row) (h .row) _ refl
+    pub precluded-is : precludedBy P (c .variable) (c .row) ≡ precluded n (tableOf n d t) P (c .variable) (c .value)
+    precluded-is = by-row n (tableOf n d t) P (c .variable) (c .value) (c .row) (fit .few) (reg .shape .long) (reg .shape .past) variable-is value-is (h .row)
 
     -- One piece at most.
     pub left-is : several c ≡ false → pieces n (tableOf n d t) P (requestBy c (cond (c .lost) 2 3)) ≡ leftBy P c
@@ -206,7 +197,7 @@ module _ (n d : ℕ) (t : List ℕ) (P : Subproblem) (fit : Sized n d t) (reg : 
         go : (b : Bool) → empty n (precluded n (tableOf n d t) P (c .variable) (c .value)) ≡ b → (k : Bool) → eqb (c .values) 1 ≡ k
             → cond b false (cond k false true) ≡ false
             → pieces n (tableOf n d t) P (request (cond b 2 3) (c .variable) (c .value))
-            ≡ cond b (cond k [] (without P (c .variable) (getD (c .row) (c .variable) 0) ∷ [])) (precludedBy P c ∷ [])
+            ≡ cond b (cond k [] (without P (c .variable) (getD (c .row) (c .variable) 0) ∷ [])) (precludedBy P (c .variable) (c .row) ∷ [])
         go true e true k s = two-none n d (tableOf n d t) P (c .variable) (c .value) (fit .few) reg variable-is value-is e (one k)
         go true e false k s = rw (h .row .own) (two-rest n d (tableOf n d t) P (c .variable) (c .value) (fit .few) reg variable-is value-is e (more k))
         go false e true k s =
@@ -335,7 +326,7 @@ module _ (n d : ℕ) (t : List ℕ) (P : Subproblem) (c : Choice) (below words :
   put-reads = its-words n d t P (h .fitting) (h .regular) (h .runs) c (h .found)
 
   -- The precluded piece is as the code makes it; where several are left it is not empty, nor is V without its value.
-  pub put-precluded : precludedBy P c ≡ precluded n (tableOf n d t) P (c .variable) (c .value)
+  pub put-precluded : precludedBy P (c .variable) (c .row) ≡ precluded n (tableOf n d t) P (c .variable) (c .value)
   put-precluded = precluded-is n d t P (h .fitting) (h .regular) (h .runs) c (h .found)
 
   pub put-kept : several c ≡ true → empty n (precluded n (tableOf n d t) P (c .variable) (c .value)) ≡ false

@@ -8,18 +8,17 @@ use Prim.Native.Nat.{ℕ, zero, suc, _+_, _-_, _*_, _≤_, _<_}
 use native.Mathlib.Omega.{arith}
 use native.Mathlib.Nat.{le-refl, add-zero}
 use native.Mathlib.Decide.{decLt, ℕ-discrete}
-use lib.ListN.{length, getD, set, length-set, length-append}
+use lib.ListN.{length, getD, length-set, length-append}
 use lib.Seq.{getD-set-same, getD-set-other, ext-getD}
-use lib.Bits.{bitOr}
-use lib.Dec.{eqb, ltb}
+use lib.Dec.{eqb}
 use borrow.Author.Tests.{eq-eqb, ne-eqb, le-leb, lt-ltb, le-ltb}
 use Rattle.splits.specs.Masks.{single, common, minus}
 use Rattle.splits.specs.Problem.{tableOf, total}
 use Rattle.splits.specs.Subproblems.{domain, empty}
-use Rattle.splits.specs.Splits.{changed, without, cut, cutBeside, disjunct, inferred, pieces, candidates, candidate}
+use Rattle.splits.specs.Splits.{changed, without, cut, cutEach, cutBeside, precludedBy, disjunct, inferred, pieces, candidates, candidate}
 use Rattle.splits.specs.Calls.{readable, Piece, Candidates}
 use Rattle.splits.specs.declared.subproblem.Subproblem.{Subproblem}
-use Rattle.splits.proofs.Masks.{common-none, none-minus}
+use Rattle.splits.proofs.Masks.{common-none, none-minus, minus-part, part-lt}
 use Rattle.splits.proofs.Tests.{true-false, some-none, some-all-not}
 use Rattle.splits.proofs.Loops.{changed-next}
 use Rattle.splits.proofs.Domains.{length-changed, changed-before, changed-after}
@@ -28,12 +27,14 @@ use Rattle.search.specs.Agenda.{slotWords}
 use Rattle.search.specs.Chooser.{request}
 use Rattle.search.specs.Work.Slots.{splice, SlotIn}
 use Rattle.search.specs.Work.Steps.{Replaced}
-use Rattle.search.specs.Work.Lanes.{cutTo, outsideTo, joinedTo, filled}
-use Rattle.search.specs.Work.Found.{AtTop, RoomFor, innerBy, outerBy, Spread, precludedBy, several}
+use Rattle.search.specs.Work.Lanes.{outsideTo, filled}
+use Rattle.search.specs.Work.Found.{AtTop, RoomFor, FurtherOf, FurtherPiece, several}
 use Rattle.search.specs.declared.choice.Choice.{Choice}
+use Rattle.search.specs.declared.choice.Further.{Further}
 use Rattle.search.proofs.Candidates.{firsts, firsts-start, firsts-drop, firsts-keep, pieces-are}
 use Rattle.search.proofs.Gathering.{Gathered, gather-none, gather-drop, gather-slot, gather-keep, gather-replaced}
-use Rattle.search.proofs.AtOnce.{or-none, or-parts}
+use Rattle.search.proofs.AtOnce.{word}
+use Rattle.search.proofs.Halves.{all-common, all-minus}
 use Rattle.search.proofs.Lone.{some-left}
 use Rattle.search.proofs.Settling.{several-kept, several-more, put-variable, put-member, put-reads, put-precluded, put-kept}
 
@@ -111,57 +112,51 @@ module _ (n d : ℕ) (t : List ℕ) (P : Subproblem) (c : Choice) (below words :
       sym (empty-at n (cut P (c .variable) 0) (c .variable) below-n
       (getD-set-same (P .domains) (c .variable) _ 0 (omega (arith, below-n, few, h .regular .shape .long)) ∙ common-none (domain P (c .variable))))
 
-  -- ---- the arrays of the loop
+  -- ---- what the pieces are made of
 
-  module _ (cut′ out : List ℕ) (its : Spread P c cut′ out) where
-    -- V's own, and what is allowed of another and what is not.
-    cut-own : getD cut′ (c .variable) 0 ≡ getD less (c .variable) 0
-    unfolding innerBy cutTo
-    cut-own =
-        ap (λ (l : List ℕ). getD l (c .variable) 0) (its .inner)
-        ∙ getD-set-same (cutTo (P .domains) (c .row) 32) (c .variable) _ 0 (rw (length-changed 32 (λ j m. common m (getD (c .row) j 0)) (P .domains)) (omega (arith, below-n, few, h .regular .shape .long)))
-        ∙ ap (minus (domain P (c .variable))) (h .found .row .own) ∙ sym less-own
+  module _ (f : Further) (its : FurtherOf P c f) where
+    -- V without v; the row, with all values for V.
+    rest-is : f .rest ≡ without P (c .variable) (single (c .value))
+    rest-is = its .rest ∙ ap (without P (c .variable)) (h .found .row .own)
 
-    out-own : getD out (c .variable) 0 ≡ 0
-    unfolding outerBy outsideTo
-    out-own =
-        ap (λ (l : List ℕ). getD l (c .variable) 0) (its .outer)
-        ∙ getD-set-same (outsideTo (P .domains) (c .row) 32) (c .variable) 0 0 (rw (length-changed 32 (λ j m. minus m (getD (c .row) j 0)) (P .domains)) (omega (arith, below-n, few, h .regular .shape .long)))
+    rest-domains : f .rest .domains ≡ less
+    unfolding less
+    rest-domains = ap (λ (Q : Subproblem). Q .domains) rest-is
 
-    cut-by : (i : ℕ) → i < 32 → (i ≡ c .variable → ⊥) → getD cut′ i 0 ≡ common (getD less i 0) (getD (c .row) i 0)
-    unfolding innerBy cutTo
-    cut-by i l k =
-        ap (λ (l : List ℕ). getD l i 0) (its .inner) ∙ getD-set-other (cutTo (P .domains) (c .row) 32) (c .variable) i _ 0 k
-        ∙ changed-before 32 (λ j m. common m (getD (c .row) j 0)) (P .domains) i l (omega (arith, h .regular .shape .long))
-        ∙ ap (λ (m : ℕ). common m (getD (c .row) i 0)) (sym (less-other i k))
+    row-own : getD (f .row) (c .variable) 0 ≡ 65535
+    row-own = ap (λ (l : List ℕ). getD l (c .variable) 0) (its .row) ∙ getD-set-same (c .row) (c .variable) 65535 0 (omega (arith, below-n, few, h .found .row .long))
 
-    out-by : (i : ℕ) → i < 32 → (i ≡ c .variable → ⊥) → getD out i 0 ≡ minus (getD less i 0) (getD (c .row) i 0)
-    unfolding outerBy outsideTo
-    out-by i l k =
-        ap (λ (l : List ℕ). getD l i 0) (its .outer) ∙ getD-set-other (outsideTo (P .domains) (c .row) 32) (c .variable) i 0 0 k
-        ∙ changed-before 32 (λ j m. minus m (getD (c .row) j 0)) (P .domains) i l (omega (arith, h .regular .shape .long))
-        ∙ ap (λ (m : ℕ). minus m (getD (c .row) i 0)) (sym (less-other i k))
+    row-other : (i : ℕ) → i < n → (i ≡ c .variable → ⊥) → getD (f .row) i 0 ≡ tableOf n d t (c .variable) i (c .value)
+    row-other i l k = ap (λ (l : List ℕ). getD l i 0) (its .row) ∙ getD-set-other (c .row) (c .variable) i 65535 0 k ∙ h .found .row .other i l k
 
-    cut-other : (i : ℕ) → i < n → (i ≡ c .variable → ⊥) → getD cut′ i 0 ≡ common (getD less i 0) (tableOf n d t (c .variable) i (c .value))
-    cut-other i l k = cut-by i (omega (arith, few)) k ∙ rw (h .found .row .other i l k) refl
-
-    out-other : (i : ℕ) → i < n → (i ≡ c .variable → ⊥) → getD out i 0 ≡ minus (getD less i 0) (tableOf n d t (c .variable) i (c .value))
-    out-other i l k = out-by i (omega (arith, few)) k ∙ rw (h .found .row .other i l k) refl
-
-    -- Both together are the whole; past the last variable there is nothing.
-    both : (i : ℕ) → i < 32 → bitOr (getD cut′ i 0) (getD out i 0) ≡ getD less i 0
-    both i l = elim (ℕ-discrete i (c .variable)) [
-      | yes e ↦ rw (e, cut-own, out-own) (or-none (getD less (c .variable) 0))
-      | no k ↦ rw (cut-by i l k, out-by i l k) (or-parts (getD less i 0) (getD (c .row) i 0))
+    -- A domain is a word of 16 bits.
+    less-word : (i : ℕ) → getD less i 0 < 65536
+    less-word i = elim (ℕ-discrete i (c .variable)) [
+      | yes e ↦ rw (e, less-own) (part-lt 16 _ _ (minus-part (domain P (c .variable)) (single (c .value))) (word n d P few (h .fitting .small) (h .regular) (c .variable)))
+      | no k ↦ rw (less-other i k) (word n d P few (h .fitting .small) (h .regular) i)
     ]
 
-    out-past : (i : ℕ) → n ≤ i → i < 32 → getD out i 0 ≡ 0
-    out-past i l k = out-by i k (λ e. omega (arith, below-n)) ∙ rw (less-past i l) (none-minus (getD (c .row) i 0))
+    -- What is outside the row.
+    out-by : (i : ℕ) → i < 32 → getD (f .out) i 0 ≡ minus (getD less i 0) (getD (f .row) i 0)
+    unfolding outsideTo
+    out-by i l =
+        ap (λ (l : List ℕ). getD l i 0) (its .out)
+        ∙ changed-before 32 (λ j m. minus m (getD (f .row) j 0)) (f .rest .domains) i l (rw rest-domains (omega (arith, long)))
+        ∙ ap (λ (l : List ℕ). minus (getD l i 0) (getD (f .row) i 0)) rest-domains
+
+    out-own : getD (f .out) (c .variable) 0 ≡ 0
+    out-own = out-by (c .variable) (omega (arith, below-n, few)) ∙ rw row-own (all-minus (getD less (c .variable) 0) (less-word (c .variable)))
+
+    out-other : (i : ℕ) → i < n → (i ≡ c .variable → ⊥) → getD (f .out) i 0 ≡ minus (getD less i 0) (tableOf n d t (c .variable) i (c .value))
+    out-other i l k = out-by i (omega (arith, few)) ∙ rw (row-other i l k) refl
+
+    out-past : (i : ℕ) → n ≤ i → i < 32 → getD (f .out) i 0 ≡ 0
+    out-past i l k = out-by i k ∙ rw (less-past i l) (none-minus (getD (f .row) i 0))
 
     -- ---- the piece of a variable
     module _ (j : ℕ) (l : 0 < j) (le : j ≤ n) where
       abbrev rest : ℕ
-      rest = getD out (j - 1) 0
+      rest = getD (f .out) (j - 1) 0
 
       other-rest : (j - 1 ≡ c .variable → ⊥) → rest ≡ minus (getD less (j - 1) 0) (tableOf n d t (c .variable) (j - 1) (c .value))
       other-rest k = out-other (j - 1) (omega arith) k
@@ -221,49 +216,47 @@ module _ (n d : ℕ) (t : List ℕ) (P : Subproblem) (c : Choice) (below words :
           ]
 
       -- The piece that the code makes is the candidate.
-      module _ (D : List ℕ) (f : D ≡ joinedTo cut′ out (j - 1) 32) (k : rest ≡ 0 → ⊥) where
+      module _ (Q : Subproblem) (q : FurtherPiece f (j - 1) Q) (k : rest ≡ 0 → ⊥) where
+        abbrev masks : List ℕ
+        masks = q .0
+
         abbrev made : List ℕ
-        made = set D (j - 1) rest
-
-        made-long : length D ≡ 32
-        unfolding joinedTo innerBy cutTo
-        made-long =
-            ap length f ∙ length-changed 32 (λ k m. bitOr m (cond (ltb k (j - 1)) 0 (getD out k 0))) cut′
-            ∙ ap length (its .inner) ∙ length-set (cutTo (P .domains) (c .row) 32) (c .variable) _
-            ∙ length-changed 32 (λ j m. common m (getD (c .row) j 0)) (P .domains) ∙ h .regular .shape .long
-
-        each : (i : ℕ) → i < 32 → getD D i 0 ≡ bitOr (getD cut′ i 0) (cond (ltb i (j - 1)) 0 (getD out i 0))
-        unfolding joinedTo
-        each i l =
-            ap (λ (m : List ℕ). getD m i 0) f ∙ changed-before 32 (λ k m. bitOr m (cond (ltb k (j - 1)) 0 (getD out k 0))) cut′ i l
-            (omega (arith, sym (length-changed 32 (λ k m. bitOr m (cond (ltb k (j - 1)) 0 (getD out k 0))) cut′), ap length f, made-long))
+        made = changed 32 (λ i m. common m (getD masks i 0)) less
 
         made-at : (i : ℕ) → i < 32 → getD made i 0 ≡ domain (disjunct (tableOf n d t) P (c .variable) (c .value) (j - 1)) i
         unfolding besides
-        made-at i h = elim (ℕ-discrete i (j - 1)) [
-          | yes e ↦ rw e (getD-set-same D (j - 1) rest 0 (omega (arith, made-long, few)) ∙ other-rest (rest-other k) ∙ sym here)
-          | no w ↦ getD-set-other D (j - 1) i rest 0 w ∙ each i h ∙ elim (decLt i (j - 1)) [
-            | yes b ↦
-                rw (lt-ltb i (j - 1) b) (or-none (getD cut′ i 0) ∙ cut-at i b) ∙ sym (changed-before (j - 1) besides less i b (omega (arith, long)))
-                ∙ sym (elsewhere i w)
-            | no b ↦ rw (le-ltb i (j - 1) (omega arith)) (both i h) ∙ sym (changed-after (j - 1) besides less i (omega arith)) ∙ sym (elsewhere i w)
-          ]
-        ]
+        made-at i b =
+            changed-before 32 (λ i m. common m (getD masks i 0)) less i b (omega (arith, long)) ∙ q .1 .each i b (getD less i 0) (less-word i)
+            ∙ elim (decLt i (j - 1)) [
+              | yes u ↦ rw (lt-ltb i (j - 1) u) (cut-at u) ∙ sym (changed-before (j - 1) besides less i u (omega (arith, long))) ∙ sym (elsewhere i (λ e. omega arith))
+              | no u ↦ rw (le-ltb i (j - 1) (omega arith)) (elim (ℕ-discrete i (j - 1)) [
+                | yes e ↦ rw (eq-eqb i (j - 1) e) (rw (e, row-other (j - 1) (omega arith) (rest-other k)) (sym here))
+                | no w ↦ rw (ne-eqb i (j - 1) w) (sym (changed-after (j - 1) besides less i (omega arith)) ∙ sym (elsewhere i w))
+              ])
+            ]
           where
-            cut-at : (i : ℕ) → i < j - 1 → getD cut′ i 0 ≡ cond (eqb i (c .variable)) (getD less i 0) (common (getD less i 0) (tableOf n d t (c .variable) i (c .value)))
-            cut-at i b = elim (ℕ-discrete i (c .variable)) [
-              | yes e ↦ rw (eq-eqb i (c .variable) e, e) cut-own
-              | no w ↦ rw (ne-eqb i (c .variable) w) (cut-other i (omega arith) w)
+            cut-at : i < j - 1 → common (getD less i 0) (getD (f .row) i 0) ≡ cond (eqb i (c .variable)) (getD less i 0) (common (getD less i 0) (tableOf n d t (c .variable) i (c .value)))
+            cut-at u = elim (ℕ-discrete i (c .variable)) [
+              | yes e ↦ rw (eq-eqb i (c .variable) e) (rw (e, row-own) (all-common (getD less (c .variable) 0) (less-word (c .variable))))
+              | no w ↦ rw (ne-eqb i (c .variable) w, row-other i (omega arith) w) refl
             ]
 
-        pub made-is : record { domains = made; marked = P .marked } ≡ candidate n (tableOf n d t) P r j
-        unfolding disjunct without cutBeside
+        made-long : length made ≡ 32
+        made-long = length-changed 32 (λ i m. common m (getD masks i 0)) less ∙ long
+
+        pub made-domains : length (Q .domains) ≡ 32
+        unfolding cutEach
+        made-domains = ap (λ (R : Subproblem). length (R .domains)) (q .2) ∙ rw rest-domains made-long
+
+        pub made-is : Q ≡ candidate n (tableOf n d t) P r j
+        unfolding cutEach disjunct without cutBeside
         made-is =
             let all : made ≡ disjunct (tableOf n d t) P (c .variable) (c .value) (j - 1) .domains =
-            ext-getD 0 _ _ (length-set D (j - 1) rest ∙ made-long ∙ sym (length-set (cutDown (j - 1)) (j - 1) _ ∙ rw (cut-is (j - 1), length-changed (j - 1) besides less) long)) (λ i h. made-at i (omega (arith, length-set D (j - 1) rest, made-long))) in
-            let same : record { domains = made; marked = P .marked } ≡ disjunct (tableOf n d t) P (c .variable) (c .value) (j - 1) =
-            λ i. record { domains = all i; marked = P .marked } in
-            same ∙ sym (candidate-other (rest-other k))
+            ext-getD 0 _ _ (made-long ∙ sym (length-set (cutDown (j - 1)) (j - 1) _ ∙ rw (cut-is (j - 1), length-changed (j - 1) besides less) long)) (λ i b. made-at i (omega (arith, made-long))) in
+            let marks : f .rest .marked ≡ P .marked = ap (λ (R : Subproblem). R .marked) rest-is in
+            let same : cutEach (f .rest) masks ≡ disjunct (tableOf n d t) P (c .variable) (c .value) (j - 1) =
+            λ i. record { domains = (ap (changed 32 (λ i m. common m (getD masks i 0))) rest-domains ∙ all) i; marked = marks i } in
+            q .2 ∙ same ∙ sym (candidate-other (rest-other k))
 
       -- ---- a turn of the loop
       module _ (before agenda : List ℕ) (at : ℕ) (whole : length before ≡ words) (room : RoomFor n d t P c 3 below words) (so-far : Gathered n d t P r before below agenda at (j + 1)) where
@@ -280,15 +273,12 @@ module _ (n d : ℕ) (t : List ℕ) (P : Subproblem) (c : Choice) (below words :
             (candidate n (tableOf n d t) P r j) (subst (λ (k : ℕ). Piece P n d t r k (candidate n (tableOf n d t) P r j)) (sym back) (piece-of j _ (omega arith) refl))
             true (sym (none-left z)) refl)
 
-        module _ (D : List ℕ) (k : rest ≡ 0 → ⊥) (f : D ≡ joinedTo cut′ out (j - 1) 32) where
-          abbrev Q : Subproblem
-          Q = record { domains = set D (j - 1) rest; marked = P .marked }
-
+        module _ (Q : Subproblem) (q : FurtherPiece f (j - 1) Q) (k : rest ≡ 0 → ⊥) where
           its-piece : Piece P n d t r ((j + 1) - 1) Q
-          its-piece = subst (λ (i : ℕ). Piece P n d t r i Q) (sym back) (piece-of j Q (omega arith) (made-is D f k))
+          its-piece = subst (λ (i : ℕ). Piece P n d t r i Q) (sym back) (piece-of j Q (omega arith) (made-is Q q k))
 
           its-filled : false ≡ empty n Q
-          its-filled = sym (rw (made-is D f k) (some-rest k))
+          its-filled = sym (rw (made-is Q q k) (some-rest k))
 
           pub spread-slot : SlotIn n at (length agenda)
           spread-slot =
@@ -300,14 +290,14 @@ module _ (n d : ℕ) (t : List ℕ) (P : Subproblem) (c : Choice) (below words :
           spread-keep after w m =
               subst (λ (i : ℕ). Gathered n d t P r before below after (at + 1) i) down
               (gather-keep n d t P r reads before below agenda at (j + 1) so-far (n + 1) its-named (omega arith) (omega arith) Q its-piece false its-filled refl after few
-              (rw whole room) (length-set D (j - 1) rest ∙ made-long D f k) w m)
+              (rw whole room) (made-domains Q q k) w m)
 
   -- ---- the start and the end
   module _ (before : List ℕ) (whole : length before ≡ words) (room : RoomFor n d t P c 3 below words) where
     pub spread-none : Gathered n d t P r before below before below (n + 1)
     spread-none = gather-none n d t P r reads before below (n + 1) (h .regular .shape .long) its-named
 
-    module _ (agenda : List ℕ) (at j : ℕ) (so-far : Gathered n d t P r before below agenda at (j + 1)) (end : j ≡ 0) (Q : Subproblem) (q : Q ≡ precludedBy P c) where
+    module _ (agenda : List ℕ) (at j : ℕ) (so-far : Gathered n d t P r before below agenda at (j + 1)) (end : j ≡ 0) (Q : Subproblem) (q : Q ≡ precludedBy P (c .variable) (c .row)) where
       first : Gathered n d t P r before below agenda at 1
       first = subst (λ (k : ℕ). Gathered n d t P r before below agenda at k) (omega arith) so-far
 
@@ -336,27 +326,27 @@ module _ (n d : ℕ) (t : List ℕ) (P : Subproblem) (c : Choice) (below words :
           some (rw whole room)
 
   -- ---- how many they are
-  module _ (cut′ out : List ℕ) (its : Spread P c cut′ out) where
+  module _ (f : Further) (its : FurtherOf P c f) where
     -- One for each variable before j with values outside the row, and the first.
     first-kept : empty n (candidate n (tableOf n d t) P r 0) ≡ false
     unfolding candidate inferred
     first-kept = put-kept n d t P c below words h s
 
     one-more : (j : ℕ) → j < n
-        → length (firsts n (candidate n (tableOf n d t) P r) (suc j + 1)) ≡ length (firsts n (candidate n (tableOf n d t) P r) (suc j)) + cond (eqb (getD out j 0) 0) 0 1
-    one-more j k = elim (ℕ-discrete (getD out j 0) 0) [
+        → length (firsts n (candidate n (tableOf n d t) P r) (suc j + 1)) ≡ length (firsts n (candidate n (tableOf n d t) P r) (suc j)) + cond (eqb (getD (f .out) j 0) 0) 0 1
+    one-more j k = elim (ℕ-discrete (getD (f .out) j 0) 0) [
       | yes z ↦
-          ap length (firsts-drop n (candidate n (tableOf n d t) P r) (suc j) (none-left cut′ out its (suc j) (omega arith) k (at ∙ z)))
-          ∙ rw (eq-eqb (getD out j 0) 0 z) (omega arith)
+          ap length (firsts-drop n (candidate n (tableOf n d t) P r) (suc j) (none-left f its (suc j) (omega arith) k (at ∙ z)))
+          ∙ rw (eq-eqb (getD (f .out) j 0) 0 z) (omega arith)
       | no z ↦
-          ap length (firsts-keep n (candidate n (tableOf n d t) P r) (suc j) (some-rest cut′ out its (suc j) (omega arith) k (λ e. z (sym at ∙ e))))
-          ∙ rw (length-append, ne-eqb (getD out j 0) 0 z) refl
+          ap length (firsts-keep n (candidate n (tableOf n d t) P r) (suc j) (some-rest f its (suc j) (omega arith) k (λ e. z (sym at ∙ e))))
+          ∙ rw (length-append, ne-eqb (getD (f .out) j 0) 0 z) refl
     ]
       where
-        at : getD out (suc j - 1) 0 ≡ getD out j 0
+        at : getD (f .out) (suc j - 1) 0 ≡ getD (f .out) j 0
         at = let back : suc j - 1 ≡ j = omega arith in rw back refl
 
-    so-many : (j : ℕ) → j ≤ n → length (firsts n (candidate n (tableOf n d t) P r) (suc j)) ≡ filled out j + 1
+    so-many : (j : ℕ) → j ≤ n → length (firsts n (candidate n (tableOf n d t) P r) (suc j)) ≡ filled (f .out) j + 1
     unfolding filled total
     so-many zero k = ap length (firsts-keep n (candidate n (tableOf n d t) P r) 0 first-kept) ∙ start
       where
@@ -367,14 +357,14 @@ module _ (n d : ℕ) (t : List ℕ) (P : Subproblem) (c : Choice) (below words :
         ap (λ (x : ℕ). length (firsts n (candidate n (tableOf n d t) P r) x)) up ∙ one-more j k ∙ rw (so-many j (omega arith)) (omega arith)
 
     -- None past the last variable.
-    past-none : (j : ℕ) → n + j ≤ 32 → filled out (n + j) ≡ filled out n
+    past-none : (j : ℕ) → n + j ≤ 32 → filled (f .out) (n + j) ≡ filled (f .out) n
     unfolding filled total
-    past-none zero k = ap (filled out) (add-zero n)
+    past-none zero k = ap (filled (f .out)) (add-zero n)
     past-none (suc j) k =
         let up : n + suc j ≡ suc (n + j) = omega arith in
-        rw (up, past-none j (omega arith), eq-eqb (getD out (n + j) 0) 0 (out-past cut′ out its (n + j) (omega arith) (omega arith))) (omega arith)
+        rw (up, past-none j (omega arith), eq-eqb (getD (f .out) (n + j) 0) 0 (out-past f its (n + j) (omega arith) (omega arith))) (omega arith)
 
-    pub count-three : length (pieces n (tableOf n d t) P r) ≡ filled out 32 + 1
+    pub count-three : length (pieces n (tableOf n d t) P r) ≡ filled (f .out) 32 + 1
     unfolding candidates
     count-three =
         let end : n + (32 - n) ≡ 32 = omega (arith, few) in

@@ -4,7 +4,7 @@ use splits::subproblem::Subproblem;
 ghost use mathlib.Core.Path.{_≡_};
 ghost use Prim.Native.Nat.{_+_, _*_, _≤_, _<_};
 ghost use mathlib.Core.List.{_++_};
-ghost use lib.ListN.{length, getD, take, drop, set, replicate};
+ghost use lib.ListN.{length, getD, take, drop, replicate};
 ghost use Rattle.search.specs.Agenda.{holding, slotWords, subproblemOf, slotAt, slotsIn};
 ghost use Rattle.search.specs.Work.Slots.{splice, SlotIn};
 ghost use Rattle.search.specs.Work.Lanes.{Below, KeptTo};
@@ -129,16 +129,6 @@ pub(crate) fn write_slot(n: usize, agenda: &mut [u16], k: usize, p: Subproblem)
     let at = k * (n + 2);
     let end = at + (n + 2);
     put_words(n, &mut agenda[at..end], p);
-}
-
-// Slot `k` holds the subproblem with another mask for variable `j`, written by itself so that the others go at once.
-pub(crate) fn write_but(n: usize, agenda: &mut [u16], k: usize, p: Subproblem, j: usize, mask: u16)
-    requires { ⌜ SlotIn n k (length (now agenda)) × (j < n) ⌝ }
-    ensures { λ r. ⌜ now (agenda .exit) ≡ splice (now (agenda .entry)) (k * (n + 2)) (slotWords n (record { domains = set (p .domains) j mask; marked = p .marked })) ⌝ }
-{
-    write_slot(n, agenda, k, p);
-    let at = k * (n + 2) + j;
-    agenda[at] = mask;
 }
 
 // Slot `k` holds zeros.

@@ -16,13 +16,13 @@ ghost use lib.ListN.{length, getD};
 ghost use Rattle.splits.specs.Masks.{size};
 ghost use Rattle.splits.specs.Problem.{tableOf, total};
 ghost use Rattle.splits.specs.Subproblems.{domain, instantiated};
-ghost use Rattle.splits.specs.Splits.{without, pieces};
+ghost use Rattle.splits.specs.Splits.{without, precludedBy, pieces};
 ghost use Rattle.splits.specs.Ranges.{Sized};
 ghost use Rattle.search.specs.Work.Slots.{SlotIn};
 ghost use Rattle.search.specs.Work.Kept.{Regular};
 ghost use Rattle.search.specs.Work.Steps.{Replaced, Taking};
-ghost use Rattle.search.specs.Work.Lanes.{Rows};
-ghost use Rattle.search.specs.Work.Found.{Found, AtTop, RoomFor, innerBy, outerBy, Spread, Puts, requestBy, precludedBy, leftBy, several, TakesChosen};
+ghost use Rattle.search.specs.Work.Lanes.{Rows, Sides};
+ghost use Rattle.search.specs.Work.Found.{Found, AtTop, RoomFor, FurtherOf, FurtherPiece, Puts, requestBy, leftBy, several, TakesChosen};
 
 // What the chooser finds of a top subproblem: the variable and its value, how many values the variable has, what is allowed
 // beside the value, and whether the precluded piece is empty.
@@ -67,15 +67,10 @@ fn is_several(choice: Choice) -> bool
 // The precluded piece.
 fn precluded(top: Subproblem, choice: Choice) -> Subproblem
     requires { ⌜ choice .variable < 32 ⌝ }
-    ensures { λ r. ⌜ r ≡ precludedBy top choice ⌝ }
+    ensures { λ r. ⌜ r ≡ precludedBy top (choice .variable) (choice .row) ⌝ }
 {
-    let whole = top.domains;
     let row = choice.row;
-    let domains = lanes::cut(whole, row);
-    Subproblem {
-        domains,
-        marked: top.marked | (1 << choice.variable),
-    }
+    top.precluded_by(choice.variable, row)
 }
 
 // V without its value.
@@ -105,24 +100,33 @@ fn settle(top: Subproblem, n: usize, agenda: &mut [u16], choice: Choice, below: 
     below + 1
 }
 
-// What the further pieces keep of each domain before their variable: what the row allows, and of V its other values.
-fn inner(whole: [u16; 32], row: [u16; 32], variable: usize) -> [u16; 32]
-    requires { ⌜ variable < 32 ⌝ }
-    ensures { λ r. ⌜ r ≡ innerBy whole row variable ⌝ }
-{
-    let mut cut = lanes::cut(whole, row);
-    cut[variable] = lanes::outside(whole[variable], row[variable]);
-    cut
+// What kind 3's further pieces are made of: V without its value, the row with all values for V, and what each domain has outside its mask of it.
+pub(crate) struct Further {
+    pub(crate) rest: Subproblem,
+    pub(crate) row: [u16; 32],
+    pub(crate) out: [u16; 32],
 }
 
-// What they have of their variable: what is outside the row, and of V nothing.
-fn outer(whole: [u16; 32], row: [u16; 32], variable: usize) -> [u16; 32]
-    requires { ⌜ variable < 32 ⌝ }
-    ensures { λ r. ⌜ r ≡ outerBy whole row variable ⌝ }
+fn further_of(top: Subproblem, choice: Choice) -> Further
+    requires { ⌜ choice .variable < 32 ⌝ }
+    ensures { λ r. ⌜ FurtherOf top choice r ⌝ }
 {
-    let mut out = lanes::outsides(whole, row);
-    out[variable] = 0;
-    out
+    let rest = rest(top, choice);
+    let whole = rest.domains;
+    let mut row = choice.row;
+    let variable = choice.variable;
+    row[variable] = 65535;
+    let out = lanes::outsides(whole, row);
+    Further { rest, row, out }
+}
+
+// The further piece of variable `j`.
+fn further_piece(further: Further, sides: &[u16], j: usize) -> Subproblem
+    requires { ⌜ (j < 32) × Sides 64 (now sides) ⌝ }
+    ensures { λ r. ⌜ FurtherPiece further j r ⌝ }
+{
+    let row = further.row;
+    further.rest.cut_each(lanes::further(row, sides, j))
 }
 
 // Kind 3's pieces, the last named in the place of the top, the others above; the number of subproblems then. Here and below `d` and `tables` are
@@ -134,22 +138,20 @@ fn spread(
     tables: &[u16],
     agenda: &mut [u16],
     choice: Choice,
-    cut: [u16; 32],
-    out: [u16; 32],
+    further: Further,
     below: usize,
 ) -> usize
-    requires { ⌜ AtTop n d (now tables) top choice below (length (now agenda)) × (RoomFor n d (now tables) top choice 3 below (length (now agenda)) × Spread top choice cut out) ⌝ }
+    requires { ⌜ AtTop n d (now tables) top choice below (length (now agenda)) × (RoomFor n d (now tables) top choice 3 below (length (now agenda)) × ((several choice ≡ true) × FurtherOf top choice further)) ⌝ }
     ensures { λ r. ⌜ Replaced n (pieces n (tableOf n d (now (tables .entry))) top (requestBy choice 3)) below (now (agenda .entry)) (now (agenda .exit)) r ⌝ }
 {
-    let marked = top.marked;
+    let out = further.out;
     let sides = lanes::sides();
     let mut at = below;
     let mut j = n;
     while 0 < j {
         j -= 1;
         if out[j] != 0 {
-            let domains = lanes::joined(cut, out, &sides, j);
-            agenda::write_but(n, agenda, at, Subproblem { domains, marked }, j, out[j]);
+            agenda::write_slot(n, agenda, at, further_piece(further, &sides, j));
             at += 1;
         }
     }
@@ -195,14 +197,12 @@ fn divide(
     ensures { λ r. ⌜ Puts n d (now (tables .entry)) top below (now (agenda .entry)) (now (agenda .exit)) r ⌝ }
 {
     let free = agenda.len() / (n + 2) - below;
-    let whole = top.domains;
-    let row = choice.row;
-    let cut = inner(whole, row, choice.variable);
-    let out = outer(whole, row, choice.variable);
+    let further = further_of(top, choice);
+    let out = further.out;
     if (lanes::filled(out) as usize) < free {
         return Left {
             refusal: 0,
-            subproblems: spread(top, n, d, tables, agenda, choice, cut, out, below),
+            subproblems: spread(top, n, d, tables, agenda, choice, further, below),
         };
     }
     if free < 2 {

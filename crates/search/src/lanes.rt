@@ -6,7 +6,7 @@ ghost use lib.ListN.{getD};
 ghost use lib.Dec.{eqb};
 ghost use Rattle.splits.specs.Masks.{bit, minus, size};
 ghost use Rattle.splits.specs.Problem.{total};
-ghost use Rattle.search.specs.Work.Lanes.{Half, Beyond, Below, Kept, LeastKey, lost, loses, cutTo, outsideTo, Sides, joinedTo, filled};
+ghost use Rattle.search.specs.Work.Lanes.{Half, Beyond, Below, Kept, LeastKey, lost, loses, outsideTo, Sides, Share, FurtherTo, filled};
 
 fn least(a: u16, b: u16) -> u16
     ensures { λ r. ⌜ r ≡ min a b ⌝ }
@@ -138,18 +138,6 @@ pub(crate) fn outside(domain: u16, mask: u16) -> u16
     domain & !mask
 }
 
-// Each domain cut to its own mask.
-pub(crate) fn cut(mut domains: [u16; 32], row: [u16; 32]) -> [u16; 32]
-    ensures { λ r. ⌜ r ≡ cutTo domains row 32 ⌝ }
-{
-    let mut i = 0;
-    while i < 32 {
-        domains[i] = domains[i] & row[i];
-        i += 1;
-    }
-    domains
-}
-
 // The values of each domain outside its own mask.
 pub(crate) fn outsides(mut domains: [u16; 32], row: [u16; 32]) -> [u16; 32]
     ensures { λ r. ⌜ r ≡ outsideTo domains row 32 ⌝ }
@@ -175,17 +163,25 @@ pub(crate) fn sides() -> [u16; 64]
     lanes
 }
 
-// Each mask as it is cut, from variable `j` on joined with what is outside.
-pub(crate) fn joined(mut cut: [u16; 32], out: [u16; 32], sides: &[u16], j: usize) -> [u16; 32]
-    requires { ⌜ (j ≤ 32) × Sides 64 (now sides) ⌝ }
-    ensures { λ r. ⌜ r ≡ joinedTo cut out j 32 ⌝ }
+// What the further piece of variable `j` keeps of a variable by its lanes, that from `j` on and that past it: its mask, of `j` what is outside, past it all.
+fn share(mask: u16, from: u16, past: u16) -> u16
+    ensures { λ r. ⌜ Share mask from past r ⌝ }
 {
+    (mask ^ from) | past
+}
+
+// The same of every variable.
+pub(crate) fn further(row: [u16; 32], sides: &[u16], j: usize) -> [u16; 32]
+    requires { ⌜ (j < 32) × Sides 64 (now sides) ⌝ }
+    ensures { λ r. ⌜ FurtherTo row j 32 r ⌝ }
+{
+    let mut masks = [0u16; 32];
     let mut i = 0;
     while i < 32 {
-        cut[i] = cut[i] | kept(out[i], sides[32 - j + i]);
+        masks[i] = share(row[i], sides[32 - j + i], sides[31 - j + i]);
         i += 1;
     }
-    cut
+    masks
 }
 
 // Whether there are values: 1 if so, else 0.

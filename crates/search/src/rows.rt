@@ -2,7 +2,8 @@
 ghost use mathlib.Core.Path.{_≡_};
 ghost use Rattle.splits.specs.Problem.{tableOf};
 ghost use Rattle.splits.specs.Ranges.{Sized, Place, Inside};
-ghost use Rattle.search.specs.Work.Lanes.{RowOf, Rows};
+ghost use Rattle.splits.specs.Splits.{RowOf};
+ghost use Rattle.search.specs.Work.Lanes.{Rows};
 
 // The mask of the values of `j` allowed beside value `a` of `i`; all bits where `j` is `i`, whose place is not read.
 pub(crate) fn allowed(n: usize, d: usize, tables: &[u16], i: usize, j: usize, a: usize) -> u16

@@ -5,6 +5,7 @@ pub mod Ranges
 pub mod Loops
 pub mod Domains
 pub mod Subproblems
+pub mod Rows
 pub mod Looking
 pub mod Counting
 pub mod ByKind

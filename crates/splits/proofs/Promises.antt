@@ -14,13 +14,14 @@ use Rattle.splits.specs.Subproblems.{domain, empty, some}
 use Rattle.splits.specs.Splits.{filled, keep, below, precluded, disjunct, without, cutBeside, changed, instantiate, extract, atTargets}
 use Rattle.splits.specs.Shortcuts.{skipping, weak, weakDisjunct, untargeted, pair-top}
 use Rattle.splits.specs.Measure.{sum, unmarked, measure}
-use Rattle.splits.specs.Promises.{Sound, Cover, Exact, Obeys, Sizes, Apart, Falls, Peel, Solved, Skipping-loses, Weak-overlaps, One-value-lies, Dropping-loses, No-constraint, Lowest-value, Smaller-half-of, One-by-one, At-most-496, Refusal-7, Refusal-8, Refusal-9, Refusal-10, Refusal-none, Reads-refusal, Reads-pieces, Reads-checks, Diagonal-piece, Diagonal-precluded, Diagonal-precluded-empty, Diagonal-checks, Count-one, Lowest-one, Has-one, Smaller-half-one, Domain-one, Is-instantiated-one, All-instantiated-one, Is-empty-one, Instantiate-one, Without-one, Cut-one, Precluded-one, Precluded-empty-one, Candidates-one, Piece-one, Checks-one, Refusal-one}
+use Rattle.splits.specs.Promises.{Sound, Cover, Exact, Obeys, Sizes, Apart, Falls, Peel, Solved, Skipping-loses, Weak-overlaps, One-value-lies, Dropping-loses, No-constraint, Lowest-value, Smaller-half-of, One-by-one, By-row, At-most-496, Refusal-7, Refusal-8, Refusal-9, Refusal-10, Refusal-none, Reads-refusal, Reads-pieces, Reads-checks, Diagonal-piece, Diagonal-precluded, Diagonal-precluded-empty, Diagonal-checks, Count-one, Lowest-one, Has-one, Smaller-half-one, Domain-one, Is-instantiated-one, All-instantiated-one, Is-empty-one, Instantiate-one, Without-one, Cut-one, Cut-each-one, Precluded-by-one, Precluded-one, Precluded-empty-one, Candidates-one, Piece-one, Checks-one, Refusal-one}
 use Rattle.splits.specs.declared.subproblem.Subproblem.{Subproblem}
 use Rattle.splits.proofs.Masks.{size-single, all-set, lowest-member, lowest-least, half-part, half-size, half-below}
 use Rattle.splits.proofs.Splitting.{lowest-in}
 use Rattle.splits.proofs.Consequences.{sounds, covers, exactly, apart as apart-so, keeps, sums, descends}
 use Rattle.splits.proofs.Weights.{weigh, bySize}
 use Rattle.splits.proofs.OneByOne.{all-one-by-one}
+use Rattle.splits.proofs.Rows.{row-made}
 use Rattle.splits.proofs.CheckLimit.{at-most-496 as limit}
 use Rattle.splits.proofs.Apart.{apart-piece, apart-precluded, apart-checks}
 use Rattle.splits.proofs.Placed.{held, placed, placed-filled, placed-peel}
@@ -100,6 +101,9 @@ smaller-half-of m h = (half-part m h, half-size m h, λ u v. half-below m u v h)
 pub one-by-one : One-by-one
 one-by-one = all-one-by-one
 
+pub by-row : By-row
+by-row = row-made
+
 pub at-most-496 : At-most-496
 at-most-496 = limit
 
@@ -171,6 +175,12 @@ without-one P variable mask = one _
 
 pub cut-one : Cut-one
 cut-one P variable mask = one _
+
+pub cut-each-one : Cut-each-one
+cut-each-one P masks = one _
+
+pub precluded-by-one : Precluded-by-one
+precluded-by-one P variable row = one _
 
 pub precluded-one : Precluded-one
 precluded-one P n d tables variable value = one _

@@ -9,7 +9,7 @@ use Rattle.splits.specs.Masks.{bit, size, lowest, smallerHalf}
 use Rattle.splits.specs.Problem.{tableOf}
 use Rattle.splits.specs.Subproblems.{domain, empty, instantiated}
 use Rattle.splits.specs.Requests.{kindOf, variableOf, valueOf}
-use Rattle.splits.specs.Splits.{instantiate, without, cut, precluded, byKind, candidates, candidate}
+use Rattle.splits.specs.Splits.{instantiate, without, cut, cutEach, precluded, precludedBy, byKind, candidates, candidate}
 use Rattle.splits.specs.Checks.{checks}
 use Rattle.splits.specs.Refusals.{refusalOf}
 use Rattle.splits.specs.declared.subproblem.Subproblem.{Subproblem}
@@ -61,6 +61,13 @@ Without P variable mask r = r ≡ without P variable mask
 
 abbrev pub Cut : Subproblem → ℕ → ℕ → Subproblem → Type 0
 Cut P variable mask r = r ≡ cut P variable mask
+
+abbrev pub Cut-each : Subproblem → List ℕ → Subproblem → Type 0
+Cut-each P masks r = r ≡ cutEach P masks
+
+-- Outside 32 variables the subproblem comes back as it is.
+abbrev pub Precluded-by : Subproblem → ℕ → List ℕ → Subproblem → Type 0
+Precluded-by P variable row r = r ≡ cond (ltb variable 32) (precludedBy P variable row) P
 
 -- Where the numbers or the tables do not fit, the subproblem comes back as it is.
 abbrev pub Precluded : Subproblem → ℕ → ℕ → List ℕ → ℕ → ℕ → Subproblem → Type 0

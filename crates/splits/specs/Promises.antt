@@ -9,13 +9,13 @@ use Rattle.splits.specs.Masks.{_∈_, Part, single, size, lowest, smalle
 use Rattle.splits.specs.Problem.{Table, Allow-same, Problem, Proper, Possibility, tableOf}
 use Rattle.splits.specs.Subproblems.{domain, Instantiated, Rules, SolutionOf, sizeOf}
 use Rattle.splits.specs.Requests.{kindOf, variableOf, valueOf, targetOf}
-use Rattle.splits.specs.Splits.{below, without, cutBeside, precluded, filled, pieces, candidates, candidate}
+use Rattle.splits.specs.Splits.{below, without, cutBeside, precluded, filled, pieces, RowOf, precludedBy, candidates, candidate}
 use Rattle.splits.specs.Checks.{checks}
 use Rattle.splits.specs.Refusals.{Accepted, Deserves-7, Deserves-8, Deserves-9, Deserves-10, refusalOf}
 use Rattle.splits.specs.Measure.{sum, measure}
 use Rattle.splits.specs.Shortcuts.{skipping, weak, untargeted, two, two-top, three, three-top, pair, pair-top}
 use Rattle.splits.specs.declared.subproblem.Subproblem.{Subproblem}
-use Rattle.splits.specs.Calls.{Count, Lowest, Has, Smaller-half, Domain, Is-instantiated, All-instantiated, Is-empty, Instantiate, Without, Cut, Precluded, Precluded-empty, Candidates, Piece, Checks-of, Refusal-of}
+use Rattle.splits.specs.Calls.{Count, Lowest, Has, Smaller-half, Domain, Is-instantiated, All-instantiated, Is-empty, Instantiate, Without, Cut, Cut-each, Precluded-by, Precluded, Precluded-empty, Candidates, Piece, Checks-of, Refusal-of}
 
 -- The request r, accepted, splits P, a subproblem that obeys the rules, of the proper problem p.
 pub record Splits (p : Problem) (P : Subproblem) (r : List ℕ) : Type 0 where
@@ -124,6 +124,13 @@ abbrev pub One-by-one : Type 0
 One-by-one =
     (n d : ℕ) (allowed : Table) (P : Subproblem) (r : List ℕ) → Accepted n d P r
     → filled n (map (candidate n allowed P r) (below (candidates n r))) ≡ pieces n allowed P r
+
+-- By the row of v, a value of V, what a row makes is the precluded piece, of a subproblem with nothing past its n variables.
+abbrev pub By-row : Type 0
+By-row =
+    (n : ℕ) (allowed : Table) (P : Subproblem) (V′ v : ℕ) (row : List ℕ) → n ≤ 32 → length (P .domains) ≡ 32
+    → ((i : ℕ) → n ≤ i → domain P i ≡ 0) → V′ < n → v ∈ domain P V′ → RowOf n allowed V′ v row
+    → precludedBy P V′ row ≡ precluded n allowed P V′ v
 
 -- The checks of one accepted request are at most 496.
 abbrev pub At-most-496 : Type 0
@@ -247,10 +254,11 @@ Count-one = (mask : ℕ) → One (Count mask)
 abbrev pub Lowest-one : Type 0
 Lowest-one = (mask : ℕ) → One (Lowest mask)
 
--- The smallest ⌈k/2⌉ values of a mask with k values.
+-- Whether a value is in a mask.
 abbrev pub Has-one : Type 0
 Has-one = (mask value : ℕ) → One (Has mask value)
 
+-- The smallest ⌈k/2⌉ values of a mask with k values.
 abbrev pub Smaller-half-one : Type 0
 Smaller-half-one = (mask : ℕ) → One (Smaller-half mask)
 
@@ -281,6 +289,14 @@ Without-one = (P : Subproblem) (variable mask : ℕ) → One (Without P variable
 -- V's domain cut to the values of a mask.
 abbrev pub Cut-one : Type 0
 Cut-one = (P : Subproblem) (variable mask : ℕ) → One (Cut P variable mask)
+
+-- Every domain cut to its own mask.
+abbrev pub Cut-each-one : Type 0
+Cut-each-one = (P : Subproblem) (masks : List ℕ) → One (Cut-each P masks)
+
+-- The precluded piece by a row.
+abbrev pub Precluded-by-one : Type 0
+Precluded-by-one = (P : Subproblem) (variable : ℕ) (row : List ℕ) → One (Precluded-by P variable row)
 
 -- The precluded piece.
 abbrev pub Precluded-one : Type 0

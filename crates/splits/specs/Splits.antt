@@ -1,9 +1,10 @@
 -- The five splits: what an accepted request makes of the top subproblem P.
+use mathlib.Core.Path.{_≡_}
 use mathlib.Core.Bool.{Bool, not, cond, _&&_}
 use mathlib.Core.List.{List, [], _∷_, _++_, map}
-use Prim.Native.Nat.{ℕ, zero, suc, _+_, _-_}
+use Prim.Native.Nat.{ℕ, zero, suc, _+_, _-_, _<_}
 use lib.Bits.{bitOr}
-use lib.ListN.{set}
+use lib.ListN.{length, getD, set}
 use lib.Dec.{eqb}
 use Rattle.splits.specs.Masks.{bit, single, common, minus, lowest, smallerHalf}
 use Rattle.splits.specs.Problem.{Table}
@@ -37,6 +38,10 @@ without P i m = record { domains = set (P .domains) i (minus (domain P i) m); ma
 -- A variable's domain cut to the values of a mask.
 unfoldable pub cut : Subproblem → ℕ → ℕ → Subproblem
 cut P i m = record { domains = set (P .domains) i (common (domain P i) m); marked = P .marked }
+
+-- Every domain cut to its own mask of a list; a subproblem has 32.
+unfoldable pub cutEach : Subproblem → List ℕ → Subproblem
+cutEach P masks = record { domains = changed 32 (λ i m. common m (getD masks i 0)) (P .domains); marked = P .marked }
 
 -- The variables before j, except V, cut to the values allowed beside v.
 unfoldable pub cutBeside : Table → Subproblem → ℕ → ℕ → ℕ → Subproblem
@@ -113,7 +118,17 @@ unfoldable pub pieces : ℕ → Table → Subproblem → List ℕ → List Subpr
 unfolding filled
 pieces n allowed P r = filled n (named n allowed P r)
 
--- For the call that makes pieces one by one: document 01's splits end above.
+-- For the calls that make pieces one by one: document 01's splits end above.
+
+-- The row of v of V: what each other variable may hold beside it, and for V itself v alone.
+pub record RowOf (n : ℕ) (allowed : Table) (V′ v : ℕ) (row : List ℕ) : Type 0 where
+  pub long : length row ≡ 32
+  pub own : getD row V′ 0 ≡ single v
+  pub other : (j : ℕ) → j < n → (j ≡ V′ → ⊥) → getD row j 0 ≡ allowed V′ j v
+
+-- Every domain cut to its own mask of a row, and V marked: by the row of v, a value of V, the precluded piece (By-row).
+unfoldable pub precludedBy : Subproblem → ℕ → List ℕ → Subproblem
+precludedBy P V′ row = record { domains = cutEach P row .domains; marked = bitOr (P .marked) (single V′) }
 
 -- How many places the kind of a request has, from 0 on; some of them may stay empty.
 unfoldable pub candidates : ℕ → List ℕ → ℕ

@@ -6,7 +6,7 @@ ghost use mathlib.Core.Path.{_≡_};
 ghost use Prim.Native.Nat.{_+_, _<_, _≤_};
 ghost use Rattle.splits.specs.Problem.{tableOf};
 ghost use Rattle.splits.specs.Splits.{cutBeside, atTargets};
-ghost use Rattle.splits.specs.Calls.{Domain, Is-instantiated, All-instantiated, Is-empty, Instantiate, Without, Cut, Precluded, Precluded-empty};
+ghost use Rattle.splits.specs.Calls.{Domain, Is-instantiated, All-instantiated, Is-empty, Instantiate, Without, Cut, Cut-each, Precluded-by, Precluded, Precluded-empty};
 ghost use Rattle.splits.specs.Ranges.{Inside};
 ghost use Rattle.splits.specs.Work.Loops.{precludedEmpty};
 
@@ -98,6 +98,30 @@ impl Subproblem {
             self.domains[variable] = self.domains[variable] & mask;
         }
         self
+    }
+
+    // Every domain cut to the values of its own mask.
+    pub fn cut_each(mut self, masks: [u16; 32]) -> Subproblem
+        ensures { λ r. ⌜ Cut-each self masks r ⌝ }
+    {
+        let mut i = 0;
+        while i < 32 {
+            self.domains[i] = self.domains[i] & masks[i];
+            i += 1;
+        }
+        self
+    }
+
+    // The precluded piece by its row: every domain cut to its own mask, and the variable, whose mask is its value alone, instantiated.
+    pub fn precluded_by(self, variable: usize, row: [u16; 32]) -> Subproblem
+        ensures { λ r. ⌜ Precluded-by self variable row r ⌝ }
+    {
+        if 32 <= variable {
+            return self;
+        }
+        let mut piece = self.cut_each(row);
+        piece.marked = piece.marked | (1 << variable);
+        piece
     }
 
     // The variables before `j`, except `variable`, cut to the values allowed beside `value`.

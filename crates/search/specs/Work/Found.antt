@@ -3,13 +3,12 @@ use mathlib.Core.Path.{_≡_}
 use mathlib.Core.Bool.{Bool, true, false, cond}
 use mathlib.Core.List.{List, [], _∷_}
 use Prim.Native.Nat.{ℕ, _+_, _-_, _*_, _≤_}
-use lib.Bits.{bitOr}
 use lib.ListN.{length, getD, set}
 use lib.Dec.{eqb, ltb}
-use Rattle.splits.specs.Masks.{single, minus, size, lowest}
+use Rattle.splits.specs.Masks.{size, lowest}
 use Rattle.splits.specs.Problem.{tableOf}
 use Rattle.splits.specs.Subproblems.{domain, empty, instantiated}
-use Rattle.splits.specs.Splits.{precluded, without, pieces}
+use Rattle.splits.specs.Splits.{precluded, without, pieces, cutEach, RowOf, precludedBy}
 use Rattle.splits.specs.declared.subproblem.Subproblem.{Subproblem}
 use Rattle.splits.specs.Ranges.{Sized}
 use Rattle.search.specs.Agenda.{slotsIn}
@@ -18,10 +17,11 @@ use Rattle.search.specs.Work.Slots.{SlotIn}
 use Rattle.search.specs.Work.Kept.{Regular}
 use Rattle.search.specs.Work.Choices.{chosenFor}
 use Rattle.search.specs.Work.Steps.{TakesOne, Replaced}
-use Rattle.search.specs.Work.Lanes.{RowOf, cutTo, outsideTo}
+use Rattle.search.specs.Work.Lanes.{outsideTo, FurtherTo}
 use Rattle.search.specs.declared.state.State.{State}
 use Rattle.search.specs.declared.step.Stop.{Stop}
 use Rattle.search.specs.declared.choice.Choice.{Choice}
+use Rattle.search.specs.declared.choice.Further.{Further}
 use Rattle.search.specs.declared.choice.Left.{Left}
 
 -- The variable and the value by the rule, how many values the variable has, the row of the value, and whether the precluded piece is empty.
@@ -32,14 +32,10 @@ pub record Found (n d : ℕ) (tables : List ℕ) (P : Subproblem) (c : Choice) :
   pub row : RowOf n (tableOf n d tables) (c .variable) (c .value) (c .row)
   pub none : c .lost ≡ empty n (precluded n (tableOf n d tables) P (c .variable) (c .value))
 
--- All domains cut to the row, and the variable marked.
-unfoldable pub precludedBy : Subproblem → Choice → Subproblem
-precludedBy P c = record { domains = cutTo (P .domains) (c .row) 32; marked = bitOr (P .marked) (single (c .variable)) }
-
 -- The piece that is left, or none: where the precluded piece is empty V without its value, else the precluded piece.
 unfoldable pub leftBy : Subproblem → Choice → List Subproblem
 leftBy P c =
-    cond (c .lost) (cond (eqb (c .values) 1) [] (without P (c .variable) (getD (c .row) (c .variable) 0) ∷ [])) (precludedBy P c ∷ [])
+    cond (c .lost) (cond (eqb (c .values) 1) [] (without P (c .variable) (getD (c .row) (c .variable) 0) ∷ [])) (precludedBy P (c .variable) (c .row) ∷ [])
 
 -- More than one piece may be left: the precluded piece is not empty, and V has another value.
 unfoldable pub several : Choice → Bool
@@ -61,18 +57,15 @@ pub record AtTop (n d : ℕ) (tables : List ℕ) (P : Subproblem) (c : Choice) (
 abbrev pub RoomFor : ℕ → ℕ → List ℕ → Subproblem → Choice → ℕ → ℕ → ℕ → Type 0
 RoomFor n d tables P c kind below words = (below + length (pieces n (tableOf n d tables) P (requestBy c kind))) * (n + 2) ≤ words
 
--- What the further pieces keep of the domains before their variable, and what they have of their variable: for V its other values, and nothing.
-unfoldable pub innerBy : List ℕ → List ℕ → ℕ → List ℕ
-innerBy masks row V′ = set (cutTo masks row 32) V′ (minus (getD masks V′ 0) (getD row V′ 0))
+-- What kind 3's further pieces are made of: V without its value, the row with all values for V, and what each domain has outside its mask of that.
+pub record FurtherOf (P : Subproblem) (c : Choice) (f : Further) : Type 0 where
+  pub rest : f .rest ≡ without P (c .variable) (getD (c .row) (c .variable) 0)
+  pub row : f .row ≡ set (c .row) (c .variable) 65535
+  pub out : f .out ≡ outsideTo (f .rest .domains) (f .row) 32
 
-unfoldable pub outerBy : List ℕ → List ℕ → ℕ → List ℕ
-outerBy masks row V′ = set (outsideTo masks row 32) V′ 0
-
--- What they are made of, where several pieces may be left.
-pub record Spread (P : Subproblem) (c : Choice) (cut out : List ℕ) : Type 0 where
-  pub several : several c ≡ true
-  pub inner : cut ≡ innerBy (P .domains) (c .row) (c .variable)
-  pub outer : out ≡ outerBy (P .domains) (c .row) (c .variable)
+-- The further piece of variable j.
+abbrev pub FurtherPiece : Further → ℕ → Subproblem → Type 0
+FurtherPiece f j Q = (masks : List ℕ) × FurtherTo (f .row) j 32 masks × (Q ≡ cutEach (f .rest) masks)
 
 -- The pieces of the request that the rule chooses in the place of the top, if they have room.
 pub record Puts (n d : ℕ) (tables : List ℕ) (P : Subproblem) (below : ℕ) (before after : List ℕ) (r : Left) : Type 0 where

@@ -4,13 +4,12 @@ use mathlib.Core.Logic.{_⊎_}
 use mathlib.Core.Bool.{Bool, not, cond, _&&_}
 use mathlib.Core.List.{List, []}
 use Prim.Native.Nat.{ℕ, _+_, _*_, _≤_, _<_}
-use lib.Bits.{bitOr}
 use lib.ListN.{length, getD}
 use lib.Dec.{eqb, ltb}
-use Rattle.splits.specs.Masks.{bit, single, common, minus, size}
-use Rattle.splits.specs.Problem.{Table, tableOf, total}
+use Rattle.splits.specs.Masks.{bit, common, minus, size}
+use Rattle.splits.specs.Problem.{tableOf, total}
 use Rattle.splits.specs.Subproblems.{some}
-use Rattle.splits.specs.Splits.{changed}
+use Rattle.splits.specs.Splits.{changed, RowOf}
 
 -- Sixteen variables of a set, from one on.
 abbrev pub Half : ℕ → ℕ → ℕ → Type 0
@@ -54,10 +53,6 @@ lost m mask = not (eqb m 0) && eqb (common m mask) 0
 unfoldable pub loses : List ℕ → List ℕ → Bool
 loses masks row = some 32 (λ i. lost (getD masks i 0) (getD row i 0))
 
--- The first i masks cut, each to its own.
-unfoldable pub cutTo : List ℕ → List ℕ → ℕ → List ℕ
-cutTo masks row i = changed i (λ j m. common m (getD row j 0)) masks
-
 -- What is left of the first i masks outside their own of a row.
 unfoldable pub outsideTo : List ℕ → List ℕ → ℕ → List ℕ
 outsideTo masks row i = changed i (λ j m. minus m (getD row j 0)) masks
@@ -68,19 +63,21 @@ pub record Sides (i : ℕ) (lanes : List ℕ) : Type 0 where
   pub none : (j : ℕ) → j < 32 → getD lanes j 0 ≡ 0
   pub all : (j : ℕ) → 32 ≤ j → j < i → getD lanes j 0 ≡ 65535
 
--- The first i masks as they are cut, those from variable j on joined with what is outside.
-unfoldable pub joinedTo : List ℕ → List ℕ → ℕ → ℕ → List ℕ
-joinedTo cut out j i = changed i (λ k m. bitOr m (cond (ltb k j) 0 (getD out k 0))) cut
+-- A mask by two lanes, that of the variables from j on and that of those past j: before j it stays, of j it is turned round, past j it is all bits.
+pub record Share (mask from past r : ℕ) : Type 0 where
+  pub before : from ≡ 0 → past ≡ 0 → r ≡ mask
+  pub own : from ≡ 65535 → past ≡ 0 → (m : ℕ) → m < 65536 → common m r ≡ minus m mask
+  pub after : past ≡ 65535 → (m : ℕ) → m < 65536 → common m r ≡ m
+
+-- What the further piece of variable j is cut to, of the first i variables: before j the row, of j what is outside it, past j everything.
+pub record FurtherTo (row : List ℕ) (j i : ℕ) (masks : List ℕ) : Type 0 where
+  pub long : length masks ≡ 32
+  pub each : (k : ℕ) → k < i → (m : ℕ) → m < 65536
+      → common m (getD masks k 0) ≡ cond (ltb k j) (common m (getD row k 0)) (cond (eqb k j) (minus m (getD row k 0)) m)
 
 -- How many of the first i masks have values.
 unfoldable pub filled : List ℕ → ℕ → ℕ
 filled masks i = total i (λ j. cond (eqb (getD masks j 0) 0) 0 1)
-
--- The row of v of V: what each other variable may hold beside it, and for V itself v alone.
-pub record RowOf (n : ℕ) (allowed : Table) (V′ v : ℕ) (row : List ℕ) : Type 0 where
-  pub long : length row ≡ 32
-  pub own : getD row V′ 0 ≡ single v
-  pub other : (j : ℕ) → j < n → (j ≡ V′ → ⊥) → getD row j 0 ≡ allowed V′ j v
 
 -- Rows kept: 16 for each of 32 variables. Each is that of its variable and value, or has nothing for its variable yet.
 pub record Rows (n d : ℕ) (tables : List ℕ) (rows : List (List ℕ)) : Type 0 where
