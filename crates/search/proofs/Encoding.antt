@@ -35,13 +35,15 @@ slot-none n h =
     let all : replicate {A = ℕ} 32 0 ≡ replicate n 0 ++ replicate (32 - n) 0 = sym (rw replicate-append-replicate (let e : n + (32 - n) ≡ 32 = omega arith in rw e refl)) in
     rw (all, take-at {A = ℕ} (replicate n 0) (replicate (32 - n) 0) n (length-replicate n 0)) (replicate-append-replicate n 2 0)
 
+-- The words of slot k, as the code lends them.
+pub slot-part : (n k : ℕ) (l : List ℕ) → take ((k * (n + 2) + (n + 2)) - k * (n + 2)) (drop (k * (n + 2)) l) ≡ slotAt n l k
+unfolding slotAt
+slot-part n k l = let w : (k * (n + 2) + (n + 2)) - k * (n + 2) ≡ n + 2 = omega arith in ap (λ (j : ℕ). take j (drop (k * (n + 2)) l)) w
+
 -- Slot k is a part of the agenda.
 pub slot-read : (n k : ℕ) (l : List ℕ) (r : Subproblem) → r ≡ subproblemOf n (take ((k * (n + 2) + (n + 2)) - k * (n + 2)) (drop (k * (n + 2)) l))
     → r ≡ subproblemOf n (slotAt n l k)
-unfolding slotAt
-slot-read n k l r e =
-    let w : (k * (n + 2) + (n + 2)) - k * (n + 2) ≡ n + 2 = omega arith in
-    e ∙ ap (λ (j : ℕ). subproblemOf n (take j (drop (k * (n + 2)) l))) w
+slot-read n k l r e = e ∙ ap (subproblemOf n) (slot-part n k l)
 
 -- A slot has n + 2 words.
 pub length-slot : (n : ℕ) (P : Subproblem) → n ≤ length (P .domains) → length (slotWords n P) ≡ n + 2

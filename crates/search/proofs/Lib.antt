@@ -4,6 +4,7 @@ pub mod FirstLoops
 pub mod Obeying
 pub mod Joining
 pub mod Marked
+mod Alike
 pub mod Turning
 pub mod Exchanging
 mod Packing

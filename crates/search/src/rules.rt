@@ -11,7 +11,8 @@ ghost use Rattle.splits.specs.Subproblems.{every};
 ghost use Rattle.splits.specs.Ranges.{Sized};
 ghost use Rattle.search.specs.Agenda.{problemOf, subproblemOf, stackOf};
 ghost use Rattle.search.specs.FirstChecks.{obeys, allObey};
-ghost use Rattle.search.specs.Work.FirstTests.{Mirrored, SlotFits, Next, joined, partWrong, wrongIn, pairAllowed, beforeAgrees, markObeys};
+ghost use Rattle.search.specs.Work.FirstTests.{Mirrored, SlotFits, Next, joined, partWrong, wrongIn, pairAllowed, beforeAgrees, markObeys, TellsSame, TellsBelow, MarksKnown};
+ghost use Rattle.search.specs.Work.Slots.{SlotIn};
 
 // What is wrong with a domain beside the problem's: that it is empty, or values that the problem's has not; 0 for nothing.
 fn part_wrong(whole: u16, domain: u16) -> u16
@@ -109,9 +110,43 @@ fn marks_obey(slot: &[u16], marked: u32, n: usize, d: usize, tables: &[u16]) -> 
     true
 }
 
-// Whether the subproblem in the words of a slot obeys the rules.
-fn obeys(slot: &[u16], n: usize, d: usize, domains: &[u16], tables: &[u16]) -> bool
-    requires { ⌜ Mirrored n d (now domains) (now tables) × (length (now slot) ≡ n + 2) ⌝ }
+// Whether two slots have the same variables instantiated, to the same values: then these agree in both or in neither.
+fn same_marks(slot: &[u16], other: &[u16], n: usize) -> bool
+    requires { ⌜ (n ≤ 32) × ((length (now slot) ≡ n + 2) × (length (now other) ≡ n + 2)) ⌝ }
+    ensures { λ r. ⌜ TellsSame n (now (slot .entry)) (now (other .entry)) r ⌝ }
+{
+    let marked = agenda::marked_at(slot, n);
+    if marked != agenda::marked_at(other, n) {
+        return false;
+    }
+    let mut i = next_in(marked, 0);
+    while i < n {
+        if slot[i] != other[i] {
+            return false;
+        }
+        i = next_in(marked, i + 1);
+    }
+    true
+}
+
+// Whether slot `k` has them as the slot below it, as the pieces of one split do.
+fn as_below(n: usize, agenda: &[u16], k: usize) -> bool
+    requires { ⌜ SlotIn n k (length (now agenda)) ⌝ }
+    ensures { λ r. ⌜ TellsBelow n (now (agenda .entry)) k r ⌝ }
+{
+    if k == 0 {
+        return false;
+    }
+    let at = k * (n + 2);
+    let end = at + (n + 2);
+    let below = (k - 1) * (n + 2);
+    let last = below + (n + 2);
+    same_marks(&agenda[at..end], &agenda[below..last], n)
+}
+
+// Whether the subproblem in the words of a slot obeys the rules; `known`: its instantiated variables do.
+fn obeys(slot: &[u16], n: usize, d: usize, domains: &[u16], tables: &[u16], known: bool) -> bool
+    requires { ⌜ Mirrored n d (now domains) (now tables) × ((length (now slot) ≡ n + 2) × MarksKnown n d (now tables) (now slot) known) ⌝ }
     ensures { λ r. ⌜ r ≡ obeys (problemOf n d (now (domains .entry)) (now (tables .entry))) (subproblemOf n (now (slot .entry))) ⌝ }
 {
     let marked = agenda::marked_at(slot, n);
@@ -121,10 +156,13 @@ fn obeys(slot: &[u16], n: usize, d: usize, domains: &[u16], tables: &[u16]) -> b
     if wrong_with(n, domains, slot) != 0 {
         return false;
     }
+    if known {
+        return true;
+    }
     marks_obey(slot, marked, n, d, tables)
 }
 
-// Whether the subproblems in the first `count` slots do.
+// Whether the subproblems in the first `count` slots do. Values that are those of the slot below are not looked at again.
 pub(crate) fn all_obey(
     n: usize,
     d: usize,
@@ -138,9 +176,10 @@ pub(crate) fn all_obey(
 {
     let mut k = 0;
     while k < count {
+        let known = as_below(n, agenda, k);
         let at = k * (n + 2);
         let end = at + (n + 2);
-        if !obeys(&agenda[at..end], n, d, domains, tables) {
+        if !obeys(&agenda[at..end], n, d, domains, tables, known) {
             return false;
         }
         k += 1;

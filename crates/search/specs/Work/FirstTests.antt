@@ -2,7 +2,7 @@
 use mathlib.Core.Path.{_≡_}
 use mathlib.Core.Bool.{Bool, true, cond, _&&_, _||_}
 use mathlib.Core.List.{List}
-use Prim.Native.Nat.{ℕ, zero, suc, _+_, _^_, _≤_, _<_}
+use Prim.Native.Nat.{ℕ, zero, suc, _+_, _-_, _^_, _≤_, _<_}
 use lib.Bits.{bitOr}
 use lib.ListN.{length, getD}
 use lib.Dec.{eqb, ltb}
@@ -102,6 +102,25 @@ pub record SlotFits (n d : ℕ) (tables slot : List ℕ) (marked : ℕ) : Type 0
   pub sized : Sized n d tables
   pub words : length slot ≡ n + 2
   pub marks : marked ≡ subproblemOf n slot .marked
+
+-- Two slots have the same variables instantiated, and these the same domains; slot k and the one below it do.
+pub record SameMarks (n : ℕ) (slot other : List ℕ) : Type 0 where
+  pub marked : subproblemOf n slot .marked ≡ subproblemOf n other .marked
+  pub domains : (i : ℕ) → i < n → bit (subproblemOf n slot .marked) i ≡ 1 → domain (subproblemOf n slot) i ≡ domain (subproblemOf n other) i
+
+abbrev pub AsBelow : ℕ → List ℕ → ℕ → Type 0
+AsBelow n agenda k = (0 < k) × SameMarks n (slotAt n agenda k) (slotAt n agenda (k - 1))
+
+-- Tests that are passed only by such.
+abbrev pub TellsSame : ℕ → List ℕ → List ℕ → Bool → Type 0
+TellsSame n slot other r = r ≡ true → SameMarks n slot other
+
+abbrev pub TellsBelow : ℕ → List ℕ → ℕ → Bool → Type 0
+TellsBelow n agenda k r = r ≡ true → AsBelow n agenda k
+
+-- What is known of a slot's instantiated variables is so.
+abbrev pub MarksKnown : ℕ → ℕ → List ℕ → List ℕ → Bool → Type 0
+MarksKnown n d tables slot known = known ≡ true → every n (markObeys (tableOf n d tables) (subproblemOf n slot)) ≡ true
 
 -- The subproblem in slot k obeys the rules.
 unfoldable pub slotObeys : Problem → ℕ → List ℕ → ℕ → Bool

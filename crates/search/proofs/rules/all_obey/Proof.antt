@@ -11,6 +11,7 @@ use Rattle.search.proofs.Copies.{slot-below}
 use Rattle.search.proofs.Encoding.{slot-read}
 use Rattle.search.proofs.FirstLoops.{every-start, every-stop, every-turn, every-end}
 use Rattle.search.proofs.FirstParts.{all-slots, slot-obeys}
+use Rattle.search.proofs.Alike.{marks-known}
 use borrow.Author.Needs.{needs}
 use Rattle.search.proofs.rules.all_obey.Statement.{statement}
 use Rattle.search.proofs.rules.all_obey.Tie as tie
@@ -24,35 +25,38 @@ abbrev μ-loop : tie.MeasureT-loop
 loop-holds : tie.Need-loop-holds Inv-loop μ-loop
 loop-holds c = (search needs, every-start _)
 
+as-below-requires : tie.Need-as-below-requires Inv-loop μ-loop
+as-below-requires c κs = slot-below _ _ _ _ (c .before .before .before .before .before .pre .0 .fitting .sized .few) (c .loop-test .taken) (c .before .before .before .before .before .pre .1)
+
 add-at : tie.Need-add-at Inv-loop μ-loop
-add-at c = omega (arith, slot-below _ _ _ _ (c .before .before .before .before .before .pre .0 .fitting .sized .few) (c .loop-test .taken) (c .before .before .before .before .before .pre .1))
+add-at c = omega (arith, slot-below _ _ _ _ (c .before .before .before .before .before .before .pre .0 .fitting .sized .few) (c .before .loop-test .taken) (c .before .before .before .before .before .before .pre .1))
 
 mul-at : tie.Need-mul-at Inv-loop μ-loop
-mul-at c = omega (arith, slot-below _ _ _ _ (c .before .before .before .before .before .pre .0 .fitting .sized .few) (c .loop-test .taken) (c .before .before .before .before .before .pre .1))
+mul-at c = omega (arith, slot-below _ _ _ _ (c .before .before .before .before .before .before .pre .0 .fitting .sized .few) (c .before .loop-test .taken) (c .before .before .before .before .before .before .pre .1))
 
 add-end : tie.Need-add-end Inv-loop μ-loop
-add-end c = omega (arith, slot-below _ _ _ _ (c .before .before .before .before .before .pre .0 .fitting .sized .few) (c .loop-test .taken) (c .before .before .before .before .before .pre .1))
+add-end c = omega (arith, slot-below _ _ _ _ (c .before .before .before .before .before .before .pre .0 .fitting .sized .few) (c .before .loop-test .taken) (c .before .before .before .before .before .before .pre .1))
 
 add-end-2 : tie.Need-add-end-2 Inv-loop μ-loop
-add-end-2 c = omega (arith, slot-below _ _ _ _ (c .before .before .before .before .before .pre .0 .fitting .sized .few) (c .loop-test .taken) (c .before .before .before .before .before .pre .1))
+add-end-2 c = omega (arith, slot-below _ _ _ _ (c .before .before .before .before .before .before .pre .0 .fitting .sized .few) (c .before .loop-test .taken) (c .before .before .before .before .before .before .pre .1))
 
 mul-obeys : tie.Need-mul-obeys Inv-loop μ-loop
-mul-obeys c = omega (arith, slot-below _ _ _ _ (c .before .before .before .before .before .pre .0 .fitting .sized .few) (c .loop-test .taken) (c .before .before .before .before .before .pre .1))
+mul-obeys c = omega (arith, slot-below _ _ _ _ (c .before .before .before .before .before .before .pre .0 .fitting .sized .few) (c .before .loop-test .taken) (c .before .before .before .before .before .before .pre .1))
 
 sub-obeys : tie.Need-sub-obeys Inv-loop μ-loop
-sub-obeys c = omega (arith, slot-below _ _ _ _ (c .before .before .before .before .before .pre .0 .fitting .sized .few) (c .loop-test .taken) (c .before .before .before .before .before .pre .1))
+sub-obeys c = omega (arith, slot-below _ _ _ _ (c .before .before .before .before .before .before .pre .0 .fitting .sized .few) (c .before .loop-test .taken) (c .before .before .before .before .before .before .pre .1))
 
 part-obeys-start : tie.Need-part-obeys-start Inv-loop μ-loop
-part-obeys-start c = omega (arith, slot-below _ _ _ _ (c .before .before .before .before .before .pre .0 .fitting .sized .few) (c .loop-test .taken) (c .before .before .before .before .before .pre .1))
+part-obeys-start c = omega (arith, slot-below _ _ _ _ (c .before .before .before .before .before .before .pre .0 .fitting .sized .few) (c .before .loop-test .taken) (c .before .before .before .before .before .before .pre .1))
 
 part-obeys-end : tie.Need-part-obeys-end Inv-loop μ-loop
-part-obeys-end c = omega (arith, slot-below _ _ _ _ (c .before .before .before .before .before .pre .0 .fitting .sized .few) (c .loop-test .taken) (c .before .before .before .before .before .pre .1))
+part-obeys-end c = omega (arith, slot-below _ _ _ _ (c .before .before .before .before .before .before .pre .0 .fitting .sized .few) (c .before .loop-test .taken) (c .before .before .before .before .before .before .pre .1))
 
 obeys-requires : tie.Need-obeys-requires Inv-loop μ-loop
-obeys-requires c κs = search needs
+obeys-requires c κs = (c .before .before .before .before .before .before .before .pre .0, (search needs, marks-known _ _ _ _ (c .before .before .before .before .before .before .before .args .domains .now) _ _ (c .before .before .before .loop .inv .1) (c .before .as-below .ensures)))
 
 returns : tie.Need-returns Inv-loop μ-loop
-returns c = every-stop _ _ _ _ (c .before .before .before .loop-test .taken) (slot-obeys _ _ _ _ _ _ (slot-read _ _ _ _ refl) (c .before .obeys .ensures)) (c .if1 .taken) ∙ all-slots _ _ _ _
+returns c = every-stop _ _ _ _ (c .before .before .before .before .loop-test .taken) (slot-obeys _ _ _ _ _ _ (slot-read _ _ _ _ refl) (c .before .obeys .ensures)) (c .if1 .taken) ∙ all-slots _ _ _ _
 
 add-k : tie.Need-add-k Inv-loop μ-loop
 add-k c = search needs
@@ -61,7 +65,7 @@ loop-less : tie.Need-loop-less Inv-loop μ-loop
 loop-less c = search needs
 
 loop-again : tie.Need-loop-again Inv-loop μ-loop
-loop-again c = (omega arith, every-turn _ _ _ (c .before .before .before .before .loop .inv .1) (slot-obeys _ _ _ _ _ _ (slot-read _ _ _ _ refl) (c .before .obeys .ensures)) (c .if1 .left))
+loop-again c = (omega arith, every-turn _ _ _ (c .before .before .before .before .before .loop .inv .1) (slot-obeys _ _ _ _ _ _ (slot-read _ _ _ _ refl) (c .before .obeys .ensures)) (c .if1 .left))
 
 returns-2 : tie.Need-returns-2 Inv-loop μ-loop
 returns-2 c = every-end _ _ _ (c .before .loop .inv .0) (c .loop-test .left) (c .before .loop .inv .1) ∙ all-slots _ _ _ _
@@ -73,6 +77,7 @@ all-obey-spec =
     Inv-loop
     μ-loop
     loop-holds
+    as-below-requires
     add-at
     mul-at
     add-end

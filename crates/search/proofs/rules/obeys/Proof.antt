@@ -1,5 +1,6 @@
--- `rules::obeys` meets its contract: the marks, the domains together, then the instantiated variables.
+-- `rules::obeys` meets its contract: the marks, the domains together, then the instantiated variables, unless these are known.
 -- Assumes nothing.
+use mathlib.Core.Path.{sym}
 use Rattle.search.proofs.Marked.{slot-marks, marks-in, slot-over, slot-wrong, slot-marked}
 use borrow.Author.Needs.{needs}
 use Rattle.search.proofs.rules.obeys.Statement.{statement}
@@ -15,19 +16,22 @@ cast-if1 : tie.Need-cast-if1
 cast-if1 c = search needs
 
 returns : tie.Need-returns
-returns c = slot-over (c .before .before .before .before .before .args .n) (c .before .before .before .before .before .args .d) (c .before .before .before .before .before .args .domains .now) (c .before .before .before .before .before .args .tables .now) (c .before .before .before .before .before .args .slot .now) _ (c .before .before .before .before .before .pre .0 .fitting .sized .few) (c .before .marked-at .ensures) (c .if1 .taken)
+returns c = let a = c .before .before .before .before .before .args in let k = c .before .before .before .before .before .pre in slot-over (a .n) (a .d) (a .domains .now) (a .tables .now) (a .slot .now) _ (k .0 .fitting .sized .few) (c .before .marked-at .ensures) (c .if1 .taken)
 
 wrong-with-requires : tie.Need-wrong-with-requires
 wrong-with-requires c κs = search needs
 
 returns-2 : tie.Need-returns-2
-returns-2 c = slot-wrong (c .before .before .before .before .before .before .before .args .n) (c .before .before .before .before .before .before .before .args .d) (c .before .before .before .before .before .before .before .args .domains .now) (c .before .before .before .before .before .before .before .args .tables .now) (c .before .before .before .before .before .before .before .args .slot .now) (c .before .before .before .before .before .before .before .pre .0 .fitting .words) (c .before .before .before .before .before .before .before .pre .1) _ (c .before .wrong-with .ensures) (c .if2 .taken)
-
-marks-obey-requires : tie.Need-marks-obey-requires
-marks-obey-requires c κs = record { sized = c .before .before .before .before .before .before .before .pre .0 .fitting .sized; words = c .before .before .before .before .before .before .before .pre .1; marks = slot-marks (c .before .before .before .before .before .before .before .args .n) (c .before .before .before .before .before .before .before .args .d) (c .before .before .before .before .before .before .before .args .domains .now) (c .before .before .before .before .before .before .before .args .tables .now) (c .before .before .before .before .before .before .before .args .slot .now) _ (c .before .before .before .before .before .before .before .pre .0 .fitting .sized .few) (c .before .before .before .marked-at .ensures) }
+returns-2 c = let a = c .before .before .before .before .before .before .before .args in let k = c .before .before .before .before .before .before .before .pre in slot-wrong (a .n) (a .d) (a .domains .now) (a .tables .now) (a .slot .now) (k .0 .fitting .words) (k .1 .0) _ (c .before .wrong-with .ensures) (c .if2 .taken)
 
 returns-3 : tie.Need-returns-3
-returns-3 c = slot-marked (c .before .before .before .before .before .before .before .before .args .n) (c .before .before .before .before .before .before .before .before .args .d) (c .before .before .before .before .before .before .before .before .args .domains .now) (c .before .before .before .before .before .before .before .before .args .tables .now) (c .before .before .before .before .before .before .before .before .args .slot .now) (c .before .before .before .before .before .before .before .before .pre .0 .fitting .words) (c .before .before .before .before .before .before .before .before .pre .1) _ _ (c .before .before .before .before .before .before .before .before .pre .0 .passed) (c .before .before .before .before .before .before .before .before .pre .0 .fitting .sized .small) (c .before .before .wrong-with .ensures) (c .before .if2 .left) (marks-in (c .before .before .before .before .before .before .before .before .args .n) (c .before .before .before .before .before .before .before .before .args .d) (c .before .before .before .before .before .before .before .before .args .domains .now) (c .before .before .before .before .before .before .before .before .args .tables .now) (c .before .before .before .before .before .before .before .before .args .slot .now) _ (c .before .before .before .before .before .before .before .before .pre .0 .fitting .sized .few) (c .before .before .before .before .marked-at .ensures) (c .before .before .before .if1 .left)) (c .marks-obey .ensures)
+returns-3 c = let a = c .before .before .before .before .before .before .before .before .args in let k = c .before .before .before .before .before .before .before .before .pre in slot-marked (a .n) (a .d) (a .domains .now) (a .tables .now) (a .slot .now) (k .0 .fitting .words) (k .1 .0) _ _ (k .0 .passed) (k .0 .fitting .sized .small) (c .before .before .wrong-with .ensures) (c .before .if2 .left) (marks-in (a .n) (a .d) (a .domains .now) (a .tables .now) (a .slot .now) _ (k .0 .fitting .sized .few) (c .before .before .before .before .marked-at .ensures) (c .before .before .before .if1 .left)) (sym (k .1 .1 (c .if3 .taken)))
+
+marks-obey-requires : tie.Need-marks-obey-requires
+marks-obey-requires c κs = let a = c .before .before .before .before .before .before .before .before .args in let k = c .before .before .before .before .before .before .before .before .pre in record { sized = k .0 .fitting .sized; words = k .1 .0; marks = slot-marks (a .n) (a .d) (a .domains .now) (a .tables .now) (a .slot .now) _ (k .0 .fitting .sized .few) (c .before .before .before .before .marked-at .ensures) }
+
+returns-4 : tie.Need-returns-4
+returns-4 c = let a = c .before .before .before .before .before .before .before .before .before .args in let k = c .before .before .before .before .before .before .before .before .before .pre in slot-marked (a .n) (a .d) (a .domains .now) (a .tables .now) (a .slot .now) (k .0 .fitting .words) (k .1 .0) _ _ (k .0 .passed) (k .0 .fitting .sized .small) (c .before .before .before .wrong-with .ensures) (c .before .before .if2 .left) (marks-in (a .n) (a .d) (a .domains .now) (a .tables .now) (a .slot .now) _ (k .0 .fitting .sized .few) (c .before .before .before .before .before .marked-at .ensures) (c .before .before .before .before .if1 .left)) (c .marks-obey .ensures)
 
 pub obeys-spec : {M : Type 1} → statement M
 obeys-spec =
@@ -39,5 +43,6 @@ obeys-spec =
     returns
     wrong-with-requires
     returns-2
+    returns-3
     marks-obey-requires
-    returns-3)
+    returns-4)
