@@ -60,7 +60,8 @@ extern "C" {
 #define RASTWOB_FILE_BYTES(n, d, subproblems) (RASTWOB_BLOCK_BYTES * RASTWOB_FILE_BLOCKS(n, d, subproblems))
 #define RASTWOB_LARGEST_FILE_BYTES ((size_t)RASTWOB_MOST_BLOCKS * RASTWOB_BLOCK_BYTES)
 
-/* The tables' word for value a of variable i beside variable j; the agenda's word i of a slot, the mask of path i. */
+/* The tables' word for value a of variable i beside variable j; the agenda's word i of a slot, the mask of path i, and for i
+   n and n + 1 the set of the instantiated variables, high word first. */
 #define RASTWOB_TABLE_WORD(n, d, i, j, a) (((size_t)(i) * (size_t)(n) + (size_t)(j)) * (size_t)(d) + (size_t)(a))
 #define RASTWOB_SLOT_WORD(n, slot, i) ((size_t)(slot) * ((size_t)(n) + 2u) + (size_t)(i))
 

@@ -74,6 +74,12 @@ if [ -f target/staticlib/libconsole.a ]; then
         diff "$room/out" examples/console.expected >"$room/log" 2>&1
         judge $? "console.c prints console.expected"
     fi
+    # The program that README.md prints, from its first line of C to the end of main.
+    sed -n '/^    #include <stdio.h>$/,/^    }$/s/^    //p' README.md >"$room/mine.c"
+    # shellcheck disable=SC2086
+    $compiler -std=c99 $strict -Iinclude "$room/mine.c" target/staticlib/libconsole.a -o "$room/mine" >"$room/log" 2>&1 &&
+        ${emulator:+"$emulator"} "$room/mine" >"$room/out" 2>>"$room/log" && echo '1 2' | diff - "$room/out" >>"$room/log"
+    judge $? "README.md's C is compiled without a warning and prints 1 2"
 else
     bad "target/staticlib/libconsole.a is not there; 'rt staticlib console' makes it"
 fi

@@ -5,6 +5,7 @@ A name that docs/PROMISES.md cites, as `file:name`, is declared by that file. A 
 A file or folder that the papers name in backticks is there, and a law that README.md and these two name, with a hyphen in it, is declared.
 Every `pub fn` of every library has no `requires`, and an `ensures` that cites one definition; its uniqueness theorem, NAME-one, says of that
 definition, in its crate's specs/Promises.antt, that two results are equal, and is proved, as that statement, in its proofs/Promises.antt.
+Every promise that a specs/Promises.antt states is proved in its crate's proofs/Promises.antt under its own name, and what that proves is the statement.
 No crate cites the specs/Work of another, and no file of specs outside Work cites its own.
 """
 import pathlib
@@ -124,6 +125,21 @@ def uniqueness(faults):
     return count
 
 
+def promises_proved(faults):
+    count = 0
+    for specs in sorted(TOP.glob("crates/*/specs/Promises.antt")):
+        proofs = specs.parent.parent / "proofs/Promises.antt"
+        stated = set(re.findall(r"(?m)^abbrev pub (\S+) : Type 0$", specs.read_text()))
+        proved = dict(re.findall(r"(?m)^pub (\S+) : (\S+)$", text_of(proofs)))
+        count += len(proved)
+        for name, of in sorted(proved.items()):
+            if name.lower() != of.lower() or of not in stated:
+                faults.append(f"{proofs.relative_to(TOP)} has {name} : {of}, which is not the promise of that name")
+        for name in sorted(stated.difference(proved.values())):
+            faults.append(f"{specs.relative_to(TOP)} states {name}, and nothing proves it")
+    return count
+
+
 def work_cited(faults):
     for path in sorted(TOP.glob("crates/*/**/*")):
         if path.suffix not in (".antt", ".rt"):
@@ -138,13 +154,14 @@ def work_cited(faults):
 def main():
     faults = []
     numbers, names, places, functions = numbered_lines(faults), cited_names(faults), cited_places(faults), uniqueness(faults)
+    promises = promises_proved(faults)
     named_in_papers(faults)
     work_cited(faults)
-    if not (numbers and names and places and functions):
+    if not (numbers and names and places and functions and promises):
         faults.append("nothing was found to hold: is this the repository?")
     for fault in faults:
         print(fault)
-    print(f"{numbers} numbered sentences, {names} cited names, {places} cited places, {functions} public functions with one answer each, {len(faults)} faults")
+    print(f"{numbers} numbered sentences, {names} cited names, {places} cited places, {functions} public functions with one answer each, {promises} promises proved, {len(faults)} faults")
     sys.exit(1 if faults else 0)
 
 

@@ -1,4 +1,4 @@
-// The calls on bytes: at the words that the bytes say, or refused where these are not whole words or more than the rules allow. Tables are made
+// The calls on bytes: at the words that the bytes say, or refused where these are none, not whole words or more than the rules allow. Tables are made
 // last, but of a run before its agenda: the first checks begin with them, and find them in the cache.
 use crate::bytes;
 use crate::numbers;
@@ -52,7 +52,7 @@ pub(crate) fn open(n: usize, d: usize, domains: &[u8], tables: &[u8], agenda: &m
     numbers::unopened(n, d)
 }
 
-// A run in an agenda of 256 slots at most: the words made for it are no more than these need.
+// A run in an agenda of 8,704 words at most, 256 slots of 32 variables: the words made for it are no more than these need.
 fn run_short(
     n: usize,
     d: usize,

@@ -56,7 +56,7 @@ pub(crate) fn read_slot(n: usize, agenda: &[u16], k: usize) -> Subproblem
     subproblem_of(n, &agenda[at..end])
 }
 
-// The first 32 words, each kept by its own.
+// The first 32 words, each kept by its own lane.
 fn kept_words(lanes: [u16; 32], words: &[u16]) -> [u16; 32]
     requires { ⌜ 32 ≤ length (now words) ⌝ }
     ensures { λ r. ⌜ KeptTo lanes (now (words .entry)) 32 r ⌝ }
@@ -70,7 +70,7 @@ fn kept_words(lanes: [u16; 32], words: &[u16]) -> [u16; 32]
     domains
 }
 
-// The same, all 32 masks at once where so many words follow; `lanes` keep those of the n variables.
+// The subproblem in slot `k`, all 32 masks at once where so many words follow; `lanes` keep those of the n variables.
 pub(crate) fn read_lanes(lanes: [u16; 32], n: usize, agenda: &[u16], k: usize) -> Subproblem
     requires { ⌜ SlotIn n k (length (now agenda)) × Below n lanes ⌝ }
     ensures { λ r. ⌜ r ≡ subproblemOf n (slotAt n (now (agenda .entry)) k) ⌝ }
@@ -109,7 +109,7 @@ fn put_each(n: usize, slot: &mut [u16], p: Subproblem)
     slot[n + 1] = (p.marked % 65536) as u16;
 }
 
-// The same; of 32 variables all at once.
+// The same; of 32 variables by a loop of as many turns, so that the machine takes eight masks at once.
 fn put_words(n: usize, slot: &mut [u16], p: Subproblem)
     requires { ⌜ (n ≤ 32) × (length (now slot) ≡ n + 2) ⌝ }
     ensures { λ r. ⌜ now (slot .exit) ≡ slotWords n p ⌝ }

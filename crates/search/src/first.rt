@@ -226,7 +226,7 @@ pub fn open_refusal(n: usize, d: usize, domains: &[u16], tables: &[u16], agenda:
     refusal_of_problem(n, d, domains, tables)
 }
 
-// The first checks of the chooser and of save: 1 to 6, 0 for none.
+// The first checks of a search, but for a run's requests: 1 to 6, 0 for none.
 pub fn search_refusal(
     n: usize,
     d: usize,

@@ -34,7 +34,7 @@ fn high_of(set: u32) -> u16
     (set / 65536) as u16
 }
 
-// The variables from one on, up to the last of 32.
+// The variables from `i` on, up to the last of 32.
 pub(crate) fn beyond(i: usize) -> u32
     requires { ⌜ i ≤ 32 ⌝ }
     ensures { λ r. ⌜ Beyond i r ⌝ }
@@ -163,7 +163,8 @@ pub(crate) fn sides() -> [u16; 64]
     lanes
 }
 
-// What the further piece of variable `j` keeps of a variable by its lanes, that from `j` on and that past it: its mask, of `j` what is outside, past it all.
+// What the further piece of variable `j` keeps of a variable: before `j` its mask, of `j` what is outside, past `j` all. The two lanes have all bits
+// from `j` on and past `j`.
 fn share(mask: u16, from: u16, past: u16) -> u16
     ensures { λ r. ⌜ Share mask from past r ⌝ }
 {

@@ -31,7 +31,7 @@ fn made(n: usize, d: usize, tables: &[u16], variable: usize, value: usize) -> [u
     row
 }
 
-// The same out of the rows, made among them unless it is there.
+// The same out of the rows, made among them unless it is there: then it holds its value at its own variable, and else nothing.
 pub(crate) fn row(
     n: usize,
     d: usize,

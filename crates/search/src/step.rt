@@ -22,7 +22,7 @@ ghost use Rattle.splits.specs.Calls.{readable};
 ghost use Rattle.splits.specs.Ranges.{Sized};
 ghost use Rattle.search.specs.Work.Steps.{TellsEmpty, Placing, Placed, Replaced, Taking, TakesOne, refusalFor};
 
-// Where a run stops: the refusal, the requests taken and the state it leaves.
+// Where a run stops, or one step ends: the refusal, the requests taken and the state it leaves.
 pub(crate) struct Stop {
     pub(crate) refusal: u32,
     pub(crate) taken: usize,
@@ -94,7 +94,8 @@ fn refusal_of(
     0
 }
 
-// Whether variable k - 1 keeps no value in its own further piece, the k-th of kind 3 or 5: such a piece is empty and need not be made.
+// Whether variable k - 1 keeps no value in its own further piece, the k-th of kind 3 or 5: such a piece is empty and need not be made. Of a
+// request that is not whole it tells nothing; a run has none.
 fn keeps_none(
     top: Subproblem,
     n: usize,

@@ -82,7 +82,7 @@ fn part_both_ways(n: usize, d: usize, tables: &[u16], i: usize) -> bool
     bits == 0
 }
 
-// The same of 16 values: a loop with no branch in it, so that the machine takes several at once.
+// The same of 16 values, by loops over as many rows, so that the machine takes several at once.
 fn whole_both_ways(n: usize, tables: &[u16], i: usize) -> bool
     requires { ⌜ Narrow n 16 (now tables) × (i < n) ⌝ }
     ensures { λ r. ⌜ r ≡ rowBothWays 16 (tableOf n 16 (now (tables .entry))) i ⌝ }

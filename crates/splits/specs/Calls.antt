@@ -14,7 +14,7 @@ use Rattle.splits.specs.Checks.{checks}
 use Rattle.splits.specs.Refusals.{refusalOf}
 use Rattle.splits.specs.declared.subproblem.Subproblem.{Subproblem}
 
--- n and d are numbers that document 01 allows at most, and the tables are n × n × d words.
+-- n is at most 32, d at most 16, and the tables are n × n × d words.
 unfoldable pub sized : ℕ → ℕ → List ℕ → Bool
 sized n d tables = leb n 32 && leb d 16 && eqb (length tables) (n * n * d)
 
@@ -83,7 +83,7 @@ Precluded-empty P n d tables variable value r =
 abbrev pub Candidates : ℕ → List ℕ → ℕ → Type 0
 Candidates n request r = r ≡ cond (leb n 32) (candidates n request) 0
 
--- What stands in the k-th place: a piece, or a subproblem with V's domain empty. Past the last place, or where the words do not fit, the
+-- What stands in the k-th place: a piece, or an empty subproblem. Past the last place, or where the words do not fit, the
 -- subproblem comes back as it is.
 abbrev pub Piece : Subproblem → ℕ → ℕ → List ℕ → List ℕ → ℕ → Subproblem → Type 0
 Piece P n d tables request k r =

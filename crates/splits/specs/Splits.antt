@@ -118,7 +118,7 @@ unfoldable pub pieces : ℕ → Table → Subproblem → List ℕ → List Subpr
 unfolding filled
 pieces n allowed P r = filled n (named n allowed P r)
 
--- For the calls that make pieces one by one: document 01's splits end above.
+-- For the calls that make pieces one by one, or by a row: document 01's splits end above.
 
 -- The row of v of V: what each other variable may hold beside it, and for V itself v alone.
 pub record RowOf (n : ℕ) (allowed : Table) (V′ v : ℕ) (row : List ℕ) : Type 0 where
@@ -134,8 +134,8 @@ precludedBy P V′ row = record { domains = cutEach P row .domains; marked = bit
 unfoldable pub candidates : ℕ → List ℕ → ℕ
 candidates n r = byKind (kindOf r) 2 2 (n + 1) 2 (n + 1) 0
 
--- What stands in the k-th place, kind by kind. A place that names no piece (kind 1 (a) where v is forbidden, kind 3's for V itself) has
--- V's domain empty, so that the pieces placed are all these in order, empty ones dropped (One-by-one).
+-- What stands in the k-th place, kind by kind. A place that names no piece is empty (kind 1 (a) where v is forbidden and kind 3's for V itself of
+-- V's domain, kind 5's where the target is the domain of that one), so that the pieces placed are all these in order, empty ones dropped (One-by-one).
 unfoldable pub backtracked : ℕ → Table → Subproblem → ℕ → ℕ → ℕ → Subproblem
 backtracked n allowed P V′ v k =
     cond (eqb k 0) (cond (forbidden n allowed P V′ v) (cut P V′ 0) (instantiate P V′ v)) (without P V′ (single v))

@@ -125,7 +125,7 @@ pub fn candidates(n: usize, request: &[u16]) -> usize
     0
 }
 
-// The k-th piece of a request, empty where it is to be dropped.
+// The k-th candidate of a request, from 0, empty where it is no piece; the subproblem itself past the last, or where the words do not fit.
 pub fn piece(
     top: Subproblem,
     n: usize,
