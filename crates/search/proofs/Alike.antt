@@ -1,7 +1,7 @@
 -- Slots with the same variables instantiated to the same values: where those of one agree, so do those of the other.
 -- Assumes nothing.
 use mathlib.Core.Path.{_≡_, refl, sym, ap, _∙_, subst}
-use mathlib.Core.Bool.{Bool, true, false, not, _&&_, _||_}
+use mathlib.Core.Bool.{Bool, true}
 use mathlib.Core.List.{List}
 use Prim.Native.Nat.{ℕ, _+_, _-_, _*_, _≤_, _<_}
 use native.Mathlib.Omega.{arith}
@@ -9,17 +9,19 @@ use native.Mathlib.Decide.{ℕ-discrete, decLt}
 use lib.ListN.{length, getD, take, drop}
 use lib.Dec.{eqb}
 use borrow.Author.Tests.{ne-eqb}
-use Rattle.splits.specs.Masks.{bit, minus, size}
-use Rattle.splits.specs.Problem.{Problem, Table, tableOf}
+use Rattle.splits.specs.Masks.{bit, minus}
+use Rattle.splits.proofs.Masks.{bit-le}
+use Rattle.splits.specs.Problem.{Table, tableOf}
 use Rattle.splits.specs.Subproblems.{domain, every}
 use Rattle.splits.specs.declared.subproblem.Subproblem.{Subproblem}
-use Rattle.splits.proofs.Tests.{and-left, and-right, every-at, every-all}
+use Rattle.splits.proofs.Tests.{every-at, every-all}
 use Rattle.search.specs.Agenda.{problemOf, holding, subproblemOf, slotAt}
-use Rattle.search.specs.FirstChecks.{domainObeys, valuesAgree, obeys}
-use Rattle.search.specs.Work.FirstTests.{Next, pairAgrees, beforeAgrees, markObeys, SameMarks, AsBelow, TellsSame, TellsBelow, MarksKnown, slotObeys}
-use Rattle.search.proofs.Encoding.{slot-part}
-use Rattle.search.proofs.Obeying.{agrees-second}
-use Rattle.search.proofs.Marked.{slot-domain, mark-none}
+use Rattle.search.specs.Work.Slots.{SlotIn}
+use Rattle.search.specs.Work.FirstTests.{Mirrored, Next, heldAt, besideAt, markObeys, SameMarks, AsBelow, TellsSame, TellsBelow, MarksKnown, slotObeys}
+use Rattle.search.proofs.Encoding.{slot-part, slot-long}
+use Rattle.search.proofs.Copies.{slot-below}
+use Rattle.search.proofs.Obeying.{is-marked}
+use Rattle.search.proofs.Marked.{slot-domain, mark-none, slot-known}
 
 -- ---- from mark to mark
 
@@ -54,62 +56,37 @@ alike-end n i marked its slot other long wide e f s past h = record {
 
 -- ---- what they tell
 
--- A subproblem that obeys the rules has instantiated variables as they must be.
-pub obeys-marks : (p : Problem) (P : Subproblem) → obeys p P ≡ true → every (p .n) (markObeys (p .allowed) P) ≡ true
-unfolding obeys domainObeys valuesAgree markObeys beforeAgrees pairAgrees
-obeys-marks p P e =
-    every-all (markObeys (p .allowed) P) (p .n) (λ i l. both (sized i) (every i (pairs i))
-    (and-right (not (eqb (domain P i) 0) && eqb (minus (domain P i) (p .domain i)) 0) (sized i) (every-at whole (p .n) i l (and-left (every (p .n) whole) (every (p .n) rows) most)))
-    (every-all (pairs i) i (λ j k. every-at (pairs i) (p .n) j (omega arith) (every-at rows (p .n) i l (and-right (every (p .n) whole) (every (p .n) rows) most)))))
-  where
-    sized : ℕ → Bool
-    sized i = eqb (bit (P .marked) i) 0 || eqb (size (domain P i)) 1
-
-    pairs : ℕ → ℕ → Bool
-    pairs = pairAgrees (p .allowed) P
-
-    rows : ℕ → Bool
-    rows i = every (p .n) (pairs i)
-
-    whole : ℕ → Bool
-    whole = domainObeys p P
-
-    most : (every (p .n) whole && every (p .n) rows) ≡ true
-    most = and-left (every (p .n) whole && every (p .n) rows) _ e
-
-    both : (a b : Bool) → a ≡ true → b ≡ true → (a && b) ≡ true
-    both a b x y = rw x y
-
--- So has another with the same.
+-- A subproblem whose instantiated variables are as they must be: another with the same has them so.
 module _ (allowed : Table) (n : ℕ) (P Q : Subproblem) (same : P .marked ≡ Q .marked) (alike : (i : ℕ) → i < n → bit (P .marked) i ≡ 1 → domain P i ≡ domain Q i) where
-  pair-alike : (i j : ℕ) → i < n → j < n → bit (P .marked) i ≡ 1 → pairAgrees allowed Q i j ≡ true → pairAgrees allowed P i j ≡ true
-  unfolding pairAgrees
-  pair-alike i j h k m e = elim (ℕ-discrete (bit (P .marked) j) 1) [
-    | yes l ↦ rw (alike i h m, alike j k l, same) e
-    | no l ↦ sym (agrees-second allowed P i j false (sym (ne-eqb (bit (P .marked) j) 1 l)) refl)
+  held-alike : (j : ℕ) → j < n → heldAt P j ≡ heldAt Q j
+  unfolding heldAt
+  held-alike j l = elim (ℕ-discrete (bit (P .marked) j) 1) [
+    | yes m ↦ rw (alike j l m, same) refl
+    | no m ↦ rw (← same, ne-eqb (bit (P .marked) j) 1 m) refl
   ]
 
-  mark-alike : (i : ℕ) → i < n → markObeys allowed Q i ≡ true → markObeys allowed P i ≡ true
-  unfolding markObeys beforeAgrees
+  mark-alike : (i : ℕ) → i < n → markObeys n allowed Q i ≡ true → markObeys n allowed P i ≡ true
+  unfolding markObeys besideAt
   mark-alike i h e = elim (ℕ-discrete (bit (P .marked) i) 1) [
     | yes m ↦
-        let one : (eqb (bit (P .marked) i) 0 || eqb (size (domain P i)) 1) ≡ true = rw (alike i h m, same) (and-left (eqb (bit (Q .marked) i) 0 || eqb (size (domain Q i)) 1) _ e) in
-        let rest : every i (pairAgrees allowed P i) ≡ true =
-        every-all (pairAgrees allowed P i) i (λ j k. pair-alike i j h (omega arith) m (every-at (pairAgrees allowed Q i) i j k (and-right (eqb (bit (Q .marked) i) 0 || eqb (size (domain Q i)) 1) _ e))) in
-        rw (one, rest) refl
-    | no m ↦ sym (mark-none allowed P i false (sym (ne-eqb (bit (P .marked) i) 1 m)) refl)
+        let rest : every n (λ j. eqb (minus (heldAt Q j) (besideAt allowed Q i j)) 0) ≡ true = rw (is-marked Q (P .marked) i same m) at e in
+        rw (is-marked P (P .marked) i refl m)
+        (every-all (λ j. eqb (minus (heldAt P j) (besideAt allowed P i j)) 0) n (λ j l. rw (held-alike j l, alike i h m) (every-at (λ j. eqb (minus (heldAt Q j) (besideAt allowed Q i j)) 0) n j l rest)))
+    | no m ↦ mark-none n allowed P i (omega (arith, bit-le (P .marked) i))
   ]
 
-  pub marks-alike : every n (markObeys allowed Q) ≡ true → every n (markObeys allowed P) ≡ true
-  marks-alike e = every-all (markObeys allowed P) n (λ i l. mark-alike i l (every-at (markObeys allowed Q) n i l e))
+  pub marks-alike : every n (markObeys n allowed Q) ≡ true → every n (markObeys n allowed P) ≡ true
+  marks-alike e = every-all (markObeys n allowed P) n (λ i l. mark-alike i l (every-at (markObeys n allowed Q) n i l e))
 
 -- Slot k, where the slots before it obey the rules.
-known-below : (n d : ℕ) (domains tables agenda : List ℕ) (k : ℕ) → every k (slotObeys (problemOf n d domains tables) n agenda) ≡ true → AsBelow n agenda k
-    → every n (markObeys (tableOf n d tables) (subproblemOf n (slotAt n agenda k))) ≡ true
+known-below : (n d : ℕ) (domains tables agenda : List ℕ) (k : ℕ) → Mirrored n d domains tables → SlotIn n k (length agenda)
+    → every k (slotObeys (problemOf n d domains tables) n agenda) ≡ true → AsBelow n agenda k
+    → every n (markObeys n (tableOf n d tables) (subproblemOf n (slotAt n agenda k))) ≡ true
 unfolding slotObeys
-known-below n d domains tables agenda k e h =
+known-below n d domains tables agenda k fits slot e h =
+    let below = slot-below n (k - 1) (k + 1) (length agenda) (slot .few) (omega (arith, h .0)) (slot .within) in
     marks-alike (tableOf n d tables) n (subproblemOf n (slotAt n agenda k)) (subproblemOf n (slotAt n agenda (k - 1))) (h .1 .marked) (h .1 .domains)
-    (obeys-marks (problemOf n d domains tables) (subproblemOf n (slotAt n agenda (k - 1)))
+    (slot-known n d domains tables (slotAt n agenda (k - 1)) (fits .fitting .words) (slot-long n (k - 1) agenda below) (fits .passed) (fits .fitting .sized .small)
     (every-at (slotObeys (problemOf n d domains tables) n agenda) k (k - 1) (omega (arith, h .0)) e))
 
 -- As the code lends the slots.
@@ -118,8 +95,9 @@ module _ (n k : ℕ) (agenda : List ℕ) where
   part j = take ((j * (n + 2) + (n + 2)) - j * (n + 2)) (drop (j * (n + 2)) agenda)
 
   pub tells-below : (r : Bool) → (k ≡ 0 → ⊥) → TellsSame n (part k) (part (k - 1)) r → TellsBelow n agenda k r
-  tells-below r h t e = (omega arith, subst (λ (l : List ℕ). SameMarks n l (slotAt n agenda (k - 1))) (slot-part n k agenda) (subst (SameMarks n (part k)) (slot-part n (k - 1) agenda) (t e)))
+  tells-below r h t e =
+      (omega arith, subst (λ (l : List ℕ). SameMarks n l (slotAt n agenda (k - 1))) (slot-part n k agenda) (subst (SameMarks n (part k)) (slot-part n (k - 1) agenda) (t e)))
 
-  pub marks-known : (d : ℕ) (domains tables : List ℕ) (r : Bool) → every k (slotObeys (problemOf n d domains tables) n agenda) ≡ true → TellsBelow n agenda k r
-      → MarksKnown n d tables (part k) r
-  marks-known d domains tables r e t h = rw (slot-part n k agenda) (known-below n d domains tables agenda k e (t h))
+  pub marks-known : (d : ℕ) (domains tables : List ℕ) (r : Bool) → Mirrored n d domains tables → SlotIn n k (length agenda)
+      → every k (slotObeys (problemOf n d domains tables) n agenda) ≡ true → TellsBelow n agenda k r → MarksKnown n d tables (part k) r
+  marks-known d domains tables r fits slot e t h = rw (slot-part n k agenda) (known-below n d domains tables agenda k fits slot e (t h))

@@ -1,17 +1,19 @@
 -- The row of a value of a variable, as the loop makes it, and the rows that are kept.
 -- Assumes nothing.
-use mathlib.Core.Path.{_≡_, ap, sym, _∙_}
+use mathlib.Core.Path.{_≡_, ap, sym, _∙_, subst}
 use mathlib.Core.Logic.{_⊎_, inl, inr, ⊎-elim}
 use mathlib.Core.List.{List, []}
-use Prim.Native.Nat.{ℕ, _+_, _*_, _≤_, _<_}
+use Prim.Native.Nat.{ℕ, _+_, _*_, _%_, _^_, _≤_, _<_}
 use native.Mathlib.Omega.{arith}
+use native.Mathlib.Nat.{one-mul, mod-eq-of-lt}
 use native.Mathlib.Decide.{ℕ-discrete}
 use lib.ListN.{length, getD, set, replicate, length-set, length-replicate, getD-replicate}
 use lib.Seq.{getD-set-same, getD-set-other}
 use Rattle.splits.specs.Masks.{single}
 use Rattle.splits.specs.Problem.{Table, tableOf}
 use Rattle.splits.specs.Splits.{RowOf}
-use Rattle.search.specs.Work.Lanes.{Rows}
+use Rattle.splits.proofs.Masks.{bit-single-same, single-lt, single-member, member-some}
+use Rattle.search.specs.Work.Lanes.{Rows, LastRows}
 
 -- A row of which the first j masks are made, but for V's own.
 pub record Begun (allowed : Table) (V′ v j : ℕ) (row : List ℕ) : Type 0 where
@@ -74,4 +76,41 @@ rows-none n d t few small = record {
   long = length-replicate 512 (replicate {A = ℕ} 32 0);
   each = λ i a k l.
       inl (ap (λ (row : List ℕ). getD row i 0) (getD-replicate 512 (i * 16 + a) (replicate {A = ℕ} 32 0) [] (omega arith)) ∙ getD-replicate 32 i 0 0 (omega arith));
+}
+
+-- ---- one row for each variable
+
+-- The row of v of V is the one kept.
+pub record LastKept (n d : ℕ) (tables : List ℕ) (V′ v : ℕ) (rows : List (List ℕ)) : Type 0 where
+  pub all : LastRows n d tables rows
+  pub row : RowOf n (tableOf n d tables) V′ v (getD rows V′ [])
+
+module _ (n d : ℕ) (t : List ℕ) (rows : List (List ℕ)) (V′ v : ℕ) (all : LastRows n d t rows) (a-variable : V′ < n) where
+  -- A row that has v alone for its variable is the row.
+  pub last-kept : v < d → d ≤ 16 → getD (getD rows V′ []) V′ 0 ≡ 1 * 2 ^ v % 2 ^ 16 → LastKept n d t V′ v rows
+  last-kept a-value small shifted =
+      let e : getD (getD rows V′ []) V′ 0 ≡ single v = shifted ∙ simp one-mul (mod-eq-of-lt (single-lt 16 v (omega arith))) in record {
+        all = all;
+        row = ⊎-elim (λ z. absurd (member-some (single v) v (bit-single-same v) (sym e ∙ z)))
+            (λ w. let same : w .0 ≡ v = single-member v (w .0) (rw (← e, w .1 .own) (bit-single-same (w .0))) in subst (λ (a : ℕ). RowOf n (tableOf n d t) V′ a (getD rows V′ [])) same (w .1))
+            (all .each V′ a-variable);
+      }
+
+  -- Another is kept in its place.
+  pub last-more : (row : List ℕ) → n ≤ 32 → RowOf n (tableOf n d t) V′ v row → LastKept n d t V′ v (set rows V′ row)
+  last-more row few made = record {
+    all = record {
+      long = length-set rows V′ row ∙ all .long;
+      each = λ i k. elim (ℕ-discrete i V′) [
+        | yes s ↦ inr (v, rw (s, getD-set-same rows V′ row [] (omega (arith, all .long))) made)
+        | no s ↦ rw (getD-set-other rows V′ i row [] s) (all .each i k)
+      ];
+    };
+    row = rw (getD-set-same rows V′ row [] (omega (arith, all .long))) made;
+  }
+
+pub last-none : (n d : ℕ) (t : List ℕ) → n ≤ 32 → LastRows n d t (replicate 32 (replicate {A = ℕ} 32 0))
+last-none n d t few = record {
+  long = length-replicate 32 (replicate {A = ℕ} 32 0);
+  each = λ i k. inl (ap (λ (row : List ℕ). getD row i 0) (getD-replicate 32 i (replicate {A = ℕ} 32 0) [] (omega arith)) ∙ getD-replicate 32 i 0 0 (omega arith));
 }

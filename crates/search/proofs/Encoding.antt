@@ -8,11 +8,11 @@ use native.Mathlib.Decide.{decLt}
 use native.Mathlib.Nat.{zero-mul}
 use native.Mathlib.Numerals.{add-one}
 use lib.ListN.{length, getD, take, drop, set, replicate, length-append, length-take, length-drop, length-replicate, take-append-drop, drop-of-length-le, getD-replicate, List·getD-eq-default, replicate-append-replicate}
-use lib.Seq.{length-take-le, drop-cons, append-snoc, set-append-left, take-set-lt, set-at, take-at, drop-at, getD-at, getD-take, getD-drop, getD-append-add, take-add, ext-getD}
+use lib.Seq.{length-take-le, drop-cons, append-snoc, set-at, take-at, drop-at, getD-at, getD-take, getD-drop, getD-append-add, take-add, ext-getD}
 use Rattle.splits.specs.declared.subproblem.Subproblem.{Subproblem}
 use Rattle.search.specs.Agenda.{holding, Shape, slotWords, subproblemOf, slotAt, stackOf, stackWords, agendaOf}
 use Rattle.search.specs.Work.Slots.{splice, SlotIn}
-use Rattle.search.proofs.Copies.{drop-zeros, splice-between, splice-set}
+use Rattle.search.proofs.Copies.{drop-zeros, splice-between}
 
 -- What the loop that copies domains makes.
 pub holding-made : (n marked : ℕ) (words D : List ℕ) (i : ℕ) → D ≡ take i words ++ drop i (replicate 32 0) → i ≡ n
@@ -40,6 +40,10 @@ pub slot-part : (n k : ℕ) (l : List ℕ) → take ((k * (n + 2) + (n + 2)) - k
 unfolding slotAt
 slot-part n k l = let w : (k * (n + 2) + (n + 2)) - k * (n + 2) ≡ n + 2 = omega arith in ap (λ (j : ℕ). take j (drop (k * (n + 2)) l)) w
 
+pub slot-long : (n k : ℕ) (l : List ℕ) → SlotIn n k (length l) → length (slotAt n l k) ≡ n + 2
+unfolding slotAt
+slot-long n k l s = length-take-le (n + 2) (drop (k * (n + 2)) l) (rw length-drop (omega (arith, s .within)))
+
 -- Slot k is a part of the agenda.
 pub slot-read : (n k : ℕ) (l : List ℕ) (r : Subproblem) → r ≡ subproblemOf n (take ((k * (n + 2) + (n + 2)) - k * (n + 2)) (drop (k * (n + 2)) l))
     → r ≡ subproblemOf n (slotAt n l k)
@@ -49,19 +53,6 @@ slot-read n k l r e = e ∙ ap (subproblemOf n) (slot-part n k l)
 pub length-slot : (n : ℕ) (P : Subproblem) → n ≤ length (P .domains) → length (slotWords n P) ≡ n + 2
 unfolding slotWords
 length-slot n P h = simp (length-append, length-take) (omega arith)
-
--- A slot with another mask for variable j.
-pub slot-but : (n k j x : ℕ) (P : Subproblem) (before after : List ℕ) → SlotIn n k (length before) → j < n → length (P .domains) ≡ 32
-    → after ≡ splice before (k * (n + 2)) (slotWords n P)
-    → set after (k * (n + 2) + j) x ≡ splice before (k * (n + 2)) (slotWords n (record { domains = set (P .domains) j x; marked = P .marked }))
-unfolding slotWords
-slot-but n k j x P before after slot h long e =
-    let front : length (take n (P .domains)) ≡ n = length-take-le n (P .domains) (omega (arith, slot .few)) in
-    ap (λ (l : List ℕ). set l (k * (n + 2) + j) x) e
-    ∙ splice-set before (slotWords n P) (k * (n + 2)) j x (omega (arith, slot .within)) (omega (arith, length-slot n P (omega (arith, slot .few))))
-    ∙ ap (splice before (k * (n + 2)))
-    (set-append-left (take n (P .domains)) (P .marked / 65536 ∷ P .marked % 65536 ∷ []) j x (omega arith)
-    ∙ ap (λ (t : List ℕ). t ++ (P .marked / 65536 ∷ P .marked % 65536 ∷ [])) (sym (take-set-lt n (P .domains) j x h)))
 
 -- What the stores into a slot make.
 pub slot-made : (n : ℕ) (P : Subproblem) (slot ys : List ℕ) → ys ≡ take (length (take n slot)) (P .domains) → length slot ≡ n + 2

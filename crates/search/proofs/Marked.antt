@@ -1,6 +1,6 @@
 -- The rules for the subproblem in the words of a slot: its domains together, then its instantiated variables one by one.
 -- Assumes nothing.
-use mathlib.Core.Path.{_≡_, refl, sym, ap, _∙_}
+use mathlib.Core.Path.{_≡_, refl, sym, ap, _∙_, subst}
 use mathlib.Core.Bool.{Bool, true, false, not, cond, _&&_, _||_, and-false, and-true, true≢false}
 use mathlib.Core.List.{List}
 use Prim.Native.Nat.{ℕ, zero, suc, _+_, _-_, _*_, _/_, _%_, _^_, _≤_, _<_}
@@ -11,23 +11,23 @@ use lib.Pow.{pow-mono}
 use lib.Bits.{bitAnd, bitOr, and-le-r}
 use lib.Count.{trailingZeros, trailing-of-zero}
 use lib.Dec.{eqb, ltb}
-use lib.ListN.{length, getD, take, replicate, length-take, List·getD-append}
-use lib.Seq.{getD-take}
+use lib.ListN.{length, getD, set, take, replicate, length-set, length-take, List·getD-append}
+use lib.Seq.{getD-take, getD-set-same, getD-set-other}
 use borrow.Author.Tests.{eq-eqb, ne-eqb, eqb-true, ltb-true, lt-ltb, le-ltb}
-use Rattle.splits.specs.Masks.{bit, minus, size, lowest}
+use Rattle.splits.specs.Masks.{bit, _∈_, Part, single, minus, size, lowest}
+use Rattle.splits.specs.Splits.{RowOf}
 use Rattle.splits.specs.Problem.{Problem, Table, tableOf}
 use Rattle.splits.specs.Subproblems.{domain, every}
 use Rattle.splits.specs.declared.subproblem.Subproblem.{Subproblem}
-use Rattle.splits.proofs.Masks.{bit-le, bit-above, not-minus, lowest-member, trailing-least, trailing-member}
-use Rattle.splits.proofs.Refusals.{lacks}
+use Rattle.splits.proofs.Masks.{bit-le, bit-above, not-minus, none-minus, minus-self, minus-part-of, part-antisym, part-single, part-minus, single-of, size-single, lowest-member, trailing-least, trailing-member}
 use Rattle.splits.proofs.Subproblems.{shifted}
 use Rattle.splits.proofs.Tests.{and-left, and-right, every-at, every-all, same-test}
 use Rattle.search.specs.Agenda.{problemOf, holding, subproblemOf}
 use Rattle.search.specs.FirstChecks.{masksBelow, symmetric, refusalOfProblem, domainObeys, valuesAgree, obeys}
-use Rattle.search.specs.Work.FirstTests.{Next, joined, partWrong, wrongIn, pairAgrees, beforeAgrees, markObeys}
-use Rattle.search.proofs.Joining.{joined-zero, bit-shr}
-use Rattle.search.proofs.Obeying.{is-marked, agrees-same, agrees-first, agrees-second}
-use Rattle.search.proofs.FirstParts.{Symmetric-at, symmetric-true}
+use Rattle.search.specs.Work.FirstTests.{SlotFits, Next, joined, partWrong, wrongIn, pairAgrees, heldAt, besideAt, Held, missingIn, markObeys}
+use Rattle.search.proofs.Joining.{joined-zero, joined-more, bit-shr}
+use Rattle.search.proofs.Obeying.{is-marked, agrees-same, agrees-first, agrees-second, agrees-both}
+use Rattle.search.proofs.Copies.{zeros-at}
 
 -- ---- one domain
 
@@ -100,85 +100,156 @@ every-on f j k e h = every-all f k (λ x l. elim (decLt x j) [ yes m ↦ every-a
 pub every-past : (f : ℕ → Bool) (n j : ℕ) → n ≤ j → every j f ≡ true → true ≡ every n f
 every-past f n j h e = sym (every-all f n (λ x l. every-at f j x (omega arith) e))
 
-pub row-next : (allowed : Table) (P : Subproblem) (marked i j next : ℕ) → marked ≡ P .marked → every j (pairAgrees allowed P i) ≡ true
-    → Next marked j next → every next (pairAgrees allowed P i) ≡ true
-row-next allowed P marked i j next s e h =
-    every-on (pairAgrees allowed P i) j next e (λ k l m.
-    let none : bit (P .marked) k ≡ 0 = rw s at (h .none k l m) in
-    sym (agrees-second allowed P i k false (sym (ne-eqb (bit (P .marked) k) 1 (λ z. absurd (omega arith)))) refl))
-
 -- ---- an instantiated variable
 
-pub mark-none : (allowed : Table) (P : Subproblem) (i : ℕ) (b : Bool) → b ≡ eqb (bit (P .marked) i) 1 → not b ≡ true
-    → true ≡ markObeys allowed P i
-unfolding markObeys beforeAgrees
-mark-none allowed P i b e y =
-    simp (lacks (P .marked) i b e ∙ y, every-all (pairAgrees allowed P i) i (λ j h. sym (agrees-first allowed P i j b e y)))
-
-pub mark-more : (allowed : Table) (P : Subproblem) (marked i m s : ℕ) → marked ≡ P .marked → bit marked i ≡ 1
-    → m ≡ domain P i → s ≡ size m → (s ≡ 1 → ⊥) → false ≡ markObeys allowed P i
+pub mark-none : (n : ℕ) (allowed : Table) (P : Subproblem) (i : ℕ) → bit (P .marked) i ≡ 0 → markObeys n allowed P i ≡ true
 unfolding markObeys
-mark-more allowed P marked i m s e y d h z =
-    let some : eqb (size (domain P i)) 1 ≡ false = rw (h, d) at (ne-eqb s 1 z) in
-    simp (is-marked P marked i e y, some)
+mark-none n allowed P i e = simp (eq-eqb (bit (P .marked) i) 0 e)
 
-pub mark-single : (allowed : Table) (P : Subproblem) (marked i m s : ℕ) (r : Bool) → marked ≡ P .marked → bit marked i ≡ 1
-    → m ≡ domain P i → s ≡ size m → s ≡ 1 → r ≡ beforeAgrees allowed P i → r ≡ markObeys allowed P i
-unfolding markObeys
-mark-single allowed P marked i m s r e y d h z q =
-    let one : eqb (size (domain P i)) 1 ≡ true = rw (h, d) at (eq-eqb s 1 z) in
-    simp (is-marked P marked i e y, one) q
+-- what it holds, and what the others hold beside it, as the code puts them together
+mark-is : (n : ℕ) (allowed : Table) (P : Subproblem) (marked i m : ℕ) (held row : List ℕ) → n ≤ 32 → marked ≡ P .marked → bit marked i ≡ 1
+    → Held n P held → RowOf n allowed i (lowest (domain P i)) row → m ≡ joined 32 (missingIn held row) → eqb m 0 ≡ markObeys n allowed P i
+unfolding markObeys missingIn besideAt
+mark-is n allowed P marked i m held row few e y its r s =
+    rw (s, joined-zero 32 (missingIn held row), is-marked P marked i e y)
+    (same-test (every 32 own) (every n all)
+    (λ x. every-all all n (λ j l. sym (at j l) ∙ every-at own 32 j (omega arith) x))
+    (λ x. every-all own 32 (λ j l. elim (decLt j n) [
+      | yes k ↦ at j k ∙ every-at all n j k x
+      | no k ↦ rw (its .past j (omega arith), none-minus (getD row j 0)) refl
+    ])))
+  where
+    own : ℕ → Bool
+    own j = eqb (minus (getD held j 0) (getD row j 0)) 0
 
-pub marks-next : (allowed : Table) (P : Subproblem) (marked i next : ℕ) → marked ≡ P .marked → every i (markObeys allowed P) ≡ true
-    → Next marked i next → every next (markObeys allowed P) ≡ true
-marks-next allowed P marked i next s e h =
-    every-on (markObeys allowed P) i next e (λ k l m.
-    let none : bit (P .marked) k ≡ 0 = rw s at (h .none k l m) in
-    sym (mark-none allowed P k false (sym (ne-eqb (bit (P .marked) k) 1 (λ z. absurd (omega arith)))) refl))
+    all : ℕ → Bool
+    all j = eqb (minus (heldAt P j) (besideAt allowed P i j)) 0
 
--- ---- two variables, either way
+    beside : (j : ℕ) → j < n → getD row j 0 ≡ besideAt allowed P i j
+    beside j l = elim (ℕ-discrete j i) [
+      | yes k ↦ rw (eq-eqb j i k, k) (r .own)
+      | no k ↦ rw (ne-eqb j i k) (r .other j l k)
+    ]
+
+    at : (j : ℕ) → j < n → own j ≡ all j
+    at j l = rw (its .each j l, beside j l) refl
+
+pub mark-read : (n d : ℕ) (t slot : List ℕ) (marked i a m : ℕ) (held row : List ℕ) → SlotFits n d t slot marked → i < n → bit marked i ≡ 1
+    → Held n (subproblemOf n slot) held → a ≡ lowest (getD slot i 0) → RowOf n (tableOf n d t) i a row → m ≡ joined 32 (missingIn held row)
+    → eqb m 0 ≡ markObeys n (tableOf n d t) (subproblemOf n slot) i
+mark-read n d t slot marked i a m held row fits l y its e r s =
+    mark-is n (tableOf n d t) (subproblemOf n slot) marked i m held row (fits .sized .few) (fits .marks) y its
+    (subst (λ (x : ℕ). RowOf n (tableOf n d t) i x row) (e ∙ ap lowest (slot-domain n slot i (omega (arith, fits .words)) l)) r) s
+
+pub marks-next : (n : ℕ) (allowed : Table) (P : Subproblem) (marked i next : ℕ) → marked ≡ P .marked → every i (markObeys n allowed P) ≡ true
+    → Next marked i next → every next (markObeys n allowed P) ≡ true
+marks-next n allowed P marked i next s e h =
+    every-on (markObeys n allowed P) i next e (λ k l m. mark-none n allowed P k (rw s at (h .none k l m)))
+
+pub missing-more : (held row : List ℕ) (j wrong x : ℕ) → wrong ≡ joined j (missingIn held row) → x ≡ minus (getD held j 0) (getD row j 0)
+    → bitOr wrong x ≡ joined (j + 1) (missingIn held row)
+unfolding missingIn
+missing-more held row j wrong x e h = joined-more (λ j. minus (getD held j 0) (getD row j 0)) j x wrong e h
+
+-- the domains of the instantiated variables, from mark to mark
+pub record HeldTo (n marked : ℕ) (slot : List ℕ) (i : ℕ) (masks : List ℕ) : Type 0 where
+  pub long : length masks ≡ 32
+  pub each : (j : ℕ) → j < i → j < n → getD masks j 0 ≡ cond (eqb (bit marked j) 1) (getD slot j 0) 0
+  pub past : (j : ℕ) → i ≤ j → getD masks j 0 ≡ 0
+  pub over : (j : ℕ) → n ≤ j → getD masks j 0 ≡ 0
+
+module _ (n marked : ℕ) (slot : List ℕ) where
+  held-on : (masks : List ℕ) (i next : ℕ) → HeldTo n marked slot i masks → Next marked i next → HeldTo n marked slot next masks
+  held-on masks i next h k = record {
+    long = h .long;
+    each = λ j l o. elim (decLt j i) [
+      | yes m ↦ h .each j m o
+      | no m ↦ h .past j (omega arith) ∙ rw (ne-eqb (bit marked j) 1 (λ z. omega (arith, k .none j (omega arith) l))) refl
+    ];
+    past = λ j l. h .past j (omega (arith, k .up));
+    over = h .over;
+  }
+
+  pub held-start : (next : ℕ) → Next marked 0 next → HeldTo n marked slot next (replicate 32 0)
+  held-start next k =
+      held-on (replicate 32 0) 0 next (record { long = refl; each = λ j l o. absurd (omega arith); past = λ j l. zeros-at 32 j; over = λ j l. zeros-at 32 j }) k
+
+  pub held-next : (masks : List ℕ) (i next x : ℕ) → HeldTo n marked slot i masks → i < n → n ≤ 32 → bit marked i ≡ 1 → x ≡ getD slot i 0 → Next marked (i + 1) next
+      → HeldTo n marked slot next (set masks i x)
+  held-next masks i next x h l few y e k = held-on (set masks i x) (i + 1) next (record {
+    long = length-set masks i x ∙ h .long;
+    each = λ j m o. elim (ℕ-discrete j i) [
+      | yes q ↦ rw (q, getD-set-same masks i x 0 (omega (arith, h .long)), eq-eqb (bit marked i) 1 y) e
+      | no q ↦ getD-set-other masks i j x 0 q ∙ h .each j (omega arith) o
+    ];
+    past = λ j m. getD-set-other masks i j x 0 (λ z. omega arith) ∙ h .past j (omega arith);
+    over = λ j m. getD-set-other masks i j x 0 (λ z. omega arith) ∙ h .over j m;
+  }) k
+
+  pub held-end : (masks : List ℕ) (i : ℕ) → HeldTo n marked slot i masks → n ≤ i → length slot ≡ n + 2 → marked ≡ subproblemOf n slot .marked
+      → Held n (subproblemOf n slot) masks
+  unfolding heldAt
+  held-end masks i h past long e = record {
+    long = h .long;
+    each = λ j l. h .each j (omega arith) l ∙ rw (← e, slot-domain n slot j (omega arith) l) refl;
+    past = h .over;
+  }
+
+-- ---- two variables
 
 -- a part that is not empty of a domain below 2 ^ d has a value below d
-part-value : (d whole m : ℕ) → d ≤ 16 → whole < 2 ^ d → eqb (partWrong whole m) 0 ≡ true → lowest m < d
+record Valued (d m : ℕ) : Type 0 where
+  value : lowest m < d
+  member : lowest m ∈ m
+
+part-value : (d whole m : ℕ) → d ≤ 16 → whole < 2 ^ d → eqb (partWrong whole m) 0 ≡ true → Valued d m
 unfolding minus
 part-value d whole m small h e =
     let right = wrong-none whole m in
     let full : m ≡ 0 → ⊥ = λ z. true≢false (sym (and-left (not (eqb m 0)) (eqb (minus m whole) 0) (sym right ∙ e)) ∙ ap not (eq-eqb m 0 z)) in
     let within : minus m whole ≡ 0 = eqb-true (minus m whole) 0 (and-right (not (eqb m 0)) (eqb (minus m whole) 0) (sym right ∙ e)) in
     let narrow : m < 2 ^ d = omega (arith, and-le-r m whole) in
-    let wide : m < 2 ^ 16 = lt-of-lt-of-le narrow (pow-mono small) in
-    elim (decLt (lowest m) d) [
-      | yes l ↦ l
-      | no l ↦ absurd (omega (arith, lowest-member m wide full, bit-above d m (lowest m) narrow (omega arith)))
-    ]
+    let its : lowest m ∈ m = lowest-member m (lt-of-lt-of-le narrow (pow-mono small)) full in
+    record {
+      value = elim (decLt (lowest m) d) [
+        | yes l ↦ l
+        | no l ↦ absurd (omega (arith, its, bit-above d m (lowest m) narrow (omega arith)))
+      ];
+      member = its;
+    }
 
 domain-below : (n d : ℕ) (domains tables : List ℕ) → masksBelow (problemOf n d domains tables) ≡ true → (i : ℕ) → i < n → getD domains i 0 < 2 ^ d
 unfolding masksBelow
 domain-below n d domains tables e i l =
     ltb-true (getD domains i 0) (2 ^ d) (every-at (λ k. ltb (getD domains k 0) (2 ^ d)) n i l (and-left (every n (λ k. ltb (getD domains k 0) (2 ^ d))) _ e))
 
-pair-even : (p : Problem) → symmetric p ≡ true → (i j : ℕ) → i < p .n → j < p .n → (i ≡ j → ⊥)
-    → (a b : ℕ) → a < p .d → b < p .d → bit (p .allowed i j a) b ≡ bit (p .allowed j i b) a
-unfolding Symmetric-at
-pair-even p e i j h k f a b = symmetric-true p e i j h k f a b
+-- two masks of which all of the first lies within the second
+within-of : (m k : ℕ) → eqb (minus m k) 0 ≡ true → Part m k
+within-of m k e = minus-part-of m k (eqb-true (minus m k) 0 e)
 
-pair-turned : (allowed : Table) (P : Subproblem) (i j : ℕ) → (i ≡ j → ⊥)
-    → bit (allowed i j (lowest (domain P i))) (lowest (domain P j)) ≡ bit (allowed j i (lowest (domain P j))) (lowest (domain P i))
-    → pairAgrees allowed P i j ≡ pairAgrees allowed P j i
-unfolding pairAgrees
-pair-turned allowed P i j f e =
-    simp (ne-eqb i j f, ne-eqb j i (λ z. f (sym z)))
-    (ap (λ (x : ℕ). eqb (bit (P .marked) i) 0 || eqb (bit (P .marked) j) 0 || eqb x 1) e
-    ∙ or-swap (eqb (bit (P .marked) i) 0) (eqb (bit (P .marked) j) 0) (eqb (bit (allowed j i (lowest (domain P j))) (lowest (domain P i))) 1))
-  where
-    or-swap : (a b c : Bool) → (a || b || c) ≡ (b || a || c)
-    or-swap true true c = refl
-    or-swap true false c = refl
-    or-swap false true c = refl
-    or-swap false false c = refl
+-- one that lies within its lowest value has one value, and one that has one value is that
+one-of : (m : ℕ) → lowest m ∈ m → eqb (minus m (single (lowest m))) 0 ≡ true → size m ≡ 1
+one-of m h e = rw (part-antisym m (single (lowest m)) (within-of m (single (lowest m)) e) (part-single m (lowest m) h)) (size-single (lowest m))
+
+-- instantiated variables that agree
+module _ (allowed : Table) (P : Subproblem) (i j : ℕ) (f : i ≡ j → ⊥) (h : bit (P .marked) i ≡ 1) (k : bit (P .marked) j ≡ 1) where
+  agrees-held : lowest (domain P j) ∈ domain P j → eqb (minus (heldAt P j) (besideAt allowed P i j)) 0 ≡ true → pairAgrees allowed P i j ≡ true
+  unfolding heldAt besideAt
+  agrees-held m e =
+      let read : eqb (minus (domain P j) (allowed i j (lowest (domain P i)))) 0 ≡ true = rw (eq-eqb (bit (P .marked) j) 1 k, ne-eqb j i (λ z. f (sym z))) at e in
+      sym (agrees-both allowed P i j true (P .marked) refl h k f (sym (eq-eqb _ 1 (within-of (domain P j) (allowed i j (lowest (domain P i))) read (lowest (domain P j)) m))))
+
+  held-agrees : lowest (domain P j) ∈ domain P j → size (domain P j) ≡ 1 → pairAgrees allowed P i j ≡ true → eqb (minus (heldAt P j) (besideAt allowed P i j)) 0 ≡ true
+  unfolding heldAt besideAt pairAgrees
+  held-agrees m one e =
+      let bit-in : lowest (domain P j) ∈ allowed i j (lowest (domain P i)) = eqb-true _ 1 (rw (ne-eqb i j f, is-marked P (P .marked) i refl h, is-marked P (P .marked) j refl k) at e) in
+      let only : domain P j ≡ single (lowest (domain P j)) = single-of (domain P j) (lowest (domain P j)) one m in
+      let none : minus (domain P j) (allowed i j (lowest (domain P i))) ≡ 0 =
+      ap (λ (x : ℕ). minus x (allowed i j (lowest (domain P i)))) only ∙ part-minus (single (lowest (domain P j))) (allowed i j (lowest (domain P i))) (part-single _ _ bit-in) in
+      rw (eq-eqb (bit (P .marked) j) 1 k, ne-eqb j i (λ z. f (sym z))) (eq-eqb _ 0 none)
 
 -- what is left where neither 4 nor 5 is deserved
-problem-parts : (p : Problem) → refusalOfProblem p ≡ 0 → (masksBelow p ≡ true) × (symmetric p ≡ true)
+pub problem-parts : (p : Problem) → refusalOfProblem p ≡ 0 → (masksBelow p ≡ true) × (symmetric p ≡ true)
 unfolding refusalOfProblem
 problem-parts p e = go (masksBelow p) (symmetric p) e
   where
@@ -198,63 +269,95 @@ module _ (n d : ℕ) (domains tables slot : List ℕ) (words : length domains �
       rw (slot-domain n slot i (omega arith) l, wrong-none)
 
   -- all that an instantiated variable must be, and all that domains must be beside it
-  slot-all : (w : ℕ) → masksBelow (problemOf n d domains tables) ≡ true → symmetric (problemOf n d domains tables) ≡ true → d ≤ 16
-      → w ≡ joined (length domains) (wrongIn domains slot) → w ≡ 0
-      → every n (markObeys (tableOf n d tables) (subproblemOf n slot))
-      ≡ (every n (domainObeys (problemOf n d domains tables) (subproblemOf n slot))
-      && every n (λ i. every n (valuesAgree (problemOf n d domains tables) (subproblemOf n slot) i)))
-  unfolding markObeys valuesAgree beforeAgrees pairAgrees wrongIn
-  slot-all w below even small e z =
-      same-test (every n marks) (every n whole && every n rows)
-      (λ x. both (every n whole) (every n rows)
-      (every-all whole n (λ i l. slot-parts i l ∙ both (eqb (wrongIn domains slot i) 0) (sized i) (every-at (λ k. eqb (wrongIn domains slot k) 0) n i l none) (and-left (sized i) (earlier i) (every-at marks n i l x))))
-      (every-all rows n (λ i l. every-all (pairs i) n (λ j k. elim (decLt j i) [
-        | yes f ↦ every-at (pairs i) i j f (and-right (sized i) (earlier i) (every-at marks n i l x))
-        | no f ↦ elim (ℕ-discrete i j) [
-          | yes s ↦ sym (agrees-same (tableOf n d tables) P i j s)
-          | no s ↦ turned-pair i j l k s ∙ every-at (pairs j) j i (omega arith) (and-right (sized j) (earlier j) (every-at marks n j k x))
+  module _ (w : ℕ) (below : masksBelow (problemOf n d domains tables) ≡ true) (small : d ≤ 16) (e : w ≡ joined (length domains) (wrongIn domains slot)) (z : w ≡ 0) where
+    abbrev P : Subproblem
+    P = subproblemOf n slot
+
+    none : every n (λ i. eqb (wrongIn domains slot i) 0) ≡ true
+    none =
+        sym (joined-zero n (wrongIn domains slot))
+        ∙ eq-eqb (joined n (wrongIn domains slot)) 0 (ap (λ (k : ℕ). joined k (wrongIn domains slot)) (sym words) ∙ sym e ∙ z)
+
+    valued : (i : ℕ) → i < n → Valued d (getD slot i 0)
+    unfolding wrongIn
+    valued i l = part-value d (getD domains i 0) (getD slot i 0) small (domain-below n d domains tables below i l) (every-at (λ k. eqb (wrongIn domains slot k) 0) n i l none)
+
+    pub slot-values : (i : ℕ) → i < n → lowest (getD slot i 0) < d
+    slot-values i l = valued i l .value
+
+    lowest-in : (i : ℕ) → i < n → lowest (domain P i) ∈ domain P i
+    lowest-in i l = rw (slot-domain n slot i (omega arith) l) at (valued i l .member)
+
+    slot-all : every n (markObeys n (tableOf n d tables) P)
+        ≡ (every n (domainObeys (problemOf n d domains tables) P) && every n (λ i. every n (valuesAgree (problemOf n d domains tables) P i)))
+    unfolding markObeys valuesAgree pairAgrees wrongIn heldAt besideAt
+    slot-all =
+        same-test (every n marks) (every n whole && every n rows)
+        (λ x. both (every n whole) (every n rows)
+        (every-all whole n (λ i l. slot-parts i l ∙ both (eqb (wrongIn domains slot i) 0) (sized i) (every-at (λ k. eqb (wrongIn domains slot k) 0) n i l none) (is-sized i l (every-at marks n i l x))))
+        (every-all rows n (λ i l. every-all (pairs i) n (λ j k. pair-of i j l k (every-at marks n i l x)))))
+        (λ x. every-all marks n (λ i l. mark-of i l
+        (λ j k. and-right (eqb (wrongIn domains slot j) 0) (sized j) (sym (slot-parts j k) ∙ every-at whole n j k (and-left (every n whole) (every n rows) x)))
+        (every-at rows n i l (and-right (every n whole) (every n rows) x))))
+      where
+        t : Table
+        t = tableOf n d tables
+
+        marks : ℕ → Bool
+        marks = markObeys n t P
+
+        whole : ℕ → Bool
+        whole = domainObeys (problemOf n d domains tables) P
+
+        pairs : ℕ → ℕ → Bool
+        pairs = pairAgrees t P
+
+        rows : ℕ → Bool
+        rows i = every n (pairs i)
+
+        sized : ℕ → Bool
+        sized i = eqb (bit (P .marked) i) 0 || eqb (size (domain P i)) 1
+
+        both : (a b : Bool) → a ≡ true → b ≡ true → (a && b) ≡ true
+        both a b p q = rw p q
+
+        -- what an instantiated variable and every other beside it hold
+        beside-all : (i : ℕ) → bit (P .marked) i ≡ 1 → markObeys n t P i ≡ true → (j : ℕ) → j < n → eqb (minus (heldAt P j) (besideAt t P i j)) 0 ≡ true
+        beside-all i h x j k = every-at (λ j. eqb (minus (heldAt P j) (besideAt t P i j)) 0) n j k (rw (is-marked P (P .marked) i refl h) at x)
+
+        is-sized : (i : ℕ) → i < n → markObeys n t P i ≡ true → sized i ≡ true
+        is-sized i l x = elim (ℕ-discrete (bit (P .marked) i) 1) [
+          | yes h ↦ rw (is-marked P (P .marked) i refl h) (eq-eqb (size (domain P i)) 1 (one-of (domain P i) (lowest-in i l) (rw (eq-eqb (bit (P .marked) i) 1 h, eq-eqb i i refl) at (beside-all i h x i l))))
+          | no h ↦ rw (eq-eqb (bit (P .marked) i) 0 (omega (arith, bit-le (P .marked) i))) refl
         ]
-      ]))))
-      (λ x. every-all marks n (λ i l. both (sized i) (earlier i)
-      (and-right (eqb (wrongIn domains slot i) 0) (sized i) (sym (slot-parts i l) ∙ every-at whole n i l (and-left (every n whole) (every n rows) x)))
-      (every-all (pairs i) i (λ j k. every-at (pairs i) n j (omega arith) (every-at rows n i l (and-right (every n whole) (every n rows) x))))))
-    where
-      P : Subproblem
-      P = subproblemOf n slot
 
-      marks : ℕ → Bool
-      marks = markObeys (tableOf n d tables) P
+        pair-of : (i j : ℕ) → i < n → j < n → markObeys n t P i ≡ true → pairs i j ≡ true
+        pair-of i j l k x = elim (ℕ-discrete i j) [
+          | yes s ↦ sym (agrees-same t P i j s)
+          | no s ↦ elim (ℕ-discrete (bit (P .marked) i) 1) [
+            | yes h ↦ elim (ℕ-discrete (bit (P .marked) j) 1) [
+              | yes m ↦ agrees-held t P i j s h m (lowest-in j k) (beside-all i h x j k)
+              | no m ↦ sym (agrees-second t P i j false (sym (ne-eqb (bit (P .marked) j) 1 m)) refl)
+            ]
+            | no h ↦ sym (agrees-first t P i j false (sym (ne-eqb (bit (P .marked) i) 1 h)) refl)
+          ]
+        ]
 
-      whole : ℕ → Bool
-      whole = domainObeys (problemOf n d domains tables) P
-
-      pairs : ℕ → ℕ → Bool
-      pairs = pairAgrees (tableOf n d tables) P
-
-      rows : ℕ → Bool
-      rows i = every n (pairs i)
-
-      earlier : ℕ → Bool
-      earlier i = every i (pairs i)
-
-      sized : ℕ → Bool
-      sized i = eqb (bit (P .marked) i) 0 || eqb (size (domain P i)) 1
-
-      both : (a b : Bool) → a ≡ true → b ≡ true → (a && b) ≡ true
-      both a b p q = rw p q
-
-      none : every n (λ i. eqb (wrongIn domains slot i) 0) ≡ true
-      none =
-          sym (joined-zero n (wrongIn domains slot))
-          ∙ eq-eqb (joined n (wrongIn domains slot)) 0 (ap (λ (k : ℕ). joined k (wrongIn domains slot)) (sym words) ∙ sym e ∙ z)
-
-      value : (i : ℕ) → i < n → lowest (domain P i) < d
-      value i l = rw (← slot-domain n slot i (omega arith) l) (part-value d (getD domains i 0) (getD slot i 0) small
-          (domain-below n d domains tables below i l) (every-at (λ k. eqb (wrongIn domains slot k) 0) n i l none))
-
-      turned-pair : (i j : ℕ) → i < n → j < n → (i ≡ j → ⊥) → pairs i j ≡ pairs j i
-      turned-pair i j l k f = pair-turned (tableOf n d tables) P i j f
-          (pair-even (problemOf n d domains tables) even i j l k f (lowest (domain P i)) (lowest (domain P j)) (value i l) (value j k))
+        mark-of : (i : ℕ) → i < n → ((j : ℕ) → j < n → sized j ≡ true) → every n (pairs i) ≡ true → markObeys n t P i ≡ true
+        mark-of i l o x = elim (ℕ-discrete (bit (P .marked) i) 1) [
+          | no h ↦ mark-none n t P i (omega (arith, bit-le (P .marked) i))
+          | yes h ↦ rw (is-marked P (P .marked) i refl h) (every-all (λ j. eqb (minus (heldAt P j) (besideAt t P i j)) 0) n (λ j k. elim (ℕ-discrete (bit (P .marked) j) 1) [
+            | no m ↦ rw (ne-eqb (bit (P .marked) j) 1 m, none-minus (besideAt t P i j)) refl
+            | yes m ↦
+                let one : size (domain P j) ≡ 1 = eqb-true _ 1 (rw (is-marked P (P .marked) j refl m) at (o j k)) in
+                elim (ℕ-discrete i j) [
+                  | yes s ↦
+                      let only : domain P j ≡ single (lowest (domain P j)) = single-of (domain P j) (lowest (domain P j)) one (lowest-in j k) in
+                      rw (eq-eqb (bit (P .marked) j) 1 m, eq-eqb j i (sym s), s) (eq-eqb _ 0 (ap (λ (x : ℕ). minus x (single (lowest (domain P j)))) only ∙ minus-self (single (lowest (domain P j)))))
+                  | no s ↦ held-agrees t P i j s h m (lowest-in j k) one (every-at (pairs i) n j k x)
+                ]
+          ]))
+        ]
 
   -- something is wrong with the domains
   pub slot-wrong : (w : ℕ) → w ≡ joined (length domains) (wrongIn domains slot) → (w ≡ 0 → ⊥)
@@ -279,11 +382,26 @@ module _ (n d : ℕ) (domains tables slot : List ℕ) (words : length domains �
 
   -- nothing is; the instantiated variables decide
   pub slot-marked : (w : ℕ) (r : Bool) → refusalOfProblem (problemOf n d domains tables) ≡ 0 → d ≤ 16 → w ≡ joined (length domains) (wrongIn domains slot) → w ≡ 0 → subproblemOf n slot .marked < 2 ^ n
-      → r ≡ every n (markObeys (tableOf n d tables) (subproblemOf n slot)) → r ≡ obeys (problemOf n d domains tables) (subproblemOf n slot)
+      → r ≡ every n (markObeys n (tableOf n d tables) (subproblemOf n slot)) → r ≡ obeys (problemOf n d domains tables) (subproblemOf n slot)
   unfolding obeys
   slot-marked w r q small e z h s =
       let p = problem-parts (problemOf n d domains tables) q in
-      simp (lt-ltb (subproblemOf n slot .marked) (2 ^ n) h, and-true) (s ∙ slot-all w (p .0) (p .1) small e z)
+      simp (lt-ltb (subproblemOf n slot .marked) (2 ^ n) h, and-true) (s ∙ slot-all w (p .0) small e z)
+
+  -- where a subproblem obeys the rules its instantiated variables do
+  pub slot-known : refusalOfProblem (problemOf n d domains tables) ≡ 0 → d ≤ 16 → obeys (problemOf n d domains tables) (subproblemOf n slot) ≡ true
+      → every n (markObeys n (tableOf n d tables) (subproblemOf n slot)) ≡ true
+  unfolding obeys
+  slot-known q small x =
+      let most = and-left (every n whole && every n (λ i. every n (valuesAgree (problemOf n d domains tables) (subproblemOf n slot) i))) _ x in
+      let all = and-left (every n whole) _ most in
+      let none : joined (length domains) (wrongIn domains slot) ≡ 0 =
+      eqb-true _ 0 (joined-zero (length domains) (wrongIn domains slot) ∙ every-all (λ i. eqb (wrongIn domains slot i) 0) (length domains) (λ i l.
+      and-left (eqb (wrongIn domains slot i) 0) (eqb (bit (subproblemOf n slot .marked) i) 0 || eqb (size (domain (subproblemOf n slot) i)) 1) (sym (slot-parts i (omega arith)) ∙ every-at whole n i (omega arith) all))) in
+      slot-all _ (problem-parts (problemOf n d domains tables) q .0) small refl none ∙ most
+    where
+      whole : ℕ → Bool
+      whole = domainObeys (problemOf n d domains tables) (subproblemOf n slot)
 
 -- ---- the marks of a slot
 

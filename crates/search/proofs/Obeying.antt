@@ -9,13 +9,10 @@ use native.Mathlib.Nat.{mul-le-mul}
 use lib.Arith.{digits-lt}
 use lib.Dec.{eqb}
 use borrow.Author.Tests.{eq-eqb, ne-eqb}
-use Rattle.splits.specs.Masks.{bit, lowest}
-use Rattle.splits.specs.Problem.{Table, tableOf}
-use Rattle.splits.specs.Subproblems.{domain}
+use Rattle.splits.specs.Masks.{bit}
+use Rattle.splits.specs.Problem.{Table}
 use Rattle.splits.specs.Ranges.{Sized}
 use Rattle.splits.specs.declared.subproblem.Subproblem.{Subproblem}
-use Rattle.splits.proofs.Masks.{bit-none}
-use Rattle.splits.proofs.Ranges.{word-none}
 use Rattle.splits.proofs.Refusals.{lacks}
 use Rattle.search.specs.Work.FirstTests.{pairAllowed, pairAgrees}
 
@@ -43,11 +40,6 @@ module _ (allowed : Table) (P : Subproblem) (i j : ℕ) where
   unfolding pairAgrees
   agrees-both r marked e h k f q = simp (ne-eqb i j f, is-marked P marked i e h, is-marked P marked j e k) q
 
--- their lowest values, of what is read
-pub allowed-read : (allowed : Table) (P : Subproblem) (i j : ℕ) (r : Bool) (s t a v : ℕ) → s ≡ domain P i → a ≡ lowest s → t ≡ domain P j → v ≡ lowest t
-    → r ≡ eqb (bit (allowed i j a) v) 1 → r ≡ pairAllowed allowed P i j
-allowed-read allowed P i j r s t a v es ea et ev h = rw (ea, es, ev, et) at h
-
 -- what is worked out on the way to a mask is small
 pub record Row (n d i j : ℕ) : Type 0 where
   pub row : i * n ≤ 1024
@@ -62,7 +54,3 @@ in-row n d i j t s h k =
     let le : i * n + j ≤ 1024 = omega arith in
     let most : (i * n + j) * d ≤ 1024 * 16 = mul-le-mul le (s .small) in
     record { row = omega arith; pair = le; masks = most }
-
--- beside what is none of the d values nothing is allowed
-pub allowed-out : (n d : ℕ) (t : List ℕ) (i j a v : ℕ) → d ≤ a → false ≡ eqb (bit (tableOf n d t i j a) v) 1
-allowed-out n d t i j a v h = rw (word-none n d t i j a h, bit-none v)

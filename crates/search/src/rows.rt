@@ -3,7 +3,7 @@ ghost use mathlib.Core.Path.{_≡_};
 ghost use Rattle.splits.specs.Problem.{tableOf};
 ghost use Rattle.splits.specs.Ranges.{Sized, Place, Inside};
 ghost use Rattle.splits.specs.Splits.{RowOf};
-ghost use Rattle.search.specs.Work.Lanes.{Rows};
+ghost use Rattle.search.specs.Work.Lanes.{Rows, LastRows};
 
 // The mask of the values of `j` allowed beside value `a` of `i`; all bits where `j` is `i`, whose place is not read.
 pub(crate) fn allowed(n: usize, d: usize, tables: &[u16], i: usize, j: usize, a: usize) -> u16
@@ -48,4 +48,22 @@ pub(crate) fn row(
         rows[at] = made(n, d, tables, variable, value);
     }
     rows[at]
+}
+
+// The same out of rows of which each is the one last asked for of its variable.
+pub(crate) fn last_row(
+    n: usize,
+    d: usize,
+    tables: &[u16],
+    rows: &mut [[u16; 32]],
+    variable: usize,
+    value: usize,
+) -> [u16; 32]
+    requires { ⌜ Inside n d (now tables) variable value × LastRows n d (now tables) (now rows) ⌝ }
+    ensures { λ r. ⌜ RowOf n (tableOf n d (now (tables .entry))) variable value r × LastRows n d (now (tables .entry)) (now (rows .exit)) ⌝ }
+{
+    if rows[variable][variable] != 1 << value {
+        rows[variable] = made(n, d, tables, variable, value);
+    }
+    rows[variable]
 }

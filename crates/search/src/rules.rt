@@ -1,5 +1,6 @@
 // The rules for the subproblems in slots, the first check that 6 is about, on the words as they lie there.
 use crate::agenda;
+use crate::lanes;
 use crate::rows;
 use splits::mask;
 ghost use mathlib.Core.Path.{_≡_};
@@ -8,11 +9,11 @@ ghost use lib.ListN.{length};
 ghost use Rattle.splits.specs.Masks.{bit};
 ghost use Rattle.splits.specs.Problem.{tableOf};
 ghost use Rattle.splits.specs.Subproblems.{every};
-ghost use Rattle.splits.specs.Ranges.{Sized};
 ghost use Rattle.search.specs.Agenda.{problemOf, subproblemOf, stackOf};
 ghost use Rattle.search.specs.FirstChecks.{obeys, allObey};
-ghost use Rattle.search.specs.Work.FirstTests.{Mirrored, SlotFits, Next, joined, partWrong, wrongIn, pairAllowed, beforeAgrees, markObeys, TellsSame, TellsBelow, MarksKnown};
+ghost use Rattle.search.specs.Work.FirstTests.{Mirrored, SlotFits, Next, joined, partWrong, wrongIn, Held, missingIn, markObeys, TellsSame, TellsBelow, MarksKnown};
 ghost use Rattle.search.specs.Work.Slots.{SlotIn};
+ghost use Rattle.search.specs.Work.Lanes.{LastRows};
 
 // What is wrong with a domain beside the problem's: that it is empty, or values that the problem's has not; 0 for nothing.
 fn part_wrong(whole: u16, domain: u16) -> u16
@@ -57,52 +58,67 @@ fn next_in(set: u32, from: usize) -> usize
     from + u64::trailing_zeros((set as u64) >> from) as usize
 }
 
-// Whether the lowest values of two variables are allowed: those that they have where both are instantiated.
-fn pair_allowed(slot: &[u16], n: usize, d: usize, tables: &[u16], i: usize, j: usize) -> bool
-    requires { ⌜ Sized n d (now tables) × ((length (now slot) ≡ n + 2) × ((i < n) × (j < i))) ⌝ }
-    ensures { λ r. ⌜ r ≡ pairAllowed (tableOf n d (now (tables .entry))) (subproblemOf n (now (slot .entry))) i j ⌝ }
+// The domains of a slot's instantiated variables, nothing for the others.
+fn held_of(slot: &[u16], marked: u32, n: usize) -> [u16; 32]
+    requires { ⌜ (n ≤ 32) × ((length (now slot) ≡ n + 2) × (marked ≡ subproblemOf n (now slot) .marked)) ⌝ }
+    ensures { λ r. ⌜ Held n (subproblemOf n (now (slot .entry))) r ⌝ }
 {
-    let a = mask::lowest(slot[i]);
-    if d <= a {
-        return false;
+    let mut held = [0u16; 32];
+    let mut i = next_in(marked, 0);
+    while i < n {
+        held[i] = slot[i];
+        i = next_in(marked, i + 1);
     }
-    mask::has(rows::allowed(n, d, tables, i, j, a), mask::lowest(slot[j]))
+    held
 }
 
-// Whether the value of the instantiated variable `i` agrees with every one's before it that is instantiated: so each two are looked at once.
-fn row_agrees(slot: &[u16], marked: u32, n: usize, d: usize, tables: &[u16], i: usize) -> bool
-    requires { ⌜ SlotFits n d (now tables) (now slot) marked × ((i < n) × (bit marked i ≡ 1)) ⌝ }
-    ensures { λ r. ⌜ r ≡ beforeAgrees (tableOf n d (now (tables .entry))) (subproblemOf n (now (slot .entry))) i ⌝ }
+// What of them is outside a row, together; 0 for nothing.
+fn missing(held: [u16; 32], row: [u16; 32]) -> u16
+    ensures { λ r. ⌜ r ≡ joined 32 (missingIn held row) ⌝ }
 {
-    let mut j = next_in(marked, 0);
-    while j < i {
-        if !pair_allowed(slot, n, d, tables, i, j) {
-            return false;
-        }
-        j = next_in(marked, j + 1);
+    let mut wrong: u16 = 0;
+    let mut j = 0;
+    while j < 32 {
+        wrong = wrong | lanes::outside(held[j], row[j]);
+        j += 1;
     }
-    true
+    wrong
 }
 
-// Whether an instantiated variable has one value, and one that agrees with those before it.
-fn mark_obeys(slot: &[u16], marked: u32, n: usize, d: usize, tables: &[u16], i: usize) -> bool
-    requires { ⌜ SlotFits n d (now tables) (now slot) marked × ((i < n) × (bit marked i ≡ 1)) ⌝ }
-    ensures { λ r. ⌜ r ≡ markObeys (tableOf n d (now (tables .entry))) (subproblemOf n (now (slot .entry))) i ⌝ }
+// Whether the instantiated variable `i` has one value, and every other instantiated one what is allowed beside it.
+fn mark_obeys(
+    slot: &[u16],
+    marked: u32,
+    held: [u16; 32],
+    n: usize,
+    d: usize,
+    tables: &[u16],
+    rows: &mut [[u16; 32]],
+    i: usize,
+) -> bool
+    requires { ⌜ SlotFits n d (now tables) (now slot) marked × ((Held n (subproblemOf n (now slot)) held × LastRows n d (now tables) (now rows)) × ((i < n) × (bit marked i ≡ 1))) ⌝ }
+    ensures { λ r. ⌜ (r ≡ markObeys n (tableOf n d (now (tables .entry))) (subproblemOf n (now (slot .entry))) i) × LastRows n d (now (tables .entry)) (now (rows .exit)) ⌝ }
 {
-    if mask::count(slot[i]) != 1 {
-        return false;
-    }
-    row_agrees(slot, marked, n, d, tables, i)
+    let row = rows::last_row(n, d, tables, rows, i, mask::lowest(slot[i]));
+    missing(held, row) == 0
 }
 
 // Whether every instantiated variable does.
-fn marks_obey(slot: &[u16], marked: u32, n: usize, d: usize, tables: &[u16]) -> bool
-    requires { ⌜ SlotFits n d (now tables) (now slot) marked ⌝ }
-    ensures { λ r. ⌜ r ≡ every n (markObeys (tableOf n d (now (tables .entry))) (subproblemOf n (now (slot .entry)))) ⌝ }
+fn marks_obey(
+    slot: &[u16],
+    marked: u32,
+    n: usize,
+    d: usize,
+    tables: &[u16],
+    rows: &mut [[u16; 32]],
+) -> bool
+    requires { ⌜ SlotFits n d (now tables) (now slot) marked × LastRows n d (now tables) (now rows) ⌝ }
+    ensures { λ r. ⌜ (r ≡ every n (markObeys n (tableOf n d (now (tables .entry))) (subproblemOf n (now (slot .entry))))) × LastRows n d (now (tables .entry)) (now (rows .exit)) ⌝ }
 {
+    let held = held_of(slot, marked, n);
     let mut i = next_in(marked, 0);
     while i < n {
-        if !mark_obeys(slot, marked, n, d, tables, i) {
+        if !mark_obeys(slot, marked, held, n, d, tables, rows, i) {
             return false;
         }
         i = next_in(marked, i + 1);
@@ -145,9 +161,17 @@ fn as_below(n: usize, agenda: &[u16], k: usize) -> bool
 }
 
 // Whether the subproblem in the words of a slot obeys the rules; `known`: its instantiated variables do.
-fn obeys(slot: &[u16], n: usize, d: usize, domains: &[u16], tables: &[u16], known: bool) -> bool
-    requires { ⌜ Mirrored n d (now domains) (now tables) × ((length (now slot) ≡ n + 2) × MarksKnown n d (now tables) (now slot) known) ⌝ }
-    ensures { λ r. ⌜ r ≡ obeys (problemOf n d (now (domains .entry)) (now (tables .entry))) (subproblemOf n (now (slot .entry))) ⌝ }
+fn obeys(
+    slot: &[u16],
+    n: usize,
+    d: usize,
+    domains: &[u16],
+    tables: &[u16],
+    rows: &mut [[u16; 32]],
+    known: bool,
+) -> bool
+    requires { ⌜ Mirrored n d (now domains) (now tables) × ((length (now slot) ≡ n + 2) × (MarksKnown n d (now tables) (now slot) known × LastRows n d (now tables) (now rows))) ⌝ }
+    ensures { λ r. ⌜ (r ≡ obeys (problemOf n d (now (domains .entry)) (now (tables .entry))) (subproblemOf n (now (slot .entry)))) × LastRows n d (now (tables .entry)) (now (rows .exit)) ⌝ }
 {
     let marked = agenda::marked_at(slot, n);
     if (1 << n) <= (marked as u64) {
@@ -159,7 +183,7 @@ fn obeys(slot: &[u16], n: usize, d: usize, domains: &[u16], tables: &[u16], know
     if known {
         return true;
     }
-    marks_obey(slot, marked, n, d, tables)
+    marks_obey(slot, marked, n, d, tables, rows)
 }
 
 // Whether the subproblems in the first `count` slots do. Values that are those of the slot below are not looked at again.
@@ -174,12 +198,14 @@ pub(crate) fn all_obey(
     requires { ⌜ Mirrored n d (now domains) (now tables) × (count * (n + 2) ≤ length (now agenda)) ⌝ }
     ensures { λ r. ⌜ r ≡ allObey (problemOf n d (now (domains .entry)) (now (tables .entry))) (stackOf n (now (agenda .entry)) count) ⌝ }
 {
+    let none = [0u16; 32];
+    let mut rows = [none; 32];
     let mut k = 0;
     while k < count {
         let known = as_below(n, agenda, k);
         let at = k * (n + 2);
         let end = at + (n + 2);
-        if !obeys(&agenda[at..end], n, d, domains, tables, known) {
+        if !obeys(&agenda[at..end], n, d, domains, tables, &mut rows, known) {
             return false;
         }
         k += 1;

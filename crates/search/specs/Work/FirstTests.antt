@@ -1,12 +1,12 @@
 -- The first checks level by level, as the loops of the code take them, and what the words lent must be for a level to read them.
 use mathlib.Core.Path.{_≡_}
-use mathlib.Core.Bool.{Bool, true, cond, _&&_, _||_}
+use mathlib.Core.Bool.{Bool, true, cond, _||_}
 use mathlib.Core.List.{List}
 use Prim.Native.Nat.{ℕ, zero, suc, _+_, _-_, _^_, _≤_, _<_}
 use lib.Bits.{bitOr}
 use lib.ListN.{length, getD}
 use lib.Dec.{eqb, ltb}
-use Rattle.splits.specs.Masks.{bit, minus, size, lowest}
+use Rattle.splits.specs.Masks.{bit, single, minus, lowest}
 use Rattle.splits.specs.Problem.{Problem, Table, tableOf}
 use Rattle.splits.specs.Subproblems.{domain, every}
 use Rattle.splits.specs.Ranges.{Sized}
@@ -71,8 +71,7 @@ padded d row a = cond (ltb a d) (row a) 0
 unfoldable pub oneWay : ℕ → Table → ℕ → ℕ → ℕ
 oneWay d allowed i j = difference (columns (matrixOf (padded d (allowed i j)))) (matrixOf (padded d (allowed j i)))
 
--- 6: what is wrong with a domain beside the problem's, and with each of a slot's; the values of two variables, if both are instantiated, of one
--- with those before it, and what an instantiated variable must be.
+-- 6: what is wrong with a domain beside the problem's, and with each of a slot's; the values of two variables, if both are instantiated.
 unfoldable pub partWrong : ℕ → ℕ → ℕ
 partWrong whole m = cond (eqb m 0) 1 (minus m whole)
 
@@ -85,11 +84,25 @@ pairAllowed allowed P i j = eqb (bit (allowed i j (lowest (domain P i))) (lowest
 unfoldable pub pairAgrees : Table → Subproblem → ℕ → ℕ → Bool
 pairAgrees allowed P i j = eqb i j || eqb (bit (P .marked) i) 0 || eqb (bit (P .marked) j) 0 || pairAllowed allowed P i j
 
-unfoldable pub beforeAgrees : Table → Subproblem → ℕ → Bool
-beforeAgrees allowed P i = every i (pairAgrees allowed P i)
+-- The domains of the instantiated variables alone; what is allowed beside the lowest value of i, and for i itself that value alone; an
+-- instantiated variable holds this, and so does every other beside it.
+unfoldable pub heldAt : Subproblem → ℕ → ℕ
+heldAt P j = cond (eqb (bit (P .marked) j) 1) (domain P j) 0
 
-unfoldable pub markObeys : Table → Subproblem → ℕ → Bool
-markObeys allowed P i = (eqb (bit (P .marked) i) 0 || eqb (size (domain P i)) 1) && beforeAgrees allowed P i
+unfoldable pub besideAt : Table → Subproblem → ℕ → ℕ → ℕ
+besideAt allowed P i j = cond (eqb j i) (single (lowest (domain P i))) (allowed i j (lowest (domain P i)))
+
+unfoldable pub markObeys : ℕ → Table → Subproblem → ℕ → Bool
+markObeys n allowed P i = eqb (bit (P .marked) i) 0 || every n (λ j. eqb (minus (heldAt P j) (besideAt allowed P i j)) 0)
+
+-- Those domains of a subproblem in 32 masks; what of some masks is outside their own of a row.
+pub record Held (n : ℕ) (P : Subproblem) (masks : List ℕ) : Type 0 where
+  pub long : length masks ≡ 32
+  pub each : (j : ℕ) → j < n → getD masks j 0 ≡ heldAt P j
+  pub past : (j : ℕ) → n ≤ j → getD masks j 0 ≡ 0
+
+unfoldable pub missingIn : List ℕ → List ℕ → ℕ → ℕ
+missingIn held row j = minus (getD held j 0) (getD row j 0)
 
 -- The first variable of a set from one on, or past all 32: none between is in the set.
 pub record Next (set from next : ℕ) : Type 0 where
@@ -102,6 +115,7 @@ pub record SlotFits (n d : ℕ) (tables slot : List ℕ) (marked : ℕ) : Type 0
   pub sized : Sized n d tables
   pub words : length slot ≡ n + 2
   pub marks : marked ≡ subproblemOf n slot .marked
+  pub values : (i : ℕ) → i < n → lowest (getD slot i 0) < d
 
 -- Two slots have the same variables instantiated, and these the same domains; slot k and the one below it do.
 pub record SameMarks (n : ℕ) (slot other : List ℕ) : Type 0 where
@@ -120,7 +134,7 @@ TellsBelow n agenda k r = r ≡ true → AsBelow n agenda k
 
 -- What is known of a slot's instantiated variables is so.
 abbrev pub MarksKnown : ℕ → ℕ → List ℕ → List ℕ → Bool → Type 0
-MarksKnown n d tables slot known = known ≡ true → every n (markObeys (tableOf n d tables) (subproblemOf n slot)) ≡ true
+MarksKnown n d tables slot known = known ≡ true → every n (markObeys n (tableOf n d tables) (subproblemOf n slot)) ≡ true
 
 -- The subproblem in slot k obeys the rules.
 unfoldable pub slotObeys : Problem → ℕ → List ℕ → ℕ → Bool

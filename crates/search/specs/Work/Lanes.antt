@@ -84,3 +84,8 @@ pub record Rows (n d : ℕ) (tables : List ℕ) (rows : List (List ℕ)) : Type 
   pub long : length rows ≡ 512
   pub each : (V′ v : ℕ) → V′ < n → v < d
       → (getD (getD rows (V′ * 16 + v) []) V′ 0 ≡ 0) ⊎ RowOf n (tableOf n d tables) V′ v (getD rows (V′ * 16 + v) [])
+
+-- Rows kept, one for each of 32 variables: that of one of its values, or nothing for its variable yet.
+pub record LastRows (n d : ℕ) (tables : List ℕ) (rows : List (List ℕ)) : Type 0 where
+  pub long : length rows ≡ 32
+  pub each : (V′ : ℕ) → V′ < n → (getD (getD rows V′ []) V′ 0 ≡ 0) ⊎ ((v : ℕ) × RowOf n (tableOf n d tables) V′ v (getD rows V′ []))

@@ -11,19 +11,21 @@ use Rattle.search.proofs.Copies.{slot-below}
 use Rattle.search.proofs.Encoding.{slot-read}
 use Rattle.search.proofs.FirstLoops.{every-start, every-stop, every-turn, every-end}
 use Rattle.search.proofs.FirstParts.{all-slots, slot-obeys}
+use Rattle.search.specs.Work.Lanes.{LastRows}
+use Rattle.search.proofs.Beside.{last-none}
 use Rattle.search.proofs.Alike.{marks-known}
 use borrow.Author.Needs.{needs}
 use Rattle.search.proofs.rules.all_obey.Statement.{statement}
 use Rattle.search.proofs.rules.all_obey.Tie as tie
 
 abbrev Inv-loop : tie.InvT-loop
-Inv-loop n d domains tables agenda count k₀ k = (k ≤ count) × (every k (slotObeys (problemOf n d domains tables) n agenda) ≡ true)
+Inv-loop n d domains tables agenda count rows₀ k₀ rows k = (k ≤ count) × ((every k (slotObeys (problemOf n d domains tables) n agenda) ≡ true) × LastRows n d tables rows)
 
 abbrev μ-loop : tie.MeasureT-loop
-μ-loop n d domains tables agenda count k₀ k = count - k
+μ-loop n d domains tables agenda count rows₀ k₀ rows k = count - k
 
 loop-holds : tie.Need-loop-holds Inv-loop μ-loop
-loop-holds c = (search needs, every-start _)
+loop-holds c = (omega arith, (every-start _, last-none _ _ _ (c .before .before .before .pre .0 .fitting .sized .few)))
 
 as-below-requires : tie.Need-as-below-requires Inv-loop μ-loop
 as-below-requires c κs = slot-below _ _ _ _ (c .before .before .before .before .before .pre .0 .fitting .sized .few) (c .loop-test .taken) (c .before .before .before .before .before .pre .1)
@@ -52,11 +54,14 @@ part-obeys-start c = omega (arith, slot-below _ _ _ _ (c .before .before .before
 part-obeys-end : tie.Need-part-obeys-end Inv-loop μ-loop
 part-obeys-end c = omega (arith, slot-below _ _ _ _ (c .before .before .before .before .before .before .pre .0 .fitting .sized .few) (c .before .loop-test .taken) (c .before .before .before .before .before .before .pre .1))
 
+slice-aggregate-obeys : tie.Need-slice-aggregate-obeys Inv-loop μ-loop
+slice-aggregate-obeys c = omega arith
+
 obeys-requires : tie.Need-obeys-requires Inv-loop μ-loop
-obeys-requires c κs = (c .before .before .before .before .before .before .before .pre .0, (search needs, marks-known _ _ _ _ (c .before .before .before .before .before .before .before .args .domains .now) _ _ (c .before .before .before .loop .inv .1) (c .before .as-below .ensures)))
+obeys-requires c κs = let p = c .before .before .before .before .before .before .before .before .pre in let inv = c .before .before .before .before .loop .inv .1 in (p .0, (search needs, (marks-known _ _ _ _ (c .before .before .before .before .before .before .before .before .args .domains .now) _ _ (p .0) (slot-below _ _ _ _ (c .before .before .before .before .before .before .before .before .pre .0 .fitting .sized .few) (c .before .before .before .loop-test .taken) (c .before .before .before .before .before .before .before .before .pre .1)) (inv .0) (c .before .before .as-below .ensures), inv .1)))
 
 returns : tie.Need-returns Inv-loop μ-loop
-returns c = every-stop _ _ _ _ (c .before .before .before .before .loop-test .taken) (slot-obeys _ _ _ _ _ _ (slot-read _ _ _ _ refl) (c .before .obeys .ensures)) (c .if1 .taken) ∙ all-slots _ _ _ _
+returns c = every-stop _ _ _ _ (c .before .before .before .before .before .before .loop-test .taken) (slot-obeys _ _ _ _ _ _ (slot-read _ _ _ _ refl) (c .before .before .obeys .ensures .0)) (c .if1 .taken) ∙ all-slots _ _ _ _
 
 add-k : tie.Need-add-k Inv-loop μ-loop
 add-k c = search needs
@@ -65,10 +70,10 @@ loop-less : tie.Need-loop-less Inv-loop μ-loop
 loop-less c = search needs
 
 loop-again : tie.Need-loop-again Inv-loop μ-loop
-loop-again c = (omega arith, every-turn _ _ _ (c .before .before .before .before .before .loop .inv .1) (slot-obeys _ _ _ _ _ _ (slot-read _ _ _ _ refl) (c .before .obeys .ensures)) (c .if1 .left))
+loop-again c = (omega arith, (every-turn _ _ _ (c .before .before .before .before .before .before .before .loop .inv .1 .0) (slot-obeys _ _ _ _ _ _ (slot-read _ _ _ _ refl) (c .before .before .obeys .ensures .0)) (c .if1 .left), c .before .before .obeys .ensures .1))
 
 returns-2 : tie.Need-returns-2 Inv-loop μ-loop
-returns-2 c = every-end _ _ _ (c .before .loop .inv .0) (c .loop-test .left) (c .before .loop .inv .1) ∙ all-slots _ _ _ _
+returns-2 c = every-end _ _ _ (c .before .loop .inv .0) (c .loop-test .left) (c .before .loop .inv .1 .0) ∙ all-slots _ _ _ _
 
 pub all-obey-spec : {M : Type 1} → statement M
 all-obey-spec =
@@ -86,6 +91,7 @@ all-obey-spec =
     sub-obeys
     part-obeys-start
     part-obeys-end
+    slice-aggregate-obeys
     obeys-requires
     returns
     add-k

@@ -1,36 +1,39 @@
--- `rules::mark_obeys` meets its contract: the value, then that of every one before it.
+-- `rules::mark_obeys` meets its contract.
 -- Assumes nothing.
-use native.Mathlib.Omega.{arith}
-use Rattle.search.proofs.Marked.{slot-domain, mark-more, mark-single}
+use Rattle.search.proofs.Marked.{mark-read}
 use borrow.Author.Needs.{needs}
 use Rattle.search.proofs.rules.mark_obeys.Statement.{statement}
 use Rattle.search.proofs.rules.mark_obeys.Tie as tie
 
-mul-count : tie.Need-mul-count
-mul-count c = search needs
+mul-lowest : tie.Need-mul-lowest
+mul-lowest c = search needs
 
-shared-slice-read-count : tie.Need-shared-slice-read-count
-shared-slice-read-count c = search needs
+shared-slice-read-lowest : tie.Need-shared-slice-read-lowest
+shared-slice-read-lowest c = search needs
 
-count-requires : tie.Need-count-requires
-count-requires c κs = search needs
+lowest-requires : tie.Need-lowest-requires
+lowest-requires c κs = search needs
+
+last-row-requires : tie.Need-last-row-requires
+last-row-requires c κs = let p = c .before .before .before .before .before .pre in (record { fit = p .0 .sized; a-variable = p .1 .1 .0; a-value = rw (c .lowest .ensures) (p .0 .values _ (p .1 .1 .0)) }, p .1 .0 .1)
+
+missing-requires : tie.Need-missing-requires
+missing-requires c κs = search needs
+
+same-length : tie.Need-same-length
+same-length c = let whole = c .before .before .before .before .before .before .before .before .pre .1 .0 .1 .long in let long = c .before .before .last-row .ensures .1 .long in search needs
 
 returns : tie.Need-returns
-returns c = let p = c .before .before .before .before .before .pre in mark-more _ _ _ _ _ _ (p .0 .marks) (p .1 .1) (slot-domain _ _ _ (omega (arith, p .0 .words)) (p .1 .0)) (c .before .count .ensures) (c .if1 .taken)
-
-row-agrees-requires : tie.Need-row-agrees-requires
-row-agrees-requires c κs = c .before .before .before .before .before .pre
-
-returns-2 : tie.Need-returns-2
-returns-2 c = let p = c .before .before .before .before .before .before .pre in mark-single _ _ _ _ _ _ _ (p .0 .marks) (p .1 .1) (slot-domain _ _ _ (omega (arith, p .0 .words)) (p .1 .0)) (c .before .before .count .ensures) (c .before .if1 .left) (c .row-agrees .ensures)
+returns c = let p = c .before .before .before .before .before .before .before .before .pre in (mark-read _ _ _ _ _ _ _ _ _ _ (p .0) (p .1 .1 .0) (p .1 .1 .1) (p .1 .0 .0) (c .before .before .before .lowest .ensures) (c .before .before .last-row .ensures .0) (c .missing .ensures), c .before .before .last-row .ensures .1)
 
 pub mark-obeys-spec : {M : Type 1} → statement M
 mark-obeys-spec =
     tie.close
     (tie.spec
-    mul-count
-    shared-slice-read-count
-    count-requires
-    returns
-    row-agrees-requires
-    returns-2)
+    mul-lowest
+    shared-slice-read-lowest
+    lowest-requires
+    last-row-requires
+    missing-requires
+    same-length
+    returns)

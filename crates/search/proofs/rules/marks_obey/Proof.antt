@@ -9,6 +9,7 @@ use Rattle.splits.specs.Problem.{tableOf}
 use Rattle.splits.specs.Subproblems.{every}
 use Rattle.search.specs.Agenda.{subproblemOf}
 use Rattle.search.specs.Work.FirstTests.{markObeys}
+use Rattle.search.specs.Work.Lanes.{LastRows}
 use Rattle.search.proofs.FirstLoops.{every-start, every-stop, every-turn}
 use Rattle.search.proofs.Marked.{every-past, marks-next}
 use borrow.Author.Needs.{needs}
@@ -16,22 +17,28 @@ use Rattle.search.proofs.rules.marks_obey.Statement.{statement}
 use Rattle.search.proofs.rules.marks_obey.Tie as tie
 
 abbrev Inv-loop : tie.InvT-loop
-Inv-loop slot marked n d tables i₀ i = (every i (markObeys (tableOf n d tables) (subproblemOf n slot)) ≡ true) × (i < 32 → bit marked i ≡ 1)
+Inv-loop slot marked n d tables rows₀ held i₀ rows i = (every i (markObeys n (tableOf n d tables) (subproblemOf n slot)) ≡ true) × ((i < 32 → bit marked i ≡ 1) × LastRows n d tables rows)
 
 abbrev μ-loop : tie.MeasureT-loop
-μ-loop slot marked n d tables i₀ i = n - i
+μ-loop slot marked n d tables rows₀ held i₀ rows i = n - i
+
+held-of-requires : tie.Need-held-of-requires Inv-loop μ-loop
+held-of-requires c κs = let p = c .before .before .pre .0 in (p .sized .few, (p .words, p .marks))
 
 next-in-requires : tie.Need-next-in-requires Inv-loop μ-loop
 next-in-requires c κs = search needs
 
 loop-holds : tie.Need-loop-holds Inv-loop μ-loop
-loop-holds c = (marks-next _ _ _ _ _ (c .before .before .before .pre .marks) (every-start _) (c .next-in .ensures), c .next-in .ensures .there)
+loop-holds c = let p = c .before .before .before .before .pre in (marks-next _ _ _ _ _ _ (p .0 .marks) (every-start _) (c .next-in .ensures), (c .next-in .ensures .there, p .1))
 
 mark-obeys-requires : tie.Need-mark-obeys-requires Inv-loop μ-loop
-mark-obeys-requires c κs = let p = c .before .before .before .before .before .pre in (p, (c .loop-test .taken, c .before .loop .inv .1 (omega (arith, p .sized .few))))
+mark-obeys-requires c κs = let p = c .before .before .before .before .before .before .before .pre in let inv = c .before .before .loop .inv in (p .0, ((c .before .before .before .before .held-of .ensures, inv .1 .1), (c .before .loop-test .taken, inv .1 .0 (omega (arith, p .0 .sized .few)))))
+
+same-length : tie.Need-same-length Inv-loop μ-loop
+same-length c = let whole = c .before .before .before .before .before .before .before .before .before .before .pre .1 .long in let long = c .before .before .mark-obeys .ensures .1 .long in search needs
 
 returns : tie.Need-returns Inv-loop μ-loop
-returns c = every-stop _ _ _ _ (c .before .before .loop-test .taken) (c .before .mark-obeys .ensures) (c .if1 .taken)
+returns c = (every-stop _ _ _ _ (c .before .before .before .before .loop-test .taken) (c .before .before .mark-obeys .ensures .0) (c .if1 .taken), c .before .before .mark-obeys .ensures .1)
 
 add-next-in : tie.Need-add-next-in Inv-loop μ-loop
 add-next-in c = search needs
@@ -43,10 +50,13 @@ loop-less : tie.Need-loop-less Inv-loop μ-loop
 loop-less c = omega (arith, c .next-in2 .ensures .up)
 
 loop-again : tie.Need-loop-again Inv-loop μ-loop
-loop-again c = (marks-next _ _ _ _ _ (c .before .before .before .before .before .before .before .before .pre .marks) (every-turn _ _ _ (c .before .before .before .before .loop .inv .0) (c .before .before .mark-obeys .ensures) (c .before .if1 .left)) (c .next-in2 .ensures), c .next-in2 .ensures .there)
+loop-again c = let p = c .before .before .before .before .before .before .before .before .before .before .before .pre in let inv = c .before .before .before .before .before .before .loop .inv in (marks-next _ _ _ _ _ _ (p .0 .marks) (every-turn _ _ _ (inv .0) (c .before .before .before .mark-obeys .ensures .0) (c .before .if1 .left)) (c .next-in2 .ensures), (c .next-in2 .ensures .there, c .before .before .before .mark-obeys .ensures .1))
+
+same-length-2 : tie.Need-same-length-2 Inv-loop μ-loop
+same-length-2 c = let whole = c .before .before .before .before .before .before .pre .1 .long in let long = c .before .loop .inv .1 .1 .long in search needs
 
 returns-2 : tie.Need-returns-2 Inv-loop μ-loop
-returns-2 c = every-past _ _ _ (c .loop-test .left) (c .before .loop .inv .0)
+returns-2 c = (every-past _ _ _ (c .loop-test .left) (c .before .loop .inv .0), c .before .loop .inv .1 .1)
 
 pub marks-obey-spec : {M : Type 1} → statement M
 marks-obey-spec =
@@ -54,12 +64,15 @@ marks-obey-spec =
     (tie.spec
     Inv-loop
     μ-loop
+    held-of-requires
     next-in-requires
     loop-holds
     mark-obeys-requires
+    same-length
     returns
     add-next-in
     next-in-requires-2
     loop-less
     loop-again
+    same-length-2
     returns-2)

@@ -1,8 +1,8 @@
 -- `rules::same_marks` meets its contract. The invariant: the marked variables before the next one have the same words.
 -- Assumes nothing.
 use mathlib.Core.Bool.{true≢false}
-use mathlib.Core.Path.{_≡_, sym}
-use Prim.Native.Nat.{_-_, _≤_}
+use mathlib.Core.Path.{sym}
+use Prim.Native.Nat.{_-_}
 use native.Mathlib.Omega.{arith}
 use Rattle.search.proofs.Alike.{AlikeTo, alike-start, alike-next, alike-end}
 use borrow.Author.Needs.{needs}
