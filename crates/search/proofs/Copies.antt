@@ -1,13 +1,13 @@
 -- Memory that a loop writes from the front, and memory of which a part is written anew.
 -- Assumes nothing.
 use mathlib.Core.Path.{_≡_, refl, sym, ap, _∙_}
-use mathlib.Core.List.{List, [], _∷_, _++_, append-assoc, append-nil}
+use mathlib.Core.List.{List, _++_, append-assoc, append-nil}
 use Prim.Native.Nat.{ℕ, zero, suc, _+_, _-_, _*_, _≤_, _<_}
 use native.Mathlib.Omega.{arith}
-use native.Mathlib.Nat.{zero-add, suc-add, zero-mul, mul-le-mul-left, mul-le-mul-right}
+use native.Mathlib.Nat.{zero-mul, mul-le-mul-left, mul-le-mul-right}
 use native.Mathlib.Numerals.{add-one}
-use lib.ListN.{length, getD, take, drop, set, replicate, length-set, length-append, length-take, length-drop, length-replicate, take-append-drop, replicate-append-replicate}
-use lib.Seq.{length-take-le, take-suc, drop-cons, append-snoc, set-append-left, set-at, take-at, drop-at, drop-drop, drop-length}
+use lib.ListN.{length, getD, take, drop, set, replicate, length-append, length-take, length-drop, length-replicate, take-append-drop, replicate-append-replicate}
+use lib.Seq.{length-take-le, take-suc, drop-cons, append-snoc, set-at, take-at, drop-at, drop-drop, drop-length}
 use borrow.Rule.Slice.PartMut.{putMid, midOf, post-is, mid-len}
 use borrow.Author.Fill.{fill-more}
 use Rattle.search.specs.Work.Slots.{splice, SlotIn}
@@ -85,20 +85,6 @@ splice-cover l z ws a h k =
 -- A part written after another was.
 pub splice-twice : (l m r z ws : List ℕ) (a : ℕ) → r ≡ splice m a ws → m ≡ splice l a z → r ≡ splice (splice l a z) a ws
 splice-twice l m r z ws a e s = rw (e, s) refl
-
--- A word of the part written anew.
-set-after : (p q : List ℕ) (j x : ℕ) → set (p ++ q) (length p + j) x ≡ p ++ set q j x
-set-after [] q j x = ap (λ (k : ℕ). set q k x) (zero-add j)
-set-after (y ∷ p) q j x = ap (λ (k : ℕ). set (y ∷ (p ++ q)) k x) (suc-add (length p) j) ∙ ap (λ (t : List ℕ). y ∷ t) (set-after p q j x)
-
-pub splice-set : (l ws : List ℕ) (a j x : ℕ) → a ≤ length l → j < length ws → set (splice l a ws) (a + j) x ≡ splice l a (set ws j x)
-unfolding splice
-splice-set l ws a j x h k =
-    let front : length (take a l) ≡ a = length-take-le a l h in
-    let same : length ws ≡ length (set ws j x) = sym (length-set ws j x) in
-    ap (λ (i : ℕ). set (take a l ++ (ws ++ drop (a + length ws) l)) (i + j) x) (sym front)
-    ∙ set-after (take a l) (ws ++ drop (a + length ws) l) j x
-    ∙ ap (λ (t : List ℕ). take a l ++ t) (set-append-left ws (drop (a + length ws) l) j x k ∙ ap (λ (i : ℕ). set ws j x ++ drop (a + i) l) same)
 
 -- A slot below the last of whole slots lies within them.
 pub slot-below : (n k slots words : ℕ) → n ≤ 32 → k < slots → slots * (n + 2) ≤ words → SlotIn n k words
