@@ -95,20 +95,6 @@ slot-below n k slots words few h fits =
 pub slot-end : (n k words : ℕ) → SlotIn n k words → k + 1 ≤ words
 slot-end n k words s = let one : (k + 1) * 1 ≤ (k + 1) * (n + 2) = mul-le-mul-left (k + 1) (omega arith) in omega (arith, s .within)
 
--- No slot of zeros yet.
-pub clear-none : (d : List ℕ) (w : ℕ) → d ≡ replicate (0 * w) 0 ++ drop (0 * w) d
-clear-none d w = rw zero-mul refl
-
--- A slot more of zeros.
-pub clear-more : (d m : List ℕ) (a w b : ℕ) → m ≡ replicate a 0 ++ drop a d → a + w ≡ b → b ≤ length d
-    → splice m a (replicate w 0) ≡ replicate b 0 ++ drop b d
-clear-more d m a w b e s h =
-    let fits : length {A = ℕ} (replicate w 0) ≡ length (take w (drop a d)) = simp (length-replicate, length-take, length-drop) (omega arith) in
-    let parts : drop a d ≡ take w (drop a d) ++ drop w (drop a d) = sym (take-append-drop w (drop a d)) in
-    rw (e ∙ ap (λ (t : List ℕ). replicate a 0 ++ t) parts) (splice-between (replicate a 0) (take w (drop a d)) (drop w (drop a d)) (replicate w 0) a (length-replicate a 0) fits
-    ∙ sym (append-assoc (replicate a 0) (replicate w 0) (drop w (drop a d)))
-    ∙ rw (replicate-append-replicate, drop-drop, s) refl)
-
 -- What a callee left in a part that was lent to it, as a splice of the whole.
 pub put-part : (l ys ws : List ℕ) (a w : ℕ) → ys ≡ ws → length ws ≡ w → putMid a ((a + w) - a) l ys ≡ splice l a ws
 unfolding splice

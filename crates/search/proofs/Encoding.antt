@@ -8,7 +8,7 @@ use native.Mathlib.Decide.{decLt}
 use native.Mathlib.Nat.{zero-mul}
 use native.Mathlib.Numerals.{add-one}
 use lib.ListN.{length, getD, take, drop, set, replicate, length-append, length-take, length-drop, length-replicate, take-append-drop, drop-of-length-le, getD-replicate, List·getD-eq-default, replicate-append-replicate}
-use lib.Seq.{length-take-le, drop-cons, append-snoc, set-at, take-at, drop-at, getD-at, getD-take, getD-drop, getD-append-add, take-add, ext-getD}
+use lib.Seq.{length-take-le, drop-cons, append-snoc, set-at, take-at, drop-at, getD-at, getD-take, getD-drop, getD-append-add, take-add, ext-getD, take-take}
 use Rattle.splits.specs.declared.subproblem.Subproblem.{Subproblem}
 use Rattle.search.specs.Agenda.{holding, Shape, slotWords, subproblemOf, slotAt, stackOf, stackWords, agendaOf}
 use Rattle.search.specs.Work.Slots.{splice, SlotIn}
@@ -21,12 +21,6 @@ unfolding holding
 holding-made n marked words D i e s =
     let same : D ≡ take n words ++ replicate (32 - n) 0 = e ∙ rw (s, drop-zeros) refl in
     λ t. record { domains = same t; marked = marked }
-
--- The subproblem of a slot's words.
-pub slot-held : (n m : ℕ) (words : List ℕ) (r : Subproblem) → m ≡ getD words n 0 * 65536 + getD words (n + 1) 0 → r ≡ holding n words m
-    → r ≡ subproblemOf n words
-unfolding subproblemOf
-slot-held n m words r s e = e ∙ ap (holding n words) s
 
 -- A slot of a subproblem of nothing is zeros.
 pub slot-none : (n : ℕ) → n ≤ 32 → slotWords n (record { domains = replicate 32 0; marked = 0 }) ≡ replicate (n + 2) 0
@@ -48,6 +42,24 @@ slot-long n k l s = length-take-le (n + 2) (drop (k * (n + 2)) l) (rw length-dro
 pub slot-read : (n k : ℕ) (l : List ℕ) (r : Subproblem) → r ≡ subproblemOf n (take ((k * (n + 2) + (n + 2)) - k * (n + 2)) (drop (k * (n + 2)) l))
     → r ≡ subproblemOf n (slotAt n l k)
 slot-read n k l r e = e ∙ ap (subproblemOf n) (slot-part n k l)
+
+-- The subproblem of slot k: its masks where they lie, its set in the two words after them.
+pub slot-lies : (n k m : ℕ) (agenda words : List ℕ) → take n words ≡ take n (drop (k * (n + 2)) agenda)
+    → m ≡ getD agenda (k * (n + 2) + n) 0 * 65536 + getD agenda (k * (n + 2) + n + 1) 0 → holding n words m ≡ subproblemOf n (slotAt n agenda k)
+unfolding subproblemOf slotAt holding
+slot-lies n k m agenda words e s =
+    let front : take n words ≡ take n (take (n + 2) (drop (k * (n + 2)) agenda)) = e ∙ sym (take-take n (n + 2) (drop (k * (n + 2)) agenda) (omega arith)) in
+    let one : getD (take (n + 2) (drop (k * (n + 2)) agenda)) n 0 ≡ getD agenda (k * (n + 2) + n) 0 =
+    getD-take (n + 2) (drop (k * (n + 2)) agenda) n 0 (omega arith) ∙ getD-drop (k * (n + 2)) agenda n 0 in
+    let two : getD (take (n + 2) (drop (k * (n + 2)) agenda)) (n + 1) 0 ≡ getD agenda (k * (n + 2) + n + 1) 0 =
+    getD-take (n + 2) (drop (k * (n + 2)) agenda) (n + 1) 0 (omega arith) ∙ getD-drop (k * (n + 2)) agenda (n + 1) 0 ∙ (let up : k * (n + 2) + (n + 1) ≡ k * (n + 2) + n + 1 = omega arith in ap (λ (x : ℕ). getD agenda x 0) up) in
+    let marks : m ≡ getD (take (n + 2) (drop (k * (n + 2)) agenda)) n 0 * 65536 + getD (take (n + 2) (drop (k * (n + 2)) agenda)) (n + 1) 0 = s ∙ rw (one, two) refl in
+    λ i. record { domains = front i ++ replicate (32 - n) 0; marked = marks i }
+
+-- The same of words that go on past the slot.
+pub slot-from : (n k m w : ℕ) (agenda : List ℕ) (r : Subproblem) → r ≡ holding n (take w (drop (k * (n + 2)) agenda)) m
+    → m ≡ getD agenda (k * (n + 2) + n) 0 * 65536 + getD agenda (k * (n + 2) + n + 1) 0 → n ≤ w → r ≡ subproblemOf n (slotAt n agenda k)
+slot-from n k m w agenda r e s h = e ∙ slot-lies n k m agenda _ (take-take n w (drop (k * (n + 2)) agenda) h) s
 
 -- A slot has n + 2 words.
 pub length-slot : (n : ℕ) (P : Subproblem) → n ≤ length (P .domains) → length (slotWords n P) ≡ n + 2

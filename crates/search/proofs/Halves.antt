@@ -21,18 +21,16 @@ use Rattle.search.specs.Agenda.{holding, subproblemOf, slotAt}
 use Rattle.search.specs.Work.Slots.{SlotIn}
 use Rattle.search.specs.Work.Lanes.{Half, Beyond, Below, Kept, KeptTo, keyOf, Sides, Share, FurtherTo}
 use Rattle.search.proofs.Copies.{zeros-at}
+use Rattle.search.proofs.Encoding.{slot-lies}
 use Rattle.search.proofs.Joining.{bit-shr}
 use Rattle.search.proofs.Turning.{bit-low}
 use Rattle.search.proofs.Exchanging.{bit-xor}
 
 -- ---- sets
 
--- The halves of a set.
-pub half-low : (set : ℕ) → Half set 0 (set % 65536)
-half-low set i h = bit-low 16 set i h ∙ (let e : i ≡ 0 + i = omega arith in ap (bit set) e)
-
-pub half-high : (set : ℕ) → Half set 16 (set / 65536)
-half-high set i h = bit-shr set 16 i
+-- A half of a set.
+pub half-is : (set from : ℕ) → Half set from (set / 2 ^ from % 65536)
+half-is set from i h = bit-low 16 (set / 2 ^ from) i h ∙ bit-shr set from i
 
 -- A key by its half.
 pub key-in : (set from half m i : ℕ) → Half set from half → i < 16 → (v : ℕ) → v ≡ from + i → (k : ℕ) → k ≡ size m * 32 + v + 1024 * bit half i → k ≡ keyOf m set v
@@ -127,18 +125,10 @@ kept-holding n marked lanes words D few h b k = λ t. record { domains = same t;
 pub slot-lanes : (n k : ℕ) (agenda lanes D : List ℕ) (m : ℕ) → SlotIn n k (length agenda) → k * (n + 2) + 32 ≤ length agenda → Below n lanes
     → KeptTo lanes (take ((k * (n + 2) + 32) - k * (n + 2)) (drop (k * (n + 2)) agenda)) 32 D
     → m ≡ getD agenda (k * (n + 2) + n) 0 * 65536 + getD agenda (k * (n + 2) + n + 1) 0 → record { domains = D; marked = m } ≡ subproblemOf n (slotAt n agenda k)
-unfolding subproblemOf slotAt holding
 slot-lanes n k agenda lanes D m slot fits b kept e =
     let long : (k * (n + 2) + 32) - k * (n + 2) ≡ 32 = omega arith in
     let inside : n ≤ length (take ((k * (n + 2) + 32) - k * (n + 2)) (drop (k * (n + 2)) agenda)) = rw (long, length-take, length-drop) (omega (arith, slot .few)) in
-    let front : take n (take ((k * (n + 2) + 32) - k * (n + 2)) (drop (k * (n + 2)) agenda)) ≡ take n (take (n + 2) (drop (k * (n + 2)) agenda)) =
-    rw long (take-take n 32 (drop (k * (n + 2)) agenda) (slot .few)) ∙ sym (take-take n (n + 2) (drop (k * (n + 2)) agenda) (omega arith)) in
-    let one : getD (take (n + 2) (drop (k * (n + 2)) agenda)) n 0 ≡ getD agenda (k * (n + 2) + n) 0 =
-    getD-take (n + 2) (drop (k * (n + 2)) agenda) n 0 (omega arith) ∙ getD-drop (k * (n + 2)) agenda n 0 in
-    let two : getD (take (n + 2) (drop (k * (n + 2)) agenda)) (n + 1) 0 ≡ getD agenda (k * (n + 2) + n + 1) 0 =
-    getD-take (n + 2) (drop (k * (n + 2)) agenda) (n + 1) 0 (omega arith) ∙ getD-drop (k * (n + 2)) agenda (n + 1) 0 ∙ (let up : k * (n + 2) + (n + 1) ≡ k * (n + 2) + n + 1 = omega arith in ap (λ (x : ℕ). getD agenda x 0) up) in
-    let marks : m ≡ getD (take (n + 2) (drop (k * (n + 2)) agenda)) n 0 * 65536 + getD (take (n + 2) (drop (k * (n + 2)) agenda)) (n + 1) 0 = e ∙ rw (one, two) refl in
-    kept-holding n m lanes _ D (slot .few) inside b kept ∙ (λ i. record { domains = front i ++ replicate (32 - n) 0; marked = marks i })
+    kept-holding n m lanes _ D (slot .few) inside b kept ∙ slot-lies n k m agenda _ (rw long (take-take n 32 (drop (k * (n + 2)) agenda) (slot .few))) e
 
 -- ---- the piece for a variable
 

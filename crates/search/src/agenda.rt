@@ -5,7 +5,7 @@ ghost use mathlib.Core.Path.{_≡_};
 ghost use Prim.Native.Nat.{_+_, _*_, _≤_, _<_};
 ghost use mathlib.Core.List.{_++_};
 ghost use lib.ListN.{length, getD, take, drop, replicate};
-ghost use Rattle.search.specs.Agenda.{holding, slotWords, subproblemOf, slotAt, slotsIn};
+ghost use Rattle.search.specs.Agenda.{holding, slotWords, subproblemOf, slotAt};
 ghost use Rattle.search.specs.Work.Slots.{splice, SlotIn};
 ghost use Rattle.search.specs.Work.Lanes.{Below, KeptTo};
 
@@ -38,22 +38,13 @@ pub(crate) fn marked_at(words: &[u16], at: usize) -> u32
     marked_of(words[at], words[at + 1])
 }
 
-// The subproblem that the words of a slot hold.
-fn subproblem_of(n: usize, slot: &[u16]) -> Subproblem
-    requires { ⌜ (n ≤ 32) × (length (now slot) ≡ n + 2) ⌝ }
-    ensures { λ r. ⌜ r ≡ subproblemOf n (now (slot .entry)) ⌝ }
-{
-    holding(n, slot, marked_at(slot, n))
-}
-
 // The subproblem in slot `k`.
 pub(crate) fn read_slot(n: usize, agenda: &[u16], k: usize) -> Subproblem
     requires { ⌜ SlotIn n k (length (now agenda)) ⌝ }
     ensures { λ r. ⌜ r ≡ subproblemOf n (slotAt n (now (agenda .entry)) k) ⌝ }
 {
     let at = k * (n + 2);
-    let end = at + (n + 2);
-    subproblem_of(n, &agenda[at..end])
+    holding(n, &agenda[at..], marked_at(agenda, at + n))
 }
 
 // The first 32 words, each kept by its own lane.
@@ -143,15 +134,13 @@ pub(crate) fn clear_slot(n: usize, agenda: &mut [u16], k: usize)
     write_slot(n, agenda, k, none);
 }
 
-// Every slot holds zeros.
-pub(crate) fn clear(n: usize, agenda: &mut [u16])
-    requires { ⌜ (n ≤ 32) × (length (now agenda) ≡ slotsIn n (length (now agenda)) * (n + 2)) ⌝ }
+// Every word is zero.
+pub(crate) fn clear(agenda: &mut [u16])
     ensures { λ r. ⌜ now (agenda .exit) ≡ replicate (length (now (agenda .entry))) 0 ⌝ }
 {
-    let slots = agenda.len() / (n + 2);
     let mut k = 0;
-    while k < slots {
-        clear_slot(n, agenda, k);
+    while k < agenda.len() {
+        agenda[k] = 0;
         k += 1;
     }
 }

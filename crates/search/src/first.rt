@@ -12,7 +12,7 @@ ghost use Rattle.splits.specs.Ranges.{Sized};
 ghost use Rattle.search.specs.Agenda.{problemOf};
 ghost use Rattle.search.specs.FirstChecks.{refusalOfNumbers, wholeSlots, refusalOfLengths, refusalOfRequests, refusalOfProblem, zerosFrom, refusalOfSearch, sizesRefusal, openRefusal, searchRefusal, runRefusal};
 ghost use Rattle.search.specs.Work.Matrices.{rowIn};
-ghost use Rattle.search.specs.Work.FirstTests.{Fitting, Mirrored, joined, domainBelow, spanBelow, rowBelow};
+ghost use Rattle.search.specs.Work.FirstTests.{Fitting, Mirrored, joined, spanBelow, rowBelow};
 
 // 1 or 2, or none.
 fn refusal_of_numbers(n: usize, d: usize) -> u32
@@ -97,14 +97,6 @@ fn bits_of(words: &[u16]) -> u16
     bits
 }
 
-// Whether no domain has a bit at `d` or above.
-fn domains_below(n: usize, d: usize, domains: &[u16]) -> bool
-    requires { ⌜ (d ≤ 16) × (length (now domains) ≡ n) ⌝ }
-    ensures { λ r. ⌜ r ≡ every n (domainBelow d (now (domains .entry))) ⌝ }
-{
-    is_below(bits_of(domains), d)
-}
-
 // Whether no mask of the variable `i` with those from `from` to before `to` has a bit at `d` or above.
 fn span_below(n: usize, d: usize, tables: &[u16], i: usize, from: usize, to: usize) -> bool
     requires { ⌜ Sized n d (now tables) × ((i < n) × ((from ≤ to) × (to ≤ n))) ⌝ }
@@ -134,14 +126,6 @@ fn tables_below(n: usize, d: usize, tables: &[u16]) -> bool
     if d == 16 {
         return true;
     }
-    rows_below(n, d, tables)
-}
-
-// The same, row by row.
-fn rows_below(n: usize, d: usize, tables: &[u16]) -> bool
-    requires { ⌜ Sized n d (now tables) ⌝ }
-    ensures { λ r. ⌜ r ≡ every n (rowBelow n d (tableOf n d (now (tables .entry)))) ⌝ }
-{
     let mut i = 0;
     while i < n {
         if !row_below(n, d, tables, i) {
@@ -157,7 +141,7 @@ fn refusal_of_problem(n: usize, d: usize, domains: &[u16], tables: &[u16]) -> u3
     requires { ⌜ Fitting n d (now domains) (now tables) ⌝ }
     ensures { λ r. ⌜ r ≡ refusalOfProblem (problemOf n d (now (domains .entry)) (now (tables .entry))) ⌝ }
 {
-    if !domains_below(n, d, domains) {
+    if !is_below(bits_of(domains), d) {
         return 4;
     }
     if !tables_below(n, d, tables) {

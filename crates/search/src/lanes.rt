@@ -21,17 +21,12 @@ fn count(domain: u16) -> u16
     u16::count_ones(domain) as u16
 }
 
-// The low half of a set of variables, and the high half.
-fn low_of(set: u32) -> u16
-    ensures { λ r. ⌜ Half set 0 r ⌝ }
+// The half of a set of variables that begins at `from`: the low one at 0, the high one at 16.
+fn half(set: u32, from: usize) -> u16
+    requires { ⌜ from ≤ 16 ⌝ }
+    ensures { λ r. ⌜ Half set from r ⌝ }
 {
-    (set % 65536) as u16
-}
-
-fn high_of(set: u32) -> u16
-    ensures { λ r. ⌜ Half set 16 r ⌝ }
-{
-    (set / 65536) as u16
+    ((set >> from) % 65536) as u16
 }
 
 // The variables from `i` on, up to the last of 32.
@@ -83,8 +78,8 @@ fn key(domain: u16, half: u16, i: usize, variable: usize) -> u16
 pub(crate) fn least_key(domains: [u16; 32], marked: u32) -> u16
     ensures { λ r. ⌜ LeastKey domains marked 16 r ⌝ }
 {
-    let low = low_of(marked);
-    let high = high_of(marked);
+    let low = half(marked, 0);
+    let high = half(marked, 16);
     let mut best: u16 = 2047;
     let mut i = 0;
     while i < 16 {

@@ -51,7 +51,7 @@ fn place_problem(n: usize, domains: &[u16], agenda: &mut [u16]) -> usize
     requires { ⌜ Openable n (now domains) (now agenda) ⌝ }
     ensures { λ r. ⌜ (r ≡ length (opening n (now (domains .entry)))) × (now (agenda .exit) ≡ agendaOf n (length (now (agenda .entry))) (opening n (now (domains .entry)))) ⌝ }
 {
-    agenda::clear(n, agenda);
+    agenda::clear(agenda);
     let problem = agenda::holding(n, domains, 0);
     if problem.is_empty(n) {
         return 0;

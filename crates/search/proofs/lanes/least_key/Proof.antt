@@ -15,11 +15,11 @@ Inv-loop marked domains low high best₀ i₀ best i = (i ≤ 16) × LeastKey do
 abbrev μ-loop : tie.MeasureT-loop
 μ-loop marked domains low high best₀ i₀ best i = 16 - i
 
-low-of-requires : tie.Need-low-of-requires Inv-loop μ-loop
-low-of-requires c κs = tt
+half-requires : tie.Need-half-requires Inv-loop μ-loop
+half-requires c κs = omega arith
 
-high-of-requires : tie.Need-high-of-requires Inv-loop μ-loop
-high-of-requires c κs = tt
+half-requires-2 : tie.Need-half-requires-2 Inv-loop μ-loop
+half-requires-2 c κs = omega arith
 
 loop-holds : tie.Need-loop-holds Inv-loop μ-loop
 loop-holds c = (omega arith, least-none _ _)
@@ -61,7 +61,7 @@ loop-less : tie.Need-loop-less Inv-loop μ-loop
 loop-less c = omega arith
 
 loop-again : tie.Need-loop-again Inv-loop μ-loop
-loop-again c = (omega arith, least-more _ _ _ _ _ _ _ _ (c .before .before .before .before .loop-test .taken) (c .before .before .before .before .before .loop .inv .1) (key-in _ _ _ _ _ (c .before .before .before .before .before .before .before .low-of .ensures) (c .before .before .before .before .loop-test .taken) _ (omega arith) _ (c .before .before .before .key .ensures)) (key-in _ _ _ _ _ (c .before .before .before .before .before .before .high-of .ensures) (c .before .before .before .before .loop-test .taken) _ (omega arith) _ (c .before .key2 .ensures)) (c .before .before .least .ensures) (c .least2 .ensures))
+loop-again c = (omega arith, least-more _ _ _ _ _ _ _ _ (c .before .before .before .before .loop-test .taken) (c .before .before .before .before .before .loop .inv .1) (key-in _ _ _ _ _ (c .before .before .before .before .before .before .before .half .ensures) (c .before .before .before .before .loop-test .taken) _ (omega arith) _ (c .before .before .before .key .ensures)) (key-in _ _ _ _ _ (c .before .before .before .before .before .before .half2 .ensures) (c .before .before .before .before .loop-test .taken) _ (omega arith) _ (c .before .key2 .ensures)) (c .before .before .least .ensures) (c .least2 .ensures))
 
 returns : tie.Need-returns Inv-loop μ-loop
 returns c = let end : c .before .loop .i ≡ 16 = omega arith in rw (← end) (c .before .loop .inv .1)
@@ -72,8 +72,8 @@ least-key-spec =
     (tie.spec
     Inv-loop
     μ-loop
-    low-of-requires
-    high-of-requires
+    half-requires
+    half-requires-2
     loop-holds
     mul-key
     array-read-key
