@@ -36,14 +36,14 @@ pub(crate) struct Choice {
 
 // Finds it.
 fn look(top: Subproblem, n: usize, d: usize, tables: &[u16], rows: &mut [[u16; 32]]) -> Choice
-    requires { ⌜ Sized n d (now tables) × (Regular n d top × ((instantiated n top ≡ false) × Rows n d (now tables) (now rows))) ⌝ }
-    ensures { λ r. ⌜ Found n d (now (tables .entry)) top r × Rows n d (now (tables .entry)) (now (rows .exit)) ⌝ }
+    requires { ⌜ Sized n d (now tables) × (Regular n d top × ((instantiated n top ≡ false) × Rows 16 n d (now tables) (now rows))) ⌝ }
+    ensures { λ r. ⌜ Found n d (now (tables .entry)) top r × Rows 16 n d (now (tables .entry)) (now (rows .exit)) ⌝ }
 {
     let domains = top.domains;
     let key = lanes::least_key(domains, top.marked | lanes::beyond(n));
     let variable = (key % 32) as usize;
     let value = mask::lowest(top.domain(variable));
-    let row = rows::row(n, d, tables, rows, variable, value);
+    let row = rows::row(n, d, tables, rows, 16, variable, value);
     let lost = lanes::loses(domains, row);
     Choice {
         variable,
@@ -258,8 +258,8 @@ pub(crate) fn take_chosen(
     rows: &mut [[u16; 32]],
     state: State,
 ) -> Stop
-    requires { ⌜ Taking n d (now tables) (now agenda) top state × Rows n d (now tables) (now rows) ⌝ }
-    ensures { λ r. ⌜ TakesChosen n d (now (tables .entry)) top (now (agenda .entry)) (now (agenda .exit)) state r × Rows n d (now (tables .entry)) (now (rows .exit)) ⌝ }
+    requires { ⌜ Taking n d (now tables) (now agenda) top state × Rows 16 n d (now tables) (now rows) ⌝ }
+    ensures { λ r. ⌜ TakesChosen n d (now (tables .entry)) top (now (agenda .entry)) (now (agenda .exit)) state r × Rows 16 n d (now (tables .entry)) (now (rows .exit)) ⌝ }
 {
     let steps = state.counts.steps.0;
     if steps == 4294967295 {

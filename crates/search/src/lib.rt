@@ -225,8 +225,8 @@ fn step_chosen(
     rows: &mut [[u16; 32]],
     state: State,
 ) -> Stop
-    requires { ⌜ Ready n d (now tables) (now agenda) (searchOf n (now agenda) state) × (Rows n d (now tables) (now rows) × Below n below) ⌝ }
-    ensures { λ r. ⌜ ChoosesOne n d (now (tables .entry)) (now (agenda .entry)) (now (agenda .exit)) state r × Rows n d (now (tables .entry)) (now (rows .exit)) ⌝ }
+    requires { ⌜ Ready n d (now tables) (now agenda) (searchOf n (now agenda) state) × (Rows 16 n d (now tables) (now rows) × Below n below) ⌝ }
+    ensures { λ r. ⌜ ChoosesOne n d (now (tables .entry)) (now (agenda .entry)) (now (agenda .exit)) state r × Rows 16 n d (now (tables .entry)) (now (rows .exit)) ⌝ }
 {
     let subproblems = state.subproblems;
     if subproblems != 0 {

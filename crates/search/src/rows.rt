@@ -1,9 +1,10 @@
-// Rows: what is allowed beside a value of a variable, for all variables at once, each made when it is first asked for.
+// Rows: what is allowed beside a value of a variable, for all variables at once; those made are kept.
 ghost use mathlib.Core.Path.{_≡_};
+ghost use Prim.Native.Nat.{_≤_};
 ghost use Rattle.splits.specs.Problem.{tableOf};
 ghost use Rattle.splits.specs.Ranges.{Sized, Place, Inside};
 ghost use Rattle.splits.specs.Splits.{RowOf};
-ghost use Rattle.search.specs.Work.Lanes.{Rows, LastRows};
+ghost use Rattle.search.specs.Work.Lanes.{Rows};
 
 // The mask of the values of `j` allowed beside value `a` of `i`; all bits where `j` is `i`, whose place is not read.
 pub(crate) fn allowed(n: usize, d: usize, tables: &[u16], i: usize, j: usize, a: usize) -> u16
@@ -31,39 +32,22 @@ fn made(n: usize, d: usize, tables: &[u16], variable: usize, value: usize) -> [u
     row
 }
 
-// The same out of the rows, made among them unless it is there: then it holds its value at its own variable, and else nothing.
+// The same out of the rows, `width` of them for each variable, made in its place among them unless it is there.
 pub(crate) fn row(
     n: usize,
     d: usize,
     tables: &[u16],
     rows: &mut [[u16; 32]],
+    width: usize,
     variable: usize,
     value: usize,
 ) -> [u16; 32]
-    requires { ⌜ Inside n d (now tables) variable value × Rows n d (now tables) (now rows) ⌝ }
-    ensures { λ r. ⌜ RowOf n (tableOf n d (now (tables .entry))) variable value r × Rows n d (now (tables .entry)) (now (rows .exit)) ⌝ }
+    requires { ⌜ Inside n d (now tables) variable value × ((1 ≤ width) × ((width ≤ 16) × Rows width n d (now tables) (now rows))) ⌝ }
+    ensures { λ r. ⌜ RowOf n (tableOf n d (now (tables .entry))) variable value r × Rows width n d (now (tables .entry)) (now (rows .exit)) ⌝ }
 {
-    let at = variable * 16 + value;
-    if rows[at][variable] == 0 {
+    let at = variable * width + value % width;
+    if rows[at][variable] != 1 << value {
         rows[at] = made(n, d, tables, variable, value);
     }
     rows[at]
-}
-
-// The same out of rows of which each is the one last asked for of its variable.
-pub(crate) fn last_row(
-    n: usize,
-    d: usize,
-    tables: &[u16],
-    rows: &mut [[u16; 32]],
-    variable: usize,
-    value: usize,
-) -> [u16; 32]
-    requires { ⌜ Inside n d (now tables) variable value × LastRows n d (now tables) (now rows) ⌝ }
-    ensures { λ r. ⌜ RowOf n (tableOf n d (now (tables .entry))) variable value r × LastRows n d (now (tables .entry)) (now (rows .exit)) ⌝ }
-{
-    if rows[variable][variable] != 1 << value {
-        rows[variable] = made(n, d, tables, variable, value);
-    }
-    rows[variable]
 }

@@ -13,7 +13,7 @@ ghost use Rattle.search.specs.Agenda.{problemOf, subproblemOf, stackOf};
 ghost use Rattle.search.specs.FirstChecks.{obeys, allObey};
 ghost use Rattle.search.specs.Work.FirstTests.{Mirrored, SlotFits, Next, joined, partWrong, wrongIn, Held, missingIn, markObeys, TellsSame, TellsBelow, MarksKnown};
 ghost use Rattle.search.specs.Work.Slots.{SlotIn};
-ghost use Rattle.search.specs.Work.Lanes.{LastRows};
+ghost use Rattle.search.specs.Work.Lanes.{Rows};
 
 // What is wrong with a domain beside the problem's: that it is empty, or values that the problem's has not; 0 for nothing.
 fn part_wrong(whole: u16, domain: u16) -> u16
@@ -96,10 +96,10 @@ fn mark_obeys(
     rows: &mut [[u16; 32]],
     i: usize,
 ) -> bool
-    requires { ⌜ SlotFits n d (now tables) (now slot) marked × ((Held n (subproblemOf n (now slot)) held × LastRows n d (now tables) (now rows)) × ((i < n) × (bit marked i ≡ 1))) ⌝ }
-    ensures { λ r. ⌜ (r ≡ markObeys n (tableOf n d (now (tables .entry))) (subproblemOf n (now (slot .entry))) i) × LastRows n d (now (tables .entry)) (now (rows .exit)) ⌝ }
+    requires { ⌜ SlotFits n d (now tables) (now slot) marked × ((Held n (subproblemOf n (now slot)) held × Rows 1 n d (now tables) (now rows)) × ((i < n) × (bit marked i ≡ 1))) ⌝ }
+    ensures { λ r. ⌜ (r ≡ markObeys n (tableOf n d (now (tables .entry))) (subproblemOf n (now (slot .entry))) i) × Rows 1 n d (now (tables .entry)) (now (rows .exit)) ⌝ }
 {
-    let row = rows::last_row(n, d, tables, rows, i, mask::lowest(slot[i]));
+    let row = rows::row(n, d, tables, rows, 1, i, mask::lowest(slot[i]));
     missing(held, row) == 0
 }
 
@@ -112,8 +112,8 @@ fn marks_obey(
     tables: &[u16],
     rows: &mut [[u16; 32]],
 ) -> bool
-    requires { ⌜ SlotFits n d (now tables) (now slot) marked × LastRows n d (now tables) (now rows) ⌝ }
-    ensures { λ r. ⌜ (r ≡ every n (markObeys n (tableOf n d (now (tables .entry))) (subproblemOf n (now (slot .entry))))) × LastRows n d (now (tables .entry)) (now (rows .exit)) ⌝ }
+    requires { ⌜ SlotFits n d (now tables) (now slot) marked × Rows 1 n d (now tables) (now rows) ⌝ }
+    ensures { λ r. ⌜ (r ≡ every n (markObeys n (tableOf n d (now (tables .entry))) (subproblemOf n (now (slot .entry))))) × Rows 1 n d (now (tables .entry)) (now (rows .exit)) ⌝ }
 {
     let held = held_of(slot, marked, n);
     let mut i = next_in(marked, 0);
@@ -170,8 +170,8 @@ fn obeys(
     rows: &mut [[u16; 32]],
     known: bool,
 ) -> bool
-    requires { ⌜ Mirrored n d (now domains) (now tables) × ((length (now slot) ≡ n + 2) × (MarksKnown n d (now tables) (now slot) known × LastRows n d (now tables) (now rows))) ⌝ }
-    ensures { λ r. ⌜ (r ≡ obeys (problemOf n d (now (domains .entry)) (now (tables .entry))) (subproblemOf n (now (slot .entry)))) × LastRows n d (now (tables .entry)) (now (rows .exit)) ⌝ }
+    requires { ⌜ Mirrored n d (now domains) (now tables) × ((length (now slot) ≡ n + 2) × (MarksKnown n d (now tables) (now slot) known × Rows 1 n d (now tables) (now rows))) ⌝ }
+    ensures { λ r. ⌜ (r ≡ obeys (problemOf n d (now (domains .entry)) (now (tables .entry))) (subproblemOf n (now (slot .entry)))) × Rows 1 n d (now (tables .entry)) (now (rows .exit)) ⌝ }
 {
     let marked = agenda::marked_at(slot, n);
     if (1 << n) <= (marked as u64) {

@@ -11,7 +11,7 @@ use Rattle.search.proofs.choose_on.Statement.{statement}
 use Rattle.search.proofs.choose_on.Tie as tie
 
 abbrev Inv-loop : tie.InvT-loop
-Inv-loop n d tables agenda₀ limit state₀ taken₀ rows₀ below agenda state taken rows = (taken ≤ limit) × (GoingChosen n d tables limit agenda₀ state₀ agenda state taken × Rows n d tables rows)
+Inv-loop n d tables agenda₀ limit state₀ taken₀ rows₀ below agenda state taken rows = (taken ≤ limit) × (GoingChosen n d tables limit agenda₀ state₀ agenda state taken × Rows 16 n d tables rows)
 
 abbrev μ-loop : tie.MeasureT-loop
 μ-loop n d tables agenda₀ limit state₀ taken₀ rows₀ below agenda state taken rows = limit - taken
@@ -20,7 +20,7 @@ below-requires : tie.Need-below-requires Inv-loop μ-loop
 below-requires c κs = c .before .before .pre .fitting .few
 
 loop-holds : tie.Need-loop-holds Inv-loop μ-loop
-loop-holds c = (omega arith, (choosing-none _ _ _ _ _ _ (c .before .before .before .pre), rows-none _ _ _ (c .before .before .before .pre .fitting .few) (c .before .before .before .pre .fitting .small)))
+loop-holds c = (omega arith, (choosing-none _ _ _ _ _ _ (c .before .before .before .pre), rows-none 16 _ _ _))
 
 slice-aggregate-step-chosen : tie.Need-slice-aggregate-step-chosen Inv-loop μ-loop
 slice-aggregate-step-chosen c = search needs

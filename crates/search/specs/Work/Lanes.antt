@@ -3,7 +3,7 @@ use mathlib.Core.Path.{_≡_}
 use mathlib.Core.Logic.{_⊎_}
 use mathlib.Core.Bool.{Bool, not, cond, _&&_}
 use mathlib.Core.List.{List, []}
-use Prim.Native.Nat.{ℕ, _+_, _*_, _≤_, _<_}
+use Prim.Native.Nat.{ℕ, _+_, _*_, _/_, _≤_, _<_}
 use lib.ListN.{length, getD}
 use lib.Dec.{eqb, ltb}
 use Rattle.splits.specs.Masks.{bit, common, minus, size}
@@ -79,13 +79,7 @@ pub record FurtherTo (row : List ℕ) (j i : ℕ) (masks : List ℕ) : Type 0 wh
 unfoldable pub filled : List ℕ → ℕ → ℕ
 filled masks i = total i (λ j. cond (eqb (getD masks j 0) 0) 0 1)
 
--- Rows kept: 16 for each of 32 variables. Each is that of its variable and value, or has nothing for its variable yet.
-pub record Rows (n d : ℕ) (tables : List ℕ) (rows : List (List ℕ)) : Type 0 where
-  pub long : length rows ≡ 512
-  pub each : (V′ v : ℕ) → V′ < n → v < d
-      → (getD (getD rows (V′ * 16 + v) []) V′ 0 ≡ 0) ⊎ RowOf n (tableOf n d tables) V′ v (getD rows (V′ * 16 + v) [])
-
--- Rows kept, one for each of 32 variables: that of one of its values, or nothing for its variable yet.
-pub record LastRows (n d : ℕ) (tables : List ℕ) (rows : List (List ℕ)) : Type 0 where
-  pub long : length rows ≡ 32
-  pub each : (V′ : ℕ) → V′ < n → (getD (getD rows V′ []) V′ 0 ≡ 0) ⊎ ((v : ℕ) × RowOf n (tableOf n d tables) V′ v (getD rows V′ []))
+-- Rows kept, so many for each of 32 variables. Each is that of a value of its variable, or has nothing for its variable yet.
+pub record Rows (width n d : ℕ) (tables : List ℕ) (rows : List (List ℕ)) : Type 0 where
+  pub long : length rows ≡ 32 * width
+  pub each : (k : ℕ) → k < 32 * width → (getD (getD rows k []) (k / width) 0 ≡ 0) ⊎ ((v : ℕ) × RowOf n (tableOf n d tables) (k / width) v (getD rows k []))

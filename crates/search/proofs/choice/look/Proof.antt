@@ -22,7 +22,7 @@ lowest-requires : tie.Need-lowest-requires
 lowest-requires c κs = tt
 
 row-requires : tie.Need-row-requires
-row-requires c κs = let k = c .before .before .before .before .before .before .before .before .pre in (found-inside _ _ _ _ (k .0) (k .1 .0) (k .1 .1 .0) _ _ _ _ _ (c .before .before .before .before .before .beyond .ensures) (c .before .before .before .least-key .ensures) refl (c .before .before .domain .ensures) (c .before .lowest .ensures), k .1 .1 .1)
+row-requires c κs = let k = c .before .before .before .before .before .before .before .before .pre in (found-inside _ _ _ _ (k .0) (k .1 .0) (k .1 .1 .0) _ _ _ _ _ (c .before .before .before .before .before .beyond .ensures) (c .before .before .before .least-key .ensures) refl (c .before .before .domain .ensures) (c .before .lowest .ensures), (omega arith, (omega arith, k .1 .1 .1)))
 
 loses-requires : tie.Need-loses-requires
 loses-requires c κs = tt

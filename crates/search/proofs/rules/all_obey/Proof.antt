@@ -11,21 +11,21 @@ use Rattle.search.proofs.Copies.{slot-below}
 use Rattle.search.proofs.Encoding.{slot-read}
 use Rattle.search.proofs.FirstLoops.{every-start, every-stop, every-turn, every-end}
 use Rattle.search.proofs.FirstParts.{all-slots, slot-obeys}
-use Rattle.search.specs.Work.Lanes.{LastRows}
-use Rattle.search.proofs.Beside.{last-none}
+use Rattle.search.specs.Work.Lanes.{Rows}
+use Rattle.search.proofs.Beside.{rows-none}
 use Rattle.search.proofs.Alike.{marks-known}
 use borrow.Author.Needs.{needs}
 use Rattle.search.proofs.rules.all_obey.Statement.{statement}
 use Rattle.search.proofs.rules.all_obey.Tie as tie
 
 abbrev Inv-loop : tie.InvT-loop
-Inv-loop n d domains tables agenda count rows₀ k₀ rows k = (k ≤ count) × ((every k (slotObeys (problemOf n d domains tables) n agenda) ≡ true) × LastRows n d tables rows)
+Inv-loop n d domains tables agenda count rows₀ k₀ rows k = (k ≤ count) × ((every k (slotObeys (problemOf n d domains tables) n agenda) ≡ true) × Rows 1 n d tables rows)
 
 abbrev μ-loop : tie.MeasureT-loop
 μ-loop n d domains tables agenda count rows₀ k₀ rows k = count - k
 
 loop-holds : tie.Need-loop-holds Inv-loop μ-loop
-loop-holds c = (omega arith, (every-start _, last-none _ _ _ (c .before .before .before .pre .0 .fitting .sized .few)))
+loop-holds c = (omega arith, (every-start _, rows-none 1 _ _ _))
 
 as-below-requires : tie.Need-as-below-requires Inv-loop μ-loop
 as-below-requires c κs = slot-below _ _ _ _ (c .before .before .before .before .before .pre .0 .fitting .sized .few) (c .loop-test .taken) (c .before .before .before .before .before .pre .1)

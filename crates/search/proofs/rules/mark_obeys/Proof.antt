@@ -1,5 +1,6 @@
 -- `rules::mark_obeys` meets its contract.
 -- Assumes nothing.
+use native.Mathlib.Omega.{arith}
 use Rattle.search.proofs.Marked.{mark-read}
 use borrow.Author.Needs.{needs}
 use Rattle.search.proofs.rules.mark_obeys.Statement.{statement}
@@ -14,17 +15,17 @@ shared-slice-read-lowest c = search needs
 lowest-requires : tie.Need-lowest-requires
 lowest-requires c κs = search needs
 
-last-row-requires : tie.Need-last-row-requires
-last-row-requires c κs = let p = c .before .before .before .before .before .pre in (record { fit = p .0 .sized; a-variable = p .1 .1 .0; a-value = rw (c .lowest .ensures) (p .0 .values _ (p .1 .1 .0)) }, p .1 .0 .1)
+row-requires : tie.Need-row-requires
+row-requires c κs = let p = c .before .before .before .before .before .pre in (record { fit = p .0 .sized; a-variable = p .1 .1 .0; a-value = rw (c .lowest .ensures) (p .0 .values _ (p .1 .1 .0)) }, (omega arith, (omega arith, p .1 .0 .1)))
 
 missing-requires : tie.Need-missing-requires
 missing-requires c κs = search needs
 
 same-length : tie.Need-same-length
-same-length c = let whole = c .before .before .before .before .before .before .before .before .pre .1 .0 .1 .long in let long = c .before .before .last-row .ensures .1 .long in search needs
+same-length c = let whole = c .before .before .before .before .before .before .before .before .pre .1 .0 .1 .long in let long = c .before .before .row .ensures .1 .long in search needs
 
 returns : tie.Need-returns
-returns c = let p = c .before .before .before .before .before .before .before .before .pre in (mark-read _ _ _ _ _ _ _ _ _ _ (p .0) (p .1 .1 .0) (p .1 .1 .1) (p .1 .0 .0) (c .before .before .before .lowest .ensures) (c .before .before .last-row .ensures .0) (c .missing .ensures), c .before .before .last-row .ensures .1)
+returns c = let p = c .before .before .before .before .before .before .before .before .pre in (mark-read _ _ _ _ _ _ _ _ _ _ (p .0) (p .1 .1 .0) (p .1 .1 .1) (p .1 .0 .0) (c .before .before .before .lowest .ensures) (c .before .before .row .ensures .0) (c .missing .ensures), c .before .before .row .ensures .1)
 
 pub mark-obeys-spec : {M : Type 1} → statement M
 mark-obeys-spec =
@@ -33,7 +34,7 @@ mark-obeys-spec =
     mul-lowest
     shared-slice-read-lowest
     lowest-requires
-    last-row-requires
+    row-requires
     missing-requires
     same-length
     returns)

@@ -9,7 +9,7 @@ use Rattle.splits.specs.Problem.{tableOf}
 use Rattle.splits.specs.Subproblems.{every}
 use Rattle.search.specs.Agenda.{subproblemOf}
 use Rattle.search.specs.Work.FirstTests.{markObeys}
-use Rattle.search.specs.Work.Lanes.{LastRows}
+use Rattle.search.specs.Work.Lanes.{Rows}
 use Rattle.search.proofs.FirstLoops.{every-start, every-stop, every-turn}
 use Rattle.search.proofs.Marked.{every-past, marks-next}
 use borrow.Author.Needs.{needs}
@@ -17,7 +17,7 @@ use Rattle.search.proofs.rules.marks_obey.Statement.{statement}
 use Rattle.search.proofs.rules.marks_obey.Tie as tie
 
 abbrev Inv-loop : tie.InvT-loop
-Inv-loop slot marked n d tables rows₀ held i₀ rows i = (every i (markObeys n (tableOf n d tables) (subproblemOf n slot)) ≡ true) × ((i < 32 → bit marked i ≡ 1) × LastRows n d tables rows)
+Inv-loop slot marked n d tables rows₀ held i₀ rows i = (every i (markObeys n (tableOf n d tables) (subproblemOf n slot)) ≡ true) × ((i < 32 → bit marked i ≡ 1) × Rows 1 n d tables rows)
 
 abbrev μ-loop : tie.MeasureT-loop
 μ-loop slot marked n d tables rows₀ held i₀ rows i = n - i
