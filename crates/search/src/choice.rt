@@ -183,8 +183,9 @@ pub(crate) struct Left {
     pub(crate) subproblems: usize,
 }
 
-// Where several pieces are left: kind 3's if they have room, else kind 2's if these have.
-fn divide(
+// The pieces of the rule's request in the place of the top, which stood in slot `below`: one at most, else kind 3's if they have room, else kind 2's
+// if these have.
+fn put(
     top: Subproblem,
     n: usize,
     d: usize,
@@ -193,9 +194,15 @@ fn divide(
     choice: Choice,
     below: usize,
 ) -> Left
-    requires { ⌜ AtTop n d (now tables) top choice below (length (now agenda)) × (several choice ≡ true) ⌝ }
+    requires { ⌜ AtTop n d (now tables) top choice below (length (now agenda)) ⌝ }
     ensures { λ r. ⌜ Puts n d (now (tables .entry)) top below (now (agenda .entry)) (now (agenda .exit)) r ⌝ }
 {
+    if !is_several(choice) {
+        return Left {
+            refusal: 0,
+            subproblems: settle(top, n, agenda, choice, below),
+        };
+    }
     let free = agenda.len() / (n + 2) - below;
     let further = further_of(top, choice);
     let out = further.out;
@@ -214,28 +221,6 @@ fn divide(
     Left {
         refusal: 0,
         subproblems: put_two(top, n, d, tables, agenda, choice, below),
-    }
-}
-
-// The pieces of the rule's request in the place of the top, which stood in slot `below`.
-fn put(
-    top: Subproblem,
-    n: usize,
-    d: usize,
-    tables: &[u16],
-    agenda: &mut [u16],
-    choice: Choice,
-    below: usize,
-) -> Left
-    requires { ⌜ AtTop n d (now tables) top choice below (length (now agenda)) ⌝ }
-    ensures { λ r. ⌜ Puts n d (now (tables .entry)) top below (now (agenda .entry)) (now (agenda .exit)) r ⌝ }
-{
-    if is_several(choice) {
-        return divide(top, n, d, tables, agenda, choice, below);
-    }
-    Left {
-        refusal: 0,
-        subproblems: settle(top, n, agenda, choice, below),
     }
 }
 

@@ -85,25 +85,7 @@ fn missing(held: [u16; 32], row: [u16; 32]) -> u16
     wrong
 }
 
-// Whether the instantiated variable `i` has one value, and every other instantiated one what is allowed beside it.
-fn mark_obeys(
-    slot: &[u16],
-    marked: u32,
-    held: [u16; 32],
-    n: usize,
-    d: usize,
-    tables: &[u16],
-    rows: &mut [[u16; 32]],
-    i: usize,
-) -> bool
-    requires { ⌜ SlotFits n d (now tables) (now slot) marked × ((Held n (subproblemOf n (now slot)) held × Rows 1 n d (now tables) (now rows)) × ((i < n) × (bit marked i ≡ 1))) ⌝ }
-    ensures { λ r. ⌜ (r ≡ markObeys n (tableOf n d (now (tables .entry))) (subproblemOf n (now (slot .entry))) i) × Rows 1 n d (now (tables .entry)) (now (rows .exit)) ⌝ }
-{
-    let row = rows::row(n, d, tables, rows, 1, i, mask::lowest(slot[i]));
-    missing(held, row) == 0
-}
-
-// Whether every instantiated variable does.
+// Whether every instantiated variable has one value, and every other what is allowed beside it.
 fn marks_obey(
     slot: &[u16],
     marked: u32,
@@ -118,7 +100,8 @@ fn marks_obey(
     let held = held_of(slot, marked, n);
     let mut i = next_in(marked, 0);
     while i < n {
-        if !mark_obeys(slot, marked, held, n, d, tables, rows, i) {
+        let row = rows::row(n, d, tables, rows, 1, i, mask::lowest(slot[i]));
+        if missing(held, row) != 0 {
             return false;
         }
         i = next_in(marked, i + 1);

@@ -20,7 +20,7 @@ ghost use Rattle.splits.specs.Splits.{pieces, candidates};
 ghost use Rattle.splits.specs.Checks.{checks};
 ghost use Rattle.splits.specs.Calls.{readable};
 ghost use Rattle.splits.specs.Ranges.{Sized};
-ghost use Rattle.search.specs.Work.Steps.{TellsEmpty, Placing, Placed, Replaced, Taking, TakesOne, refusalFor};
+ghost use Rattle.search.specs.Work.Steps.{TellsEmpty, Placing, Placed, Taking, TakesOne, refusalFor};
 
 // Where a run stops, or one step ends: the refusal, the requests taken and the state it leaves.
 pub(crate) struct Stop {
@@ -29,12 +29,16 @@ pub(crate) struct Stop {
     pub(crate) state: State,
 }
 
-// Whether the pieces of a request that are not empty exceed the free slots. They are counted no further than that.
+// Whether the pieces of a request that are not empty exceed the free slots. They are looked at only where the candidates of the kind do, and
+// counted no further than that.
 fn exceed(top: Subproblem, n: usize, d: usize, tables: &[u16], request: &[u16], free: usize) -> bool
     requires { ⌜ readable n d (now tables) (now request) ≡ true ⌝ }
     ensures { λ r. ⌜ r ≡ ltb free (length (pieces n (tableOf n d (now (tables .entry))) top (now (request .entry)))) ⌝ }
 {
     let candidates = split::candidates(n, request);
+    if candidates <= free {
+        return false;
+    }
     let mut left = free;
     let mut k = 0;
     while k < candidates {
@@ -48,24 +52,6 @@ fn exceed(top: Subproblem, n: usize, d: usize, tables: &[u16], request: &[u16], 
         k += 1;
     }
     false
-}
-
-// The same. They are looked at only where the candidates of the kind exceed the free slots.
-fn has_no_room(
-    top: Subproblem,
-    n: usize,
-    d: usize,
-    tables: &[u16],
-    request: &[u16],
-    free: usize,
-) -> bool
-    requires { ⌜ readable n d (now tables) (now request) ≡ true ⌝ }
-    ensures { λ r. ⌜ r ≡ ltb free (length (pieces n (tableOf n d (now (tables .entry))) top (now (request .entry)))) ⌝ }
-{
-    if split::candidates(n, request) <= free {
-        return false;
-    }
-    exceed(top, n, d, tables, request, free)
 }
 
 // The refusal of a request, in the order 11, 7 to 10, 12; 0 for none.
@@ -88,7 +74,7 @@ fn refusal_of(
     if refused != 0 {
         return refused;
     }
-    if has_no_room(top, n, d, tables, request, free) {
+    if exceed(top, n, d, tables, request, free) {
         return 12;
     }
     0
@@ -153,23 +139,6 @@ fn place(
     at
 }
 
-// The pieces in the place of the top, which stood in slot `below`; the number of subproblems then.
-fn replace(
-    top: Subproblem,
-    n: usize,
-    d: usize,
-    tables: &[u16],
-    agenda: &mut [u16],
-    request: &[u16],
-    below: usize,
-) -> usize
-    requires { ⌜ Placing n d (now tables) top (now request) below (length (now agenda)) × ((below + 1) * (n + 2) ≤ length (now agenda)) ⌝ }
-    ensures { λ r. ⌜ Replaced n (pieces n (tableOf n d (now (tables .entry))) top (now (request .entry))) below (now (agenda .entry)) (now (agenda .exit)) r ⌝ }
-{
-    agenda::clear_slot(n, agenda, below);
-    place(top, n, d, tables, agenda, request, below)
-}
-
 // The checks so far with those of a request.
 fn with_checks(
     top: Subproblem,
@@ -210,7 +179,8 @@ pub(crate) fn take(
         };
     }
     let checks = with_checks(top, n, d, tables, request, state.counts.checks.0);
-    let subproblems = replace(top, n, d, tables, agenda, request, below);
+    agenda::clear_slot(n, agenda, below);
+    let subproblems = place(top, n, d, tables, agenda, request, below);
     Stop {
         refusal: 0,
         taken: 1,

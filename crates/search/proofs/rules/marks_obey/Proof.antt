@@ -1,9 +1,10 @@
 -- `rules::marks_obey` meets its contract: the loop's invariant: every variable before the next instantiated one is as it must be.
 -- Assumes nothing.
-use mathlib.Core.Bool.{true}
-use mathlib.Core.Path.{_≡_}
+use mathlib.Core.Bool.{true, not}
+use mathlib.Core.Path.{_≡_, ap}
 use Prim.Native.Nat.{_-_, _<_}
 use native.Mathlib.Omega.{arith}
+use borrow.Author.Tests.{eq-eqb, ne-eqb}
 use Rattle.splits.specs.Masks.{bit}
 use Rattle.splits.specs.Problem.{tableOf}
 use Rattle.splits.specs.Subproblems.{every}
@@ -11,7 +12,7 @@ use Rattle.search.specs.Agenda.{subproblemOf}
 use Rattle.search.specs.Work.FirstTests.{markObeys}
 use Rattle.search.specs.Work.Lanes.{Rows}
 use Rattle.search.proofs.FirstLoops.{every-start, every-stop, every-turn}
-use Rattle.search.proofs.Marked.{every-past, marks-next}
+use Rattle.search.proofs.Marked.{every-past, marks-next, mark-read}
 use borrow.Author.Needs.{needs}
 use Rattle.search.proofs.rules.marks_obey.Statement.{statement}
 use Rattle.search.proofs.rules.marks_obey.Tie as tie
@@ -31,14 +32,26 @@ next-in-requires c κs = search needs
 loop-holds : tie.Need-loop-holds Inv-loop μ-loop
 loop-holds c = let p = c .before .before .before .before .pre in (marks-next _ _ _ _ _ _ (p .0 .marks) (every-start _) (c .next-in .ensures), (c .next-in .ensures .there, p .1))
 
-mark-obeys-requires : tie.Need-mark-obeys-requires Inv-loop μ-loop
-mark-obeys-requires c κs = let p = c .before .before .before .before .before .before .before .pre in let inv = c .before .before .loop .inv in (p .0, ((c .before .before .before .before .held-of .ensures, inv .1 .1), (c .before .loop-test .taken, inv .1 .0 (omega (arith, p .0 .sized .few)))))
+mul-lowest : tie.Need-mul-lowest Inv-loop μ-loop
+mul-lowest c = let few = c .before .before .before .before .before .before .before .pre .0 .sized .few in omega arith
+
+shared-slice-read-lowest : tie.Need-shared-slice-read-lowest Inv-loop μ-loop
+shared-slice-read-lowest c = let long = c .before .before .before .before .before .before .before .before .pre .0 .words in omega arith
+
+lowest-requires : tie.Need-lowest-requires Inv-loop μ-loop
+lowest-requires c κs = search needs
+
+row-requires : tie.Need-row-requires Inv-loop μ-loop
+row-requires c κs = let p = c .before .before .before .before .before .before .before .before .before .pre in let inv = c .before .before .before .before .loop .inv in (record { fit = p .0 .sized; a-variable = c .before .before .before .loop-test .taken; a-value = rw (c .lowest .ensures) (p .0 .values _ (c .before .before .before .loop-test .taken)) }, (omega arith, (omega arith, inv .1 .1)))
+
+missing-requires : tie.Need-missing-requires Inv-loop μ-loop
+missing-requires c κs = search needs
 
 same-length : tie.Need-same-length Inv-loop μ-loop
-same-length c = let whole = c .before .before .before .before .before .before .before .before .before .before .pre .1 .long in let long = c .before .before .mark-obeys .ensures .1 .long in search needs
+same-length c = let whole = c .before .before .before .before .before .before .before .before .before .before .before .before .before .pre .1 .long in let long = c .before .before .before .row .ensures .1 .long in search needs
 
 returns : tie.Need-returns Inv-loop μ-loop
-returns c = (every-stop _ _ _ _ (c .before .before .before .before .loop-test .taken) (c .before .before .mark-obeys .ensures .0) (c .if1 .taken), c .before .before .mark-obeys .ensures .1)
+returns c = let p = c .before .before .before .before .before .before .before .before .before .before .before .before .before .pre in let inv = c .before .before .before .before .before .before .before .before .loop .inv in (every-stop _ _ _ _ (c .before .before .before .before .before .before .before .loop-test .taken) (mark-read _ _ _ _ _ _ _ _ _ _ (p .0) (c .before .before .before .before .before .before .before .loop-test .taken) (inv .1 .0 (omega (arith, p .0 .sized .few))) (c .before .before .before .before .before .before .before .before .before .before .held-of .ensures) (c .before .before .before .before .lowest .ensures) (c .before .before .before .row .ensures .0) (c .before .missing .ensures)) (ap not (ne-eqb _ _ (c .if1 .taken))), c .before .before .before .row .ensures .1)
 
 add-next-in : tie.Need-add-next-in Inv-loop μ-loop
 add-next-in c = search needs
@@ -50,7 +63,7 @@ loop-less : tie.Need-loop-less Inv-loop μ-loop
 loop-less c = omega (arith, c .next-in2 .ensures .up)
 
 loop-again : tie.Need-loop-again Inv-loop μ-loop
-loop-again c = let p = c .before .before .before .before .before .before .before .before .before .before .before .pre in let inv = c .before .before .before .before .before .before .loop .inv in (marks-next _ _ _ _ _ _ (p .0 .marks) (every-turn _ _ _ (inv .0) (c .before .before .before .mark-obeys .ensures .0) (c .before .if1 .left)) (c .next-in2 .ensures), (c .next-in2 .ensures .there, c .before .before .before .mark-obeys .ensures .1))
+loop-again c = let p = c .before .before .before .before .before .before .before .before .before .before .before .before .before .before .pre in let inv = c .before .before .before .before .before .before .before .before .before .loop .inv in (marks-next _ _ _ _ _ _ (p .0 .marks) (every-turn _ _ _ (inv .0) (mark-read _ _ _ _ _ _ _ _ _ _ (p .0) (c .before .before .before .before .before .before .before .before .loop-test .taken) (inv .1 .0 (omega (arith, p .0 .sized .few))) (c .before .before .before .before .before .before .before .before .before .before .before .held-of .ensures) (c .before .before .before .before .before .lowest .ensures) (c .before .before .before .before .row .ensures .0) (c .before .before .missing .ensures)) (ap not (eq-eqb _ _ (c .before .if1 .left)))) (c .next-in2 .ensures), (c .next-in2 .ensures .there, c .before .before .before .before .row .ensures .1))
 
 same-length-2 : tie.Need-same-length-2 Inv-loop μ-loop
 same-length-2 c = let whole = c .before .before .before .before .before .before .pre .1 .long in let long = c .before .loop .inv .1 .1 .long in search needs
@@ -67,7 +80,11 @@ marks-obey-spec =
     held-of-requires
     next-in-requires
     loop-holds
-    mark-obeys-requires
+    mul-lowest
+    shared-slice-read-lowest
+    lowest-requires
+    row-requires
+    missing-requires
     same-length
     returns
     add-next-in

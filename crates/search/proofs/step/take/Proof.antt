@@ -1,6 +1,7 @@
 -- `search::step::take` meets its contract.
 -- Assumes nothing.
 use borrow.Author.Needs.{needs}
+use Rattle.search.proofs.Copies.{splice-twice}
 use Rattle.search.proofs.Stepping.{below-slots, take-refused, take-reads, take-counts, take-steps, take-room, take-slot, take-taken}
 use Rattle.search.proofs.step.take.Statement.{statement}
 use Rattle.search.proofs.step.take.Tie as tie
@@ -24,25 +25,22 @@ returns : tie.Need-returns
 returns c = take-refused _ _ _ _ _ _ _ (c .before .before .before .before .before .before .pre) _ (c .before .refusal-of .ensures) (c .if1 .taken)
 
 with-checks-requires : tie.Need-with-checks-requires
-with-checks-requires c κs =
-    let a = c .before .before .before .before .before .before .args in
-    let e = c .before .refusal-of .ensures in
-    (take-reads _ _ _ (a .agenda .now) (a .top) _ (a .state) (c .before .before .before .before .before .before .pre) _ e (c .if1 .left), take-counts _ _ _ (a .agenda .now) (a .top) _ (a .state) (c .before .before .before .before .before .before .pre) _ e (c .if1 .left))
+with-checks-requires c κs = let a = c .before .before .before .before .before .before .args in (take-reads _ _ _ (a .agenda .now) (a .top) _ (a .state) (c .before .before .before .before .before .before .pre) _ (c .before .refusal-of .ensures) (c .if1 .left), take-counts _ _ _ (a .agenda .now) (a .top) _ (a .state) (c .before .before .before .before .before .before .pre) _ (c .before .refusal-of .ensures) (c .if1 .left))
 
-replace-requires : tie.Need-replace-requires
-replace-requires c κs =
-    let a = c .before .before .before .before .before .before .before .before .args in
-    let e = c .before .before .before .refusal-of .ensures in
-    (record { reads = take-reads _ _ _ (a .agenda .now) (a .top) _ (a .state) (c .before .before .before .before .before .before .before .before .pre) _ e (c .before .before .if1 .left); room = take-room _ _ _ (a .agenda .now) (a .top) _ (a .state) (c .before .before .before .before .before .before .before .before .pre) _ e (c .before .before .if1 .left) }, take-slot _ _ _ (a .agenda .now) (a .top) _ (a .state) (c .before .before .before .before .before .before .before .before .pre) _ e (c .before .before .if1 .left))
+clear-slot-requires : tie.Need-clear-slot-requires
+clear-slot-requires c κs = let a = c .before .before .before .before .before .before .before .before .args in record { few = c .before .before .before .before .before .before .before .before .pre .ready .fitting .few; within = take-slot _ _ _ (a .agenda .now) (a .top) _ (a .state) (c .before .before .before .before .before .before .before .before .pre) _ (c .before .before .before .refusal-of .ensures) (c .before .before .if1 .left) }
 
-add-t20 : tie.Need-add-t20
-add-t20 c = let a = c .before .before .before .before .before .before .before .before .before .before .before .args in record { fits = take-steps _ _ _ (a .agenda .now) (a .top) _ (a .state) (c .before .before .before .before .before .before .before .before .before .before .before .pre) _ (c .before .before .before .before .before .before .refusal-of .ensures) (c .before .before .before .before .before .if1 .left) }
+place-requires : tie.Need-place-requires
+place-requires c κs = let a = c .before .before .before .before .before .before .before .before .before .before .before .before .args in let room = take-room _ _ _ (a .agenda .now) (a .top) _ (a .state) (c .before .before .before .before .before .before .before .before .before .before .before .before .pre) _ (c .before .before .before .before .before .before .before .refusal-of .ensures) (c .before .before .before .before .before .before .if1 .left) in record { reads = take-reads _ _ _ (a .agenda .now) (a .top) _ (a .state) (c .before .before .before .before .before .before .before .before .before .before .before .before .pre) _ (c .before .before .before .before .before .before .before .refusal-of .ensures) (c .before .before .before .before .before .before .if1 .left); room = search needs }
+
+add-t23 : tie.Need-add-t23
+add-t23 c = let a = c .before .before .before .before .before .before .before .before .before .before .before .before .before .before .before .args in record { fits = take-steps _ _ _ (a .agenda .now) (a .top) _ (a .state) (c .before .before .before .before .before .before .before .before .before .before .before .before .before .before .before .pre) _ (c .before .before .before .before .before .before .before .before .before .before .refusal-of .ensures) (c .before .before .before .before .before .before .before .before .before .if1 .left) }
 
 same-length : tie.Need-same-length
 same-length c = search needs
 
 returns-2 : tie.Need-returns-2
-returns-2 c = take-taken _ _ _ _ _ _ _ (c .before .before .before .before .before .before .before .before .before .before .before .pre) _ (c .before .before .before .before .before .before .refusal-of .ensures) (c .before .before .before .before .before .if1 .left) _ _ _ (c .before .before .replace .ensures) (c .before .before .before .before .with-checks .ensures)
+returns-2 c = take-taken _ _ _ _ _ _ _ (c .before .before .before .before .before .before .before .before .before .before .before .before .before .before .before .pre) _ (c .before .before .before .before .before .before .before .before .before .before .refusal-of .ensures) (c .before .before .before .before .before .before .before .before .before .if1 .left) _ _ _ (record { count = c .before .before .place .ensures .count; words = splice-twice _ _ _ _ _ _ (c .before .before .place .ensures .words) (c .before .before .before .before .before .before .clear-slot .ensures) }) (c .before .before .before .before .before .before .before .before .with-checks .ensures)
 
 pub take-spec : {M : Type 1} → statement M
 take-spec =
@@ -55,7 +53,8 @@ take-spec =
     refusal-of-requires
     returns
     with-checks-requires
-    replace-requires
-    add-t20
+    clear-slot-requires
+    place-requires
+    add-t23
     same-length
     returns-2)
