@@ -17,10 +17,11 @@ use Rattle.splits.specs.declared.subproblem.Subproblem.{Subproblem}
 use Rattle.splits.proofs.Tests.{every-at, every-all}
 use Rattle.search.specs.Agenda.{problemOf, holding, subproblemOf, slotAt}
 use Rattle.search.specs.Work.Slots.{SlotIn}
-use Rattle.search.specs.Work.FirstTests.{Mirrored, Next, heldAt, besideAt, markObeys, SameMarks, AsBelow, TellsSame, TellsBelow, MarksKnown, slotObeys}
+use Rattle.search.specs.Work.FirstTests.{Mirrored, Next, heldAt, besideAt, markObeys, SameMarks, AsBelow, TellsSame, TellsBelow, MarksKnown}
 use Rattle.search.proofs.Encoding.{slot-part, slot-long}
 use Rattle.search.proofs.Copies.{slot-below}
 use Rattle.search.proofs.Obeying.{is-marked}
+use Rattle.search.proofs.FirstParts.{slotObeys}
 use Rattle.search.proofs.Marked.{slot-domain, mark-none, slot-known}
 
 -- ---- from mark to mark

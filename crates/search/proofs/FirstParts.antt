@@ -18,7 +18,7 @@ use Rattle.splits.specs.declared.subproblem.Subproblem.{Subproblem}
 use Rattle.splits.proofs.Tests.{and-left, and-right, or-left, or-right, or-cases, every-at, every-all, same-test}
 use Rattle.search.specs.Agenda.{problemOf, stackOf, slotsIn, slotAt, subproblemOf}
 use Rattle.search.specs.FirstChecks.{refusalOfNumbers, wholeSlots, refusalOfLengths, masksBelow, symmetric, refusalOfProblem, obeys, allObey, zerosFrom, refusalOfSearch, orElse, sizesRefusal, openRefusal}
-use Rattle.search.specs.Work.FirstTests.{Fitting, domainBelow, maskBelow, pairBelow, rowBelow, bothWays, valueBothWays, pairBothWays, rowBothWays, slotObeys}
+use Rattle.search.specs.Work.FirstTests.{Fitting, domainBelow, maskBelow, pairBelow, rowBelow, bothWays, valueBothWays, pairBothWays, rowBothWays}
 
 -- ---- symmetry
 
@@ -109,6 +109,10 @@ and-turn true true = refl
 and-turn true false = refl
 and-turn false true = refl
 and-turn false false = refl
+
+-- The subproblem in slot k obeys the rules.
+unfoldable pub slotObeys : Problem → ℕ → List ℕ → ℕ → Bool
+slotObeys p n agenda k = obeys p (subproblemOf n (slotAt n agenda k))
 
 -- The subproblems of the first m slots obey the rules where each of the slots' does.
 pub all-slots : (p : Problem) (n : ℕ) (agenda : List ℕ) (m : ℕ) → every m (slotObeys p n agenda) ≡ allObey p (stackOf n agenda m)

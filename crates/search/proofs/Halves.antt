@@ -7,7 +7,7 @@ use Prim.Native.Nat.{ℕ, _+_, _-_, _*_, _/_, _%_, _^_, _≤_, _<_, min, max}
 use native.Mathlib.Omega.{arith}
 use native.Mathlib.Decide.{decLt, ℕ-discrete}
 use lib.ListN.{length, getD, set, take, drop, replicate, length-set, length-append, length-take, length-drop, length-replicate, List·getD-append}
-use lib.Seq.{length-take-le, getD-set-same, getD-set-other, getD-take, getD-drop, getD-append-add, take-take, ext-getD}
+use lib.Seq.{length-take-le, getD-set-same, getD-set-other, getD-take, getD-append-add, take-take, ext-getD}
 use lib.Bits.{bitOr, bitXor, xor-zero-r, or-zero-r}
 use lib.Pow.{pow-mono, pow-pos}
 use lib.Dec.{eqb, ltb, leb}

@@ -24,9 +24,9 @@ use Rattle.splits.proofs.Subproblems.{shifted}
 use Rattle.splits.proofs.Tests.{and-left, and-right, every-at, every-all, same-test}
 use Rattle.search.specs.Agenda.{problemOf, holding, subproblemOf}
 use Rattle.search.specs.FirstChecks.{masksBelow, symmetric, refusalOfProblem, domainObeys, valuesAgree, obeys}
-use Rattle.search.specs.Work.FirstTests.{SlotFits, Next, joined, partWrong, wrongIn, pairAgrees, heldAt, besideAt, Held, missingIn, markObeys}
+use Rattle.search.specs.Work.FirstTests.{SlotFits, Next, joined, partWrong, wrongIn, heldAt, besideAt, Held, missingIn, markObeys}
 use Rattle.search.proofs.Joining.{joined-zero, joined-more, bit-shr}
-use Rattle.search.proofs.Obeying.{is-marked, agrees-same, agrees-first, agrees-second, agrees-both}
+use Rattle.search.proofs.Obeying.{pairAgrees, is-marked, agrees-same, agrees-first, agrees-second, agrees-both}
 use Rattle.search.proofs.Copies.{zeros-at}
 
 -- ---- one domain

@@ -1,7 +1,7 @@
--- What the code finds of the values of two variables is what the tests say.
+-- Two variables whose values are allowed together if both are instantiated, and how small the numbers on the way to a mask of theirs are.
 -- Assumes nothing.
 use mathlib.Core.Path.{_≡_, _∙_}
-use mathlib.Core.Bool.{Bool, true, false, not, or-true}
+use mathlib.Core.Bool.{Bool, true, false, not, _||_, or-true}
 use mathlib.Core.List.{List}
 use Prim.Native.Nat.{ℕ, _+_, _-_, _*_, _≤_, _<_}
 use native.Mathlib.Omega.{arith}
@@ -9,12 +9,18 @@ use native.Mathlib.Nat.{mul-le-mul}
 use lib.Arith.{digits-lt}
 use lib.Dec.{eqb}
 use borrow.Author.Tests.{eq-eqb, ne-eqb}
-use Rattle.splits.specs.Masks.{bit}
+use Rattle.splits.specs.Masks.{bit, lowest}
 use Rattle.splits.specs.Problem.{Table}
+use Rattle.splits.specs.Subproblems.{domain}
 use Rattle.splits.specs.Ranges.{Sized}
 use Rattle.splits.specs.declared.subproblem.Subproblem.{Subproblem}
 use Rattle.splits.proofs.Refusals.{lacks}
-use Rattle.search.specs.Work.FirstTests.{pairAllowed, pairAgrees}
+
+abbrev pub pairAllowed : Table → Subproblem → ℕ → ℕ → Bool
+pairAllowed allowed P i j = eqb (bit (allowed i j (lowest (domain P i))) (lowest (domain P j))) 1
+
+unfoldable pub pairAgrees : Table → Subproblem → ℕ → ℕ → Bool
+pairAgrees allowed P i j = eqb i j || eqb (bit (P .marked) i) 0 || eqb (bit (P .marked) j) 0 || pairAllowed allowed P i j
 
 -- a variable in the set is not out of it
 pub is-marked : (P : Subproblem) (marked i : ℕ) → marked ≡ P .marked → bit marked i ≡ 1 → eqb (bit (P .marked) i) 0 ≡ false

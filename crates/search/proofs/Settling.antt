@@ -155,7 +155,7 @@ module _ (n d : ℕ) (t : List ℕ) (P : Subproblem) (fit : Sized n d t) (reg : 
       value = low ∙ ap lowest its;
       values = rw is-fewest (omega (arith, key-is, variable-below n P runs, fit .few));
       row = r;
-      none = e ∙ lost-is n d (tableOf n d t) P V′ v (fit .few) reg (its-variable V′ is-fewest) (its-value V′ v is-fewest (low ∙ ap lowest its)) row r;
+      lost = e ∙ lost-is n d (tableOf n d t) P V′ v (fit .few) reg (its-variable V′ is-fewest) (its-value V′ v is-fewest (low ∙ ap lowest its)) row r;
     }
 
   -- ---- what it tells
@@ -186,7 +186,7 @@ module _ (n d : ℕ) (t : List ℕ) (P : Subproblem) (fit : Sized n d t) (reg : 
     -- One piece at most.
     pub left-is : several c ≡ false → pieces n (tableOf n d t) P (requestBy c (cond (c .lost) 2 3)) ≡ leftBy P c
     unfolding several leftBy
-    left-is s = go (c .lost) (sym (h .none)) (eqb (c .values) 1) refl s
+    left-is s = go (c .lost) (sym (h .lost)) (eqb (c .values) 1) refl s
       where
         more : eqb (c .values) 1 ≡ false → size (domain P (c .variable)) ≡ 1 → ⊥
         more e z = eqb-false (c .values) 1 e (h .values ∙ z)
@@ -233,7 +233,7 @@ module _ (n d : ℕ) (t : List ℕ) (P : Subproblem) (fit : Sized n d t) (reg : 
 
     pub chosen-by : (free : ℕ) → chosenFor n d t P free ≡ requestBy c (kindBy free)
     unfolding chosenFor kindFor kindBy
-    chosen-by free = rw (← h .variable, ← h .value, ← h .none) refl
+    chosen-by free = rw (← h .variable, ← h .value, ← h .lost) refl
 
 -- ---- the step
 
@@ -330,7 +330,7 @@ module _ (n d : ℕ) (t : List ℕ) (P : Subproblem) (c : Choice) (below words :
   put-precluded = precluded-is n d t P (h .fitting) (h .regular) (h .runs) c (h .found)
 
   pub put-kept : several c ≡ true → empty n (precluded n (tableOf n d t) P (c .variable) (c .value)) ≡ false
-  put-kept s = sym (h .found .none) ∙ several-kept c s
+  put-kept s = sym (h .found .lost) ∙ several-kept c s
 
   pub put-rest : several c ≡ true → empty n (without P (c .variable) (single (c .value))) ≡ false
   put-rest s = rest-full n d (tableOf n d t) P (c .variable) (c .value) (h .fitting .few) (h .regular) put-variable put-member (several-more n d t P c (h .found) s)

@@ -89,7 +89,7 @@ module _ (n d : ℕ) (t : List ℕ) (P : Subproblem) (c : Choice) (below words :
   cut-some : (i : ℕ) → i < n → (i ≡ c .variable → ⊥) → common (domain P i) (tableOf n d t (c .variable) i (c .value)) ≡ 0 → ⊥
   cut-some i l k z =
       let none =
-      precluded-empty n (tableOf n d t) P (c .variable) (c .value) (h .regular .shape .long) below-n few ∙ sym (h .found .none) ∙ several-kept c s in
+      precluded-empty n (tableOf n d t) P (c .variable) (c .value) (h .regular .shape .long) below-n few ∙ sym (h .found .lost) ∙ several-kept c s in
       let at = some-none (λ i. not (eqb i (c .variable)) && eqb (common (domain P i) (tableOf n d t (c .variable) i (c .value))) 0) n i l none in
       true-false (rw (ne-eqb i (c .variable) k, eq-eqb (common (domain P i) (tableOf n d t (c .variable) i (c .value))) 0 z) at at)
 

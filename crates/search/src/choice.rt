@@ -129,8 +129,8 @@ fn further_piece(further: Further, sides: &[u16], j: usize) -> Subproblem
     further.rest.cut_each(lanes::further(row, sides, j))
 }
 
-// Kind 3's pieces, the last named in the place of the top, the others above; the number of subproblems then. Here and below `d` and `tables` are
-// what the contract speaks of: the code has the choice's row.
+// Kind 3's pieces, the last named in the place of the top, the others above; the number of subproblems then. Of `d` and `tables` the contract
+// speaks here and in `put_two`: the code has the choice's row.
 fn spread(
     top: Subproblem,
     n: usize,

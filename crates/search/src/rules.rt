@@ -6,7 +6,6 @@ use splits::mask;
 ghost use mathlib.Core.Path.{_≡_};
 ghost use Prim.Native.Nat.{_+_, _*_, _≤_, _<_};
 ghost use lib.ListN.{length};
-ghost use Rattle.splits.specs.Masks.{bit};
 ghost use Rattle.splits.specs.Problem.{tableOf};
 ghost use Rattle.splits.specs.Subproblems.{every};
 ghost use Rattle.search.specs.Agenda.{problemOf, subproblemOf, stackOf};

@@ -71,18 +71,12 @@ padded d row a = cond (ltb a d) (row a) 0
 unfoldable pub oneWay : ℕ → Table → ℕ → ℕ → ℕ
 oneWay d allowed i j = difference (columns (matrixOf (padded d (allowed i j)))) (matrixOf (padded d (allowed j i)))
 
--- 6: what is wrong with a domain beside the problem's, and with each of a slot's; the values of two variables, if both are instantiated.
+-- 6: what is wrong with a domain beside the problem's, and with each of a slot's.
 unfoldable pub partWrong : ℕ → ℕ → ℕ
 partWrong whole m = cond (eqb m 0) 1 (minus m whole)
 
 unfoldable pub wrongIn : List ℕ → List ℕ → ℕ → ℕ
 wrongIn domains slot i = partWrong (getD domains i 0) (getD slot i 0)
-
-abbrev pub pairAllowed : Table → Subproblem → ℕ → ℕ → Bool
-pairAllowed allowed P i j = eqb (bit (allowed i j (lowest (domain P i))) (lowest (domain P j))) 1
-
-unfoldable pub pairAgrees : Table → Subproblem → ℕ → ℕ → Bool
-pairAgrees allowed P i j = eqb i j || eqb (bit (P .marked) i) 0 || eqb (bit (P .marked) j) 0 || pairAllowed allowed P i j
 
 -- The domains of the instantiated variables alone; what is allowed beside the lowest value of i, and for i itself that value alone; an
 -- instantiated variable holds this, and so does every other beside it.
@@ -135,7 +129,3 @@ TellsBelow n agenda k r = r ≡ true → AsBelow n agenda k
 -- What is known of a slot's instantiated variables is so.
 abbrev pub MarksKnown : ℕ → ℕ → List ℕ → List ℕ → Bool → Type 0
 MarksKnown n d tables slot known = known ≡ true → every n (markObeys n (tableOf n d tables) (subproblemOf n slot)) ≡ true
-
--- The subproblem in slot k obeys the rules.
-unfoldable pub slotObeys : Problem → ℕ → List ℕ → ℕ → Bool
-slotObeys p n agenda k = obeys p (subproblemOf n (slotAt n agenda k))

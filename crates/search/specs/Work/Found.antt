@@ -1,4 +1,4 @@
--- What the chooser finds of a top subproblem, and what is left of the top where that is one piece at most.
+-- A step of the chooser: what it finds of a top subproblem, the pieces as the code makes them of that, and where they are put.
 use mathlib.Core.Path.{_≡_}
 use mathlib.Core.Bool.{Bool, true, false, cond}
 use mathlib.Core.List.{List, [], _∷_}
@@ -30,7 +30,7 @@ pub record Found (n d : ℕ) (tables : List ℕ) (P : Subproblem) (c : Choice) :
   pub value : c .value ≡ lowest (domain P (c .variable))
   pub values : c .values ≡ size (domain P (c .variable))
   pub row : RowOf n (tableOf n d tables) (c .variable) (c .value) (c .row)
-  pub none : c .lost ≡ empty n (precluded n (tableOf n d tables) P (c .variable) (c .value))
+  pub lost : c .lost ≡ empty n (precluded n (tableOf n d tables) P (c .variable) (c .value))
 
 -- The piece that is left, or none: where the precluded piece is empty V without its value, else the precluded piece.
 unfoldable pub leftBy : Subproblem → Choice → List Subproblem

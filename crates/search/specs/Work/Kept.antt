@@ -14,7 +14,7 @@ pub record Regular (n d : ℕ) (P : Subproblem) : Type 0 where
   pub shape : Shape n d P
   pub filled : (i : ℕ) → i < n → domain P i ≡ 0 → ⊥
 
--- Memory of whole slots holds the search of a stack and two counts.
+-- Memory of whole slots holds the search of a stack and two counts; 512 checks a step is more than are ever made, and keeps their sum small.
 pub record Ready (n d : ℕ) (tables agenda : List ℕ) (s : Search) : Type 0 where
   pub fitting : Sized n d tables
   pub whole : length agenda ≡ slotsIn n (length agenda) * (n + 2)

@@ -6,11 +6,10 @@ use Prim.Native.Nat.{_-_, _≤_}
 use native.Mathlib.Omega.{arith}
 use Rattle.splits.specs.Subproblems.{every}
 use Rattle.search.specs.Agenda.{problemOf}
-use Rattle.search.specs.Work.FirstTests.{slotObeys}
 use Rattle.search.proofs.Copies.{slot-below}
 use Rattle.search.proofs.Encoding.{slot-read}
 use Rattle.search.proofs.FirstLoops.{every-start, every-stop, every-turn, every-end}
-use Rattle.search.proofs.FirstParts.{all-slots, slot-obeys}
+use Rattle.search.proofs.FirstParts.{slotObeys, all-slots, slot-obeys}
 use Rattle.search.specs.Work.Lanes.{Rows}
 use Rattle.search.proofs.Beside.{rows-none}
 use Rattle.search.proofs.Alike.{marks-known}
