@@ -14,7 +14,7 @@ use Rattle.splits.specs.Subproblems.{domain, empty, some}
 use Rattle.splits.specs.Splits.{filled, keep, below, precluded, disjunct, without, cutBeside, changed, instantiate, extract, atTargets}
 use Rattle.splits.specs.Shortcuts.{skipping, weak, weakDisjunct, untargeted, pair-top}
 use Rattle.splits.specs.Measure.{sum, unmarked, measure}
-use Rattle.splits.specs.Promises.{Sound, Cover, Exact, Obeys, Sizes, Apart, Falls, Peel, Solved, Skipping-loses, Weak-overlaps, One-value-lies, Dropping-loses, No-constraint, Lowest-value, Smaller-half-of, One-by-one, By-row, At-most-496, Refusal-7, Refusal-8, Refusal-9, Refusal-10, Refusal-none, Reads-refusal, Reads-pieces, Reads-checks, Diagonal-piece, Diagonal-precluded, Diagonal-precluded-empty, Diagonal-checks, Count-one, Lowest-one, Has-one, Smaller-half-one, Domain-one, Is-instantiated-one, All-instantiated-one, Is-empty-one, Instantiate-one, Without-one, Cut-one, Cut-each-one, Precluded-by-one, Precluded-one, Precluded-empty-one, Candidates-one, Piece-one, Checks-one, Refusal-one}
+use Rattle.splits.specs.Promises.{Sound, Cover, Exact, Obeys, Sizes, Apart, Falls, Peel, Solved, Skipping-loses, Weak-overlaps, One-value-lies, Dropping-loses, No-constraint, Lowest-value, Smaller-half-of, One-by-one, By-row, At-most-496, Refusal-7, Refusal-8, Refusal-9, Refusal-10, Refusal-none, Reads-refusal, Reads-pieces, Reads-checks, Diagonal-piece, Diagonal-precluded, Diagonal-checks, Count-one, Lowest-one, Has-one, Smaller-half-one, Domain-one, Is-instantiated-one, All-instantiated-one, Is-empty-one, Instantiate-one, Without-one, Cut-one, Cut-each-one, Precluded-by-one, Precluded-one, Candidates-one, Piece-one, Checks-one, Refusal-one}
 use Rattle.splits.specs.declared.subproblem.Subproblem.{Subproblem}
 use Rattle.splits.proofs.Masks.{size-single, all-set, lowest-member, lowest-least, half-part, half-size, half-below}
 use Rattle.splits.proofs.Splitting.{lowest-in}
@@ -137,9 +137,6 @@ diagonal-piece P n d tables others request k r h = apart-piece n d tables others
 pub diagonal-precluded : Diagonal-precluded
 diagonal-precluded P n d tables others V′ v r h e = e ∙ apart-precluded n d tables others h P V′ v
 
-pub diagonal-precluded-empty : Diagonal-precluded-empty
-diagonal-precluded-empty P n d tables others V′ v r h e = e ∙ ap (empty n) (apart-precluded n d tables others h P V′ v)
-
 pub diagonal-checks : Diagonal-checks
 diagonal-checks P n d tables others request r h = apart-checks n d tables others h P request r
 
@@ -184,9 +181,6 @@ precluded-by-one P variable row = one _
 
 pub precluded-one : Precluded-one
 precluded-one P n d tables variable value = one _
-
-pub precluded-empty-one : Precluded-empty-one
-precluded-empty-one P n d tables variable value = one _
 
 pub candidates-one : Candidates-one
 candidates-one n request = one _

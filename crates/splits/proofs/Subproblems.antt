@@ -1,10 +1,10 @@
 -- What the methods of a subproblem write is what the rules say, at a variable of the 32 and past them.
 -- Assumes nothing.
 use mathlib.Core.Path.{_≡_, refl, sym, ap, _∙_}
-use mathlib.Core.Bool.{Bool, true, false, not, cond, _&&_, and-false}
+use mathlib.Core.Bool.{true, false, not, cond, _&&_}
 use mathlib.Core.List.{List}
 use Prim.Native.Nat.{ℕ, zero, suc, _+_, _-_, _*_, _%_, _^_, _≤_, _<_}
-use native.Mathlib.Nat.{one-mul, mod-eq-of-lt, le-trans, le-refl, mod-one, mod-lt, le-antisymm, lt-irrefl}
+use native.Mathlib.Nat.{one-mul, mod-eq-of-lt, le-trans, le-refl, mod-one, mod-lt, lt-irrefl}
 use native.Mathlib.Decide.{ℕ-discrete}
 use lib.ListN.{length, getD, set, List·getD-eq-default}
 use lib.Seq.{set-out, set-getD, getD-set-same, getD-set-other}
@@ -19,7 +19,6 @@ use Rattle.splits.specs.Calls.{inside}
 use Rattle.splits.proofs.Tests.{some-at, some-more, same-test, and-left, and-right, every-not, some-same}
 use Rattle.splits.proofs.Ranges.{inside-true}
 use Rattle.splits.specs.Splits.{instantiate, without, cut, cutBeside, atTargets, precluded, changed}
-use Rattle.splits.specs.Work.Loops.{precludedEmpty}
 use Rattle.splits.specs.declared.subproblem.Subproblem.{Subproblem}
 use native.Mathlib.Numerals.{add-one, one-add}
 use native.Mathlib.Omega.{arith}
@@ -142,28 +141,7 @@ unfolding instantiated
 marks-over P n h k =
     sym (every-not (λ i. eqb (bit (P .marked) i) 1) n 32 k (simp (bit-above 32 (P .marked) 32 h (le-refl 32))))
 
--- the loop that looks for an empty cut
-module _ (allowed : Table) (P : Subproblem) (V′ v : ℕ) where
-  beside-none : ℕ → Bool
-  beside-none i = not (eqb i V′) && eqb (common (domain P i) (allowed V′ i v)) 0
-
-  pub cut-empty-at : (n i a : ℕ) → i < n → (i ≡ V′ → ⊥) → a ≡ allowed V′ i v → common (domain P i) a ≡ 0 → true ≡ precludedEmpty n allowed P V′ v
-  unfolding precludedEmpty beside-none
-  cut-empty-at n i a h k s e = sym (some-at beside-none n i h (rw (ne-eqb i V′ k, ← s) (eq-eqb (common (domain P i) a) 0 e)))
-
-  pub cut-empty-more : (i a : ℕ) → precludedEmpty i allowed P V′ v ≡ false → a ≡ allowed V′ i v → (common (domain P i) a ≡ 0 → ⊥)
-      → precludedEmpty (i + 1) allowed P V′ v ≡ false
-  unfolding precludedEmpty beside-none
-  cut-empty-more i a h s e = some-more beside-none i h (rw (← s, ne-eqb (common (domain P i) a) 0 e) (and-false (not (eqb i V′))))
-
-  pub cut-empty-skip : (i : ℕ) → precludedEmpty i allowed P V′ v ≡ false → i ≡ V′ → precludedEmpty (i + 1) allowed P V′ v ≡ false
-  unfolding precludedEmpty beside-none
-  cut-empty-skip i h e = some-more beside-none i h (rw (eq-eqb i V′ e))
-
-  pub cut-empty-end : (n i : ℕ) → i ≤ n → n ≤ i → precludedEmpty i allowed P V′ v ≡ false → false ≡ precludedEmpty n allowed P V′ v
-  cut-empty-end n i h k e = sym e ∙ ap (λ (m : ℕ). precludedEmpty m allowed P V′ v) (le-antisymm h k)
-
--- it tells whether the precluded piece is empty
+-- the precluded piece is empty where some other variable has no value allowed beside v
 pub precluded-empty : (n : ℕ) (allowed : Table) (P : Subproblem) (V′ v : ℕ) → length (P .domains) ≡ 32 → V′ < n → n ≤ 32
     → some n (λ i. not (eqb i V′) && eqb (common (domain P i) (allowed V′ i v)) 0) ≡ empty n (precluded n allowed P V′ v)
 unfolding empty precluded instantiate cutBeside
@@ -182,12 +160,3 @@ precluded-empty n allowed P V′ v e h k = some-same _ _ n (λ i l. go i l (ℕ-
         let short : i < length (P .domains) = rw e (le-trans l k) in
         rw (ne-eqb i V′ s, getD-set-other (changed n besides′ (P .domains)) V′ i (single v) 0 s, changed-before n besides′ (P .domains) i l short, ne-eqb i V′ s)
         refl
-
--- and so does the public call
-pub precluded-empty-made : (n d : ℕ) (t : List ℕ) (P : Subproblem) (V′ v : ℕ) (r : Bool) → length (P .domains) ≡ 32 → inside n d t V′ v ≡ true
-    → r ≡ precludedEmpty n (tableOf n d t) P V′ v
-    → r ≡ empty n (cond (inside n d t V′ v) (precluded n (tableOf n d t) P V′ v) P)
-unfolding precludedEmpty
-precluded-empty-made n d t P V′ v r e h q =
-    let f = inside-true n d t V′ v h in
-    rw h (q ∙ precluded-empty n (tableOf n d t) P V′ v e (f .a-variable) (f .fit .few))

@@ -2,7 +2,7 @@
 use mathlib.Core.Path.{_≡_}
 use mathlib.Core.Bool.{Bool, cond, _&&_}
 use mathlib.Core.List.{List}
-use Prim.Native.Nat.{ℕ, _-_, _*_}
+use Prim.Native.Nat.{ℕ, _*_}
 use lib.ListN.{length}
 use lib.Dec.{eqb, leb, ltb}
 use Rattle.splits.specs.Masks.{bit, size, lowest, smallerHalf}
@@ -73,11 +73,6 @@ Precluded-by P variable row r = r ≡ cond (ltb variable 32) (precludedBy P vari
 abbrev pub Precluded : Subproblem → ℕ → ℕ → List ℕ → ℕ → ℕ → Subproblem → Type 0
 Precluded P n d tables variable value r =
     r ≡ cond (inside n d tables variable value) (precluded n (tableOf n d tables) P variable value) P
-
--- Whether the precluded piece would be empty; of numbers or tables that do not fit, whether the subproblem is.
-abbrev pub Precluded-empty : Subproblem → ℕ → ℕ → List ℕ → ℕ → ℕ → Bool → Type 0
-Precluded-empty P n d tables variable value r =
-    r ≡ empty n (cond (inside n d tables variable value) (precluded n (tableOf n d tables) P variable value) P)
 
 -- How many places the kind of a request has; 0 for more than 32 variables.
 abbrev pub Candidates : ℕ → List ℕ → ℕ → Type 0

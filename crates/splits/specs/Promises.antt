@@ -1,7 +1,6 @@
 -- What the five splits promise, of any proper problem, any subproblem P on the agenda and any accepted request.
 use mathlib.Core.Path.{_≡_}
 use mathlib.Core.Logic.{_⊎_, _↔_}
-use mathlib.Core.Bool.{Bool}
 use mathlib.Core.List.{List, [], _∷_, map, List·Memᴰ}
 use Prim.Native.Nat.{ℕ, _+_, _-_, _/_, _^_, _≤_, _<_}
 use lib.ListN.{length, getD}
@@ -15,7 +14,7 @@ use Rattle.splits.specs.Refusals.{Accepted, Deserves-7, Deserves-8, Dese
 use Rattle.splits.specs.Measure.{sum, measure}
 use Rattle.splits.specs.Shortcuts.{skipping, weak, untargeted, two, two-top, three, three-top, pair, pair-top}
 use Rattle.splits.specs.declared.subproblem.Subproblem.{Subproblem}
-use Rattle.splits.specs.Calls.{Count, Lowest, Has, Smaller-half, Domain, Is-instantiated, All-instantiated, Is-empty, Instantiate, Without, Cut, Cut-each, Precluded-by, Precluded, Precluded-empty, Candidates, Piece, Checks-of, Refusal-of}
+use Rattle.splits.specs.Calls.{Count, Lowest, Has, Smaller-half, Domain, Is-instantiated, All-instantiated, Is-empty, Instantiate, Without, Cut, Cut-each, Precluded-by, Precluded, Candidates, Piece, Checks-of, Refusal-of}
 
 -- The request r, accepted, splits P, a subproblem that obeys the rules, of the proper problem p.
 pub record Splits (p : Problem) (P : Subproblem) (r : List ℕ) : Type 0 where
@@ -228,12 +227,6 @@ Diagonal-precluded =
     (P : Subproblem) (n d : ℕ) (tables others : List ℕ) (V′ v : ℕ) (r : Subproblem) → AgreeApart n d tables others
     → Precluded P n d tables V′ v r → Precluded P n d others V′ v r
 
--- Nor does whether it is empty.
-abbrev pub Diagonal-precluded-empty : Type 0
-Diagonal-precluded-empty =
-    (P : Subproblem) (n d : ℕ) (tables others : List ℕ) (V′ v : ℕ) (r : Bool) → AgreeApart n d tables others
-    → Precluded-empty P n d tables V′ v r → Precluded-empty P n d others V′ v r
-
 -- Nor does a count of checks.
 abbrev pub Diagonal-checks : Type 0
 Diagonal-checks =
@@ -301,10 +294,6 @@ Precluded-by-one = (P : Subproblem) (variable : ℕ) (row : List ℕ) → One (P
 -- The precluded piece.
 abbrev pub Precluded-one : Type 0
 Precluded-one = (P : Subproblem) (n d : ℕ) (tables : List ℕ) (variable value : ℕ) → One (Precluded P n d tables variable value)
-
--- Whether the precluded piece is empty.
-abbrev pub Precluded-empty-one : Type 0
-Precluded-empty-one = (P : Subproblem) (n d : ℕ) (tables : List ℕ) (variable value : ℕ) → One (Precluded-empty P n d tables variable value)
 
 -- How many places the kind of a request has.
 abbrev pub Candidates-one : Type 0

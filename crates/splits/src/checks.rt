@@ -8,7 +8,7 @@ ghost use Prim.Native.Nat.{_+_, _<_, _≤_};
 ghost use Rattle.splits.specs.Problem.{tableOf};
 ghost use Rattle.splits.specs.Splits.{forbids, instantiatedOther};
 ghost use Rattle.splits.specs.Checks.{valuesIn, others};
-ghost use Rattle.splits.specs.Calls.{Checks-of, readable};
+ghost use Rattle.splits.specs.Calls.{Checks-of};
 ghost use Rattle.splits.specs.Ranges.{Inside};
 ghost use Rattle.splits.specs.Work.Loops.{LookedAt};
 

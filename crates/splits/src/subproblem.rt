@@ -6,9 +6,8 @@ ghost use mathlib.Core.Path.{_≡_};
 ghost use Prim.Native.Nat.{_+_, _<_, _≤_};
 ghost use Rattle.splits.specs.Problem.{tableOf};
 ghost use Rattle.splits.specs.Splits.{cutBeside, atTargets};
-ghost use Rattle.splits.specs.Calls.{Domain, Is-instantiated, All-instantiated, Is-empty, Instantiate, Without, Cut, Cut-each, Precluded-by, Precluded, Precluded-empty};
+ghost use Rattle.splits.specs.Calls.{Domain, Is-instantiated, All-instantiated, Is-empty, Instantiate, Without, Cut, Cut-each, Precluded-by, Precluded};
 ghost use Rattle.splits.specs.Ranges.{Inside};
-ghost use Rattle.splits.specs.Work.Loops.{precludedEmpty};
 
 pub struct Subproblem {
     pub domains: [u16; 32],
@@ -177,39 +176,5 @@ impl Subproblem {
                 .instantiate(variable, value);
         }
         self
-    }
-
-    // Whether the precluded piece would be empty, without making it.
-    pub fn precluded_empty(
-        self,
-        n: usize,
-        d: usize,
-        tables: &[u16],
-        variable: usize,
-        value: usize,
-    ) -> bool
-        ensures { λ r. ⌜ Precluded-empty self n d (now (tables .entry)) variable value r ⌝ }
-    {
-        if tables::within(n, d, tables, variable, value) {
-            return self.cut_empty(n, d, tables, variable, value);
-        }
-        self.is_empty(n)
-    }
-
-    // Whether a variable other than `variable` has no value allowed beside `value`.
-    fn cut_empty(self, n: usize, d: usize, tables: &[u16], variable: usize, value: usize) -> bool
-        requires { ⌜ Inside n d (now tables) variable value ⌝ }
-        ensures { λ r. ⌜ r ≡ precludedEmpty n (tableOf n d (now (tables .entry))) self variable value ⌝ }
-    {
-        let mut i = 0;
-        while i < n {
-            if i != variable {
-                if self.domains[i] & tables::allowed(n, d, tables, variable, i, value) == 0 {
-                    return true;
-                }
-            }
-            i += 1;
-        }
-        false
     }
 }

@@ -1,18 +1,14 @@
 -- What a loop of the code works out, in the loop's own shape.
 use mathlib.Core.Path.{_≡_}
-use mathlib.Core.Bool.{Bool, not, cond, _&&_, _||_}
+use mathlib.Core.Bool.{Bool, cond, _||_}
 use Prim.Native.Nat.{ℕ}
 use lib.Dec.{eqb, leb}
-use Rattle.splits.specs.Masks.{common, bit, size}
+use Rattle.splits.specs.Masks.{bit, size}
 use Rattle.splits.specs.Problem.{Table}
-use Rattle.splits.specs.Subproblems.{domain, some}
+use Rattle.splits.specs.Subproblems.{domain}
 use Rattle.splits.specs.Splits.{forbidden}
 use Rattle.splits.specs.Checks.{tried, others}
 use Rattle.splits.specs.declared.subproblem.Subproblem.{Subproblem}
-
--- Some variable other than V has no value allowed beside v.
-unfoldable pub precludedEmpty : ℕ → Table → Subproblem → ℕ → ℕ → Bool
-precludedEmpty n allowed P V′ v = some n (λ i. not (eqb i V′) && eqb (common (domain P i) (allowed V′ i v)) 0)
 
 -- What kind 1 finds on its way: the count and whether it met a conflict.
 pub record LookedAt (n : ℕ) (allowed : Table) (P : Subproblem) (V′ v count : ℕ) (conflict : Bool) : Type 0 where
