@@ -41,13 +41,15 @@ pub cut-all : (P : Subproblem) (masks : List ℕ) → cutTo P masks 32 ≡ cutEa
 unfolding cutTo cutEach
 cut-all P masks = refl
 
--- The marks that the code joins.
-pub marked-by : (P Q : Subproblem) (V′ : ℕ) (row : List ℕ) → V′ < 32 → Q ≡ cutEach P row
-    → record { domains = Q .domains; marked = bitOr (Q .marked) (1 * 2 ^ V′ % 2 ^ 32) } ≡ cond (ltb V′ 32) (precludedBy P V′ row) P
+-- The marks that the code joins first.
+pub marked-by : (P Q : Subproblem) (V′ : ℕ) (row : List ℕ) → V′ < 32
+    → Q ≡ cutEach (record { domains = P .domains; marked = bitOr (P .marked) (1 * 2 ^ V′ % 2 ^ 32) }) row
+    → Q ≡ cond (ltb V′ 32) (precludedBy P V′ row) P
 unfolding precludedBy cutEach
 marked-by P Q V′ row h e =
     let bit : 1 * 2 ^ V′ % 2 ^ 32 ≡ single V′ = simp one-mul (mod-eq-of-lt (single-lt 32 V′ h)) in
-    rw (lt-ltb V′ 32 h, e) (λ t. record { domains = changed 32 (λ i m. common m (getD row i 0)) (P .domains); marked = bitOr (P .marked) (bit t) })
+    rw (lt-ltb V′ 32 h)
+    (e ∙ (λ t. record { domains = changed 32 (λ i m. common m (getD row i 0)) (P .domains); marked = bitOr (P .marked) (bit t) }))
 
 -- By the row of v, a value of V, the precluded piece.
 module _ (n : ℕ) (allowed : Table) (P : Subproblem) (V′ v : ℕ) (row : List ℕ) (few : n ≤ 32) (long : length (P .domains) ≡ 32)

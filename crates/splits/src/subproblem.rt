@@ -75,7 +75,7 @@ impl Subproblem {
             return self;
         }
         self.domains[variable] = mask::only(value);
-        self.marked = self.marked | (1 << variable);
+        self.marked |= 1 << variable;
         self
     }
 
@@ -84,7 +84,7 @@ impl Subproblem {
         ensures { λ r. ⌜ Without self variable mask r ⌝ }
     {
         if variable < 32 {
-            self.domains[variable] = self.domains[variable] & !mask;
+            self.domains[variable] &= !mask;
         }
         self
     }
@@ -94,7 +94,7 @@ impl Subproblem {
         ensures { λ r. ⌜ Cut self variable mask r ⌝ }
     {
         if variable < 32 {
-            self.domains[variable] = self.domains[variable] & mask;
+            self.domains[variable] &= mask;
         }
         self
     }
@@ -105,22 +105,21 @@ impl Subproblem {
     {
         let mut i = 0;
         while i < 32 {
-            self.domains[i] = self.domains[i] & masks[i];
+            self.domains[i] &= masks[i];
             i += 1;
         }
         self
     }
 
     // The precluded piece by its row: every domain cut to its own mask, and the variable, whose mask is its value alone, instantiated.
-    pub fn precluded_by(self, variable: usize, row: [u16; 32]) -> Subproblem
+    pub fn precluded_by(mut self, variable: usize, row: [u16; 32]) -> Subproblem
         ensures { λ r. ⌜ Precluded-by self variable row r ⌝ }
     {
         if 32 <= variable {
             return self;
         }
-        let mut piece = self.cut_each(row);
-        piece.marked = piece.marked | (1 << variable);
-        piece
+        self.marked |= 1 << variable;
+        self.cut_each(row)
     }
 
     // The variables before `j`, except `variable`, cut to the values allowed beside `value`.
@@ -139,8 +138,7 @@ impl Subproblem {
         let mut i = 0;
         while i < j {
             if i != variable {
-                self.domains[i] = self.domains[i]
-                    & tables::allowed(n, d, tables, variable, i, value);
+                self.domains[i] &= tables::allowed(n, d, tables, variable, i, value);
             }
             i += 1;
         }

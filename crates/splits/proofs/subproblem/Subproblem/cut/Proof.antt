@@ -13,9 +13,6 @@ mul-self c = search needs
 element-copy-out-self : tie.Need-element-copy-out-self
 element-copy-out-self c = search needs
 
-mul-self-2 : tie.Need-mul-self-2
-mul-self-2 c = search needs
-
 element-write-self : tie.Need-element-write-self
 element-write-self c = search needs
 
@@ -29,4 +26,4 @@ returns-2 c = cut-out _ _ _ (search needs) (c .if1 .left)
 pub cut-spec : {M : Type 1} → statement M
 cut-spec =
     tie.close
-    (tie.spec mul-self element-copy-out-self mul-self-2 element-write-self returns returns-2)
+    (tie.spec mul-self element-copy-out-self element-write-self returns returns-2)

@@ -29,9 +29,6 @@ mul-self-2 c = search needs
 array-read-self : tie.Need-array-read-self Inv-loop μ-loop
 array-read-self c = search needs
 
-mul-self-3 : tie.Need-mul-self-3 Inv-loop μ-loop
-mul-self-3 c = search needs
-
 element-write-self : tie.Need-element-write-self Inv-loop μ-loop
 element-write-self c = search needs
 
@@ -55,10 +52,9 @@ cut-each-spec =
     μ-loop
     loop-holds
     mul-self
-    element-copy-out-self
-    mul-self-2
     array-read-self
-    mul-self-3
+    mul-self-2
+    element-copy-out-self
     element-write-self
     add-i
     loop-less

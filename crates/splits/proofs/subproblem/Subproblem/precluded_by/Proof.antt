@@ -9,17 +9,17 @@ use Rattle.splits.proofs.subproblem.Subproblem.precluded_by.Tie as tie
 returns : tie.Need-returns
 returns c = simp (le-ltb _ _ (c .if1 .taken))
 
+cast-self : tie.Need-cast-self
+cast-self c = search needs
+
+shl-self : tie.Need-shl-self
+shl-self c = search needs
+
 cut-each-requires : tie.Need-cut-each-requires
 cut-each-requires c κs = search needs
 
-cast-piece : tie.Need-cast-piece
-cast-piece c = search needs
-
-shl-piece : tie.Need-shl-piece
-shl-piece c = search needs
-
 returns-2 : tie.Need-returns-2
-returns-2 c = marked-by _ _ _ _ (c .before .before .if1 .left) (c .before .cut-each .ensures)
+returns-2 c = marked-by _ _ _ _ (c .before .before .if1 .left) (c .cut-each .ensures)
 
 pub precluded-by-spec : {M : Type 1} → statement M
-precluded-by-spec = tie.close (tie.spec returns cut-each-requires cast-piece shl-piece returns-2)
+precluded-by-spec = tie.close (tie.spec returns cast-self shl-self cut-each-requires returns-2)
