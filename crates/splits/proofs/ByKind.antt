@@ -1,6 +1,6 @@
 -- What is said by the kind of a request, at each kind. Assumes nothing.
-use mathlib.Core.Path.{_≡_, refl, sym, ap, ap₂, _∙_}
-use mathlib.Core.Bool.{Bool, true, false, cond, _&&_, and-true, and-false}
+use mathlib.Core.Path.{_≡_, refl, sym, ap₂, _∙_}
+use mathlib.Core.Bool.{Bool, true, false, cond, _&&_, and-true}
 use mathlib.Core.List.{List}
 use Prim.Native.Nat.{ℕ, _+_, _≤_, _<_}
 use native.Mathlib.Omega.{arith}
@@ -14,7 +14,7 @@ use Rattle.splits.specs.Requests.{kindOf, variableOf, valueOf}
 use Rattle.splits.specs.Splits.{byKind, backtracked, checked, inferred, halved, extracted, candidate, candidates}
 use Rattle.splits.specs.Checks.{checks, tried, valuesIn, others}
 use Rattle.splits.specs.Calls.{readable, inside, Piece, Checks-of}
-use Rattle.splits.specs.Ranges.{Inside}
+use Rattle.splits.specs.Work.Loops.{aroundValue}
 use Rattle.splits.specs.declared.subproblem.Subproblem.{Subproblem}
 use Rattle.splits.proofs.Tests.{and-left}
 use Rattle.splits.proofs.Ranges.{inside-true}
@@ -56,13 +56,6 @@ one-to-three k a d e other =
     (λ f l. absurd (omega arith)) (λ f l. absurd (omega arith))
     (λ k o f l. absurd (⊎-elim (λ z. f (omega arith)) (λ z. omega arith) o)) k
 
--- what is said of kind 5 and of no kind alike
-pub past-four : {A : Type 0} (k : ℕ) (a b c d other : A) → 4 ≤ k → (k ≡ 4 → ⊥) → byKind k a b c d other other ≡ other
-past-four k a b c d other l f = elim (ℕ-discrete k 5) [
-  | yes e ↦ rw e
-  | no g ↦ no-kind k a b c d other other (inr (omega arith))
-]
-
 -- what is said of kinds 1, 2 and 4 alike
 pub two-pieces : {A : Type 0} (k : ℕ) (a c other : A) → (k ≡ 3 → ⊥) → (k ≡ 0 → ⊥) → k < 5 → byKind k a a c a c other ≡ a
 two-pieces k a c other =
@@ -75,23 +68,8 @@ either Q true p q = p
 either Q false p q = q
 
 module _ {A : Type 0} (k : ℕ) (a b c d e other : A) where
-  pub kind-1 : k ≡ 1 → byKind k a b c d e other ≡ a
-  kind-1 h = rw h
-
-  pub kind-2 : k ≡ 2 → byKind k a b c d e other ≡ b
-  kind-2 h = rw h
-
   pub kind-3 : k ≡ 3 → byKind k a b c d e other ≡ c
   kind-3 h = rw h
-
-  pub kind-4 : k ≡ 4 → byKind k a b c d e other ≡ d
-  kind-4 h = rw h
-
-  pub kind-5 : k ≡ 5 → byKind k a b c d e other ≡ e
-  kind-5 h = rw h
-
-  pub kind-none : (k ≡ 1 → ⊥) → (k ≡ 2 → ⊥) → (k ≡ 3 → ⊥) → (k ≡ 4 → ⊥) → (k ≡ 5 → ⊥) → byKind k a b c d e other ≡ other
-  kind-none p q r s t = simp (ne-eqb k 1 p, ne-eqb k 2 q, ne-eqb k 3 r, ne-eqb k 4 s, ne-eqb k 5 t)
 
   -- what holds of each answer holds of the one that is picked
   pub kind-any : (Q : A → Type 0) → Q a → Q b → Q c → Q d → Q e → Q other → Q (byKind k a b c d e other)
@@ -103,68 +81,6 @@ pub kind-last : {A : Type 0} (k : ℕ) (a b c d : A) → (k ≡ 1 → ⊥) → (
 kind-last k a b c d p q r =
     simp (ne-eqb k 1 p, ne-eqb k 2 q, ne-eqb k 3 r) (either (λ x. x ≡ d) (eqb k 4) refl (either (λ x. x ≡ d) (eqb k 5) refl refl))
 
--- whether the words that a request's kind reads fit, with its kind as the code has it
-module _ (n d : ℕ) (t r : List ℕ) (kind : ℕ) (its-kind : kind ≡ kindOf r) where
-  pub readable-0 : kind ≡ 0 → leb n 32 ≡ readable n d t r
-  unfolding readable
-  readable-0 h = sym (no-kind (kindOf r) _ _ _ _ _ _ (inl (omega (arith, its-kind, h))))
-
-  pub readable-123 : (V′ v : ℕ) → V′ ≡ variableOf r → v ≡ valueOf r → (kind ≡ 0 → ⊥) → kind < 4 → (q : Bool)
-      → q ≡ inside n d t V′ v → q ≡ readable n d t r
-  unfolding readable
-  readable-123 V′ v its-variable its-value f l q e =
-      e ∙ ap₂ (inside n d t) its-variable its-value
-      ∙ sym (one-to-three (kindOf r) _ _ _ _ (λ z. f (its-kind ∙ z)) (rw (← its-kind) l))
-
-  pub readable-4-not : (V′ : ℕ) → V′ ≡ variableOf r → kind ≡ 4 → n ≤ V′ → false ≡ readable n d t r
-  unfolding readable
-  readable-4-not V′ its-variable h l =
-      sym (kind-4 (kindOf r) _ _ _ _ _ _ (sym its-kind ∙ h) ∙ ap (λ b. leb n 32 && b) (le-ltb (variableOf r) n (rw (← its-variable) l)) ∙ and-false (leb n 32))
-
-  pub readable-4 : (V′ : ℕ) → V′ ≡ variableOf r → kind ≡ 4 → V′ < n → leb n 32 ≡ readable n d t r
-  unfolding readable
-  readable-4 V′ its-variable h l =
-      sym (kind-4 (kindOf r) _ _ _ _ _ _ (sym its-kind ∙ h) ∙ ap (λ b. leb n 32 && b) (lt-ltb (variableOf r) n (rw (← its-variable) l)) ∙ and-true (leb n 32))
-
-  pub readable-past-4 : 4 ≤ kind → (kind ≡ 4 → ⊥) → leb n 32 ≡ readable n d t r
-  unfolding readable
-  readable-past-4 l f = sym (past-four (kindOf r) _ _ _ _ _ (rw (← its-kind) l) (λ z. f (its-kind ∙ z)))
-
--- of a request whose words fit, with its kind, V and v as the code has them
-module _ (n d : ℕ) (t : List ℕ) (P : Subproblem) (r : List ℕ) (fits : readable n d t r ≡ true) (kind : ℕ) (its-kind : kind ≡ kindOf r) where
-  module _ (V′ v : ℕ) (its-variable : V′ ≡ variableOf r) (its-value : v ≡ valueOf r) where
-    ranged : inside n d t (variableOf r) (valueOf r) ≡ true → Inside n d t V′ v
-    ranged h = rw (its-variable, its-value) (inside-true n d t (variableOf r) (valueOf r) h)
-
-    pub inside-1 : kind ≡ 1 → Inside n d t V′ v
-    unfolding readable
-    inside-1 h = ranged (sym (kind-1 (kindOf r) _ _ _ _ _ _ (sym its-kind ∙ h)) ∙ fits)
-
-    pub inside-2 : kind ≡ 2 → Inside n d t V′ v
-    unfolding readable
-    inside-2 h = ranged (sym (kind-2 (kindOf r) _ _ _ _ _ _ (sym its-kind ∙ h)) ∙ fits)
-
-    pub inside-3 : kind ≡ 3 → Inside n d t V′ v
-    unfolding readable
-    inside-3 h = ranged (sym (kind-3 (kindOf r) _ _ _ _ _ _ (sym its-kind ∙ h)) ∙ fits)
-
-    pub checks-1 : (q : ℕ) → kind ≡ 1 → q ≡ tried (others V′) n (tableOf n d t) P V′ v
-        → Checks-of P n d t r q
-    unfolding checks
-    checks-1 q h e = rw (fits, kind-1 (kindOf r) _ _ _ _ _ _ (sym its-kind ∙ h), ← its-variable, ← its-value) e
-
-  pub checks-2 : (V′ q : ℕ) → V′ ≡ variableOf r → kind ≡ 2 → q ≡ valuesIn (others V′) n P → Checks-of P n d t r q
-  unfolding checks
-  checks-2 V′ q its-variable h e = rw (fits, kind-2 (kindOf r) _ _ _ _ _ _ (sym its-kind ∙ h), ← its-variable) e
-
-  pub checks-3 : (V′ q : ℕ) → V′ ≡ variableOf r → kind ≡ 3 → q ≡ valuesIn (others V′) n P → Checks-of P n d t r q
-  unfolding checks
-  checks-3 V′ q its-variable h e = rw (fits, kind-3 (kindOf r) _ _ _ _ _ _ (sym its-kind ∙ h), ← its-variable) e
-
-  pub checks-none : (kind ≡ 1 → ⊥) → (kind ≡ 2 → ⊥) → (kind ≡ 3 → ⊥) → Checks-of P n d t r 0
-  unfolding checks
-  checks-none p q s = rw (fits, ← its-kind) (sym (kind-last kind _ _ _ 0 p q s))
-
 -- no more than 32 variables
 pub few : (n d : ℕ) (t r : List ℕ) → readable n d t r ≡ true → n ≤ 32
 unfolding readable
@@ -173,50 +89,126 @@ few n d t r fits =
     let alone : leb n 32 ≡ true → n ≤ 32 = leb-true n 32 in
     kind-any (kindOf r) _ _ _ _ _ _ (λ b. b ≡ true → n ≤ 32) ranged ranged ranged (λ h. alone (and-left (leb n 32) (ltb (variableOf r) n) h)) alone alone fits
 
--- the k-th piece of a request whose words fit
-module _ (n d : ℕ) (t : List ℕ) (P : Subproblem) (r : List ℕ) (k count : ℕ) (fits : readable n d t r ≡ true)
-    (counted : count ≡ cond (leb n 32) (candidates n r) 0) where
-  all-named : count ≡ candidates n r
-  all-named = counted ∙ rw (le-leb n 32 (few n d t r fits)) refl
+-- of a request with its kind, V and v as the code has them
+module _ (n d : ℕ) (t r : List ℕ) (P : Subproblem) (V′ v : ℕ) (its-variable : V′ ≡ variableOf r) (its-value : v ≡ valueOf r) where
+  -- kinds 1 to 3 read V and v
+  read : (kindOf r ≡ 0 → ⊥) → kindOf r < 4 → (b : Bool) → inside n d t V′ v ≡ b → readable n d t r ≡ b
+  unfolding readable
+  read f l b e = one-to-three (kindOf r) _ _ _ _ f l ∙ sym (ap₂ (inside n d t) its-variable its-value) ∙ e
 
-  pub piece-over : count ≤ k → Piece P n d t r k P
-  piece-over h = rw (fits, ← all-named, le-ltb k count h)
+  module _ (kind : ℕ) (its-kind : kind ≡ kindOf r) where
+    pub checks-none : (kind ≡ 1 → ⊥) → (kind < 1) ⊎ (4 ≤ kind) → Checks-of P n d t r 0
+    unfolding checks
+    checks-none p o =
+        let q : kind ≡ 2 → ⊥ = λ e. ⊎-elim (λ l. absurd (omega arith)) (λ l. absurd (omega arith)) o in
+        let s : kind ≡ 3 → ⊥ = λ e. ⊎-elim (λ l. absurd (omega arith)) (λ l. absurd (omega arith)) o in
+        rw (← its-kind, kind-last {A = ℕ} kind _ _ _ 0 p q s) (either (λ (x : ℕ). 0 ≡ x) (readable n d t r) refl refl)
 
-  module _ (more : k < count) (kind : ℕ) (its-kind : kind ≡ kindOf r) (Q : Subproblem) where
-    placed : Q ≡ candidate n (tableOf n d t) P r k → Piece P n d t r k Q
-    placed h = rw (fits, ← all-named, lt-ltb k count more) h
+    module _ (fits : inside n d t V′ v ≡ true) where
+      pub checks-1 : (q : ℕ) → kind ≡ 1 → q ≡ tried (others V′) n (tableOf n d t) P V′ v → Checks-of P n d t r q
+      unfolding checks
+      checks-1 q h e =
+          rw (read (λ z. absurd (omega (arith, its-kind))) (omega (arith, its-kind)) true fits, ← its-kind, h, ← its-variable, ← its-value) e
 
-    module _ (V′ v : ℕ) (its-variable : V′ ≡ variableOf r) (its-value : v ≡ valueOf r) where
-      pub piece-1 : kind ≡ 1 → Q ≡ backtracked n (tableOf n d t) P V′ v k → Piece P n d t r k Q
-      unfolding candidate
-      piece-1 h e = placed (rw (kind-1 (kindOf r) _ _ _ _ _ _ (sym its-kind ∙ h), ← its-variable, ← its-value) e)
+      pub checks-2-3 : (q : ℕ) → (kind ≡ 1 → ⊥) → 1 ≤ kind → kind < 4 → q ≡ valuesIn (others V′) n P → Checks-of P n d t r q
+      unfolding checks
+      checks-2-3 q p l m e =
+          let fit = read (λ z. absurd (omega (arith, its-kind))) (omega (arith, its-kind)) true fits in
+          elim (ℕ-discrete kind 2) [
+            | yes h ↦ rw (fit, ← its-kind, h, ← its-variable) e
+            | no f ↦ let h : kind ≡ 3 = omega arith in rw (fit, ← its-kind, h, ← its-variable) e
+          ]
 
-      pub piece-2 : kind ≡ 2 → Q ≡ checked n (tableOf n d t) P V′ v k → Piece P n d t r k Q
-      unfolding candidate
-      piece-2 h e = placed (rw (kind-2 (kindOf r) _ _ _ _ _ _ (sym its-kind ∙ h), ← its-variable, ← its-value) e)
+      pub around-1 : (k : ℕ) (Q : Subproblem) → kind ≡ 1 → Q ≡ backtracked n (tableOf n d t) P V′ v k → Q ≡ aroundValue P n d t r k
+      unfolding aroundValue candidate
+      around-1 k Q h e = rw (← its-kind, h, ← its-variable, ← its-value, fits) e
 
-      pub piece-3 : kind ≡ 3 → Q ≡ inferred n (tableOf n d t) P V′ v k → Piece P n d t r k Q
-      unfolding candidate
-      piece-3 h e = placed (rw (kind-3 (kindOf r) _ _ _ _ _ _ (sym its-kind ∙ h), ← its-variable, ← its-value) e)
+      pub around-2 : (k : ℕ) (Q : Subproblem) → kind ≡ 2 → Q ≡ checked n (tableOf n d t) P V′ v k → Q ≡ aroundValue P n d t r k
+      unfolding aroundValue candidate
+      around-2 k Q h e = rw (← its-kind, h, ← its-variable, ← its-value, fits) e
 
-      pub piece-4 : kind ≡ 4 → Q ≡ halved P V′ k → Piece P n d t r k Q
-      unfolding candidate
-      piece-4 h e = placed (rw (kind-4 (kindOf r) _ _ _ _ _ _ (sym its-kind ∙ h), ← its-variable) e)
+      pub around-3 : (k : ℕ) (Q : Subproblem) → kind ≡ 3 → Q ≡ inferred n (tableOf n d t) P V′ v k → Q ≡ aroundValue P n d t r k
+      unfolding aroundValue candidate
+      around-3 k Q h e = rw (← its-kind, h, ← its-variable, ← its-value, fits) e
 
-    pub piece-5 : kind ≡ 5 → Q ≡ extracted n P r k → Piece P n d t r k Q
-    unfolding candidate
-    piece-5 h e = placed (rw (kind-5 (kindOf r) _ _ _ _ _ _ (sym its-kind ∙ h)) e)
+  -- where they do not fit
+  module _ (misfit : inside n d t V′ v ≡ false) where
+    pub checks-out : Checks-of P n d t r 0
+    checks-out = elim (decLt (kindOf r) 4) [
+      | yes l ↦ elim (ℕ-discrete (kindOf r) 0) [
+        | yes z ↦ none (λ e. absurd (omega arith)) (inl (omega arith))
+        | no f ↦ rw (read f l false misfit)
+      ]
+      | no l ↦ none (λ e. absurd (omega arith)) (inr (omega arith))
+    ]
+      where
+        none : (kindOf r ≡ 1 → ⊥) → (kindOf r < 1) ⊎ (4 ≤ kindOf r) → Checks-of P n d t r 0
+        none = checks-none (kindOf r) refl
 
-    pub piece-none : (kind ≡ 1 → ⊥) → (kind ≡ 2 → ⊥) → (kind ≡ 3 → ⊥) → (kind ≡ 4 → ⊥) → (kind ≡ 5 → ⊥) → Q ≡ P
-        → Piece P n d t r k Q
-    unfolding candidate
-    piece-none a b c e f h = placed (h ∙ sym (rw (← its-kind) (kind-none kind _ _ _ _ _ _ a b c e f)))
+    pub around-out : (k : ℕ) → P ≡ aroundValue P n d t r k
+    unfolding aroundValue
+    around-out k = rw (← its-variable, ← its-value, misfit)
 
-  -- k is one of kind 3's and of kind 5's
-  pub peel-place : (kind : ℕ) → kind ≡ kindOf r → k < count → (kind ≡ 3) ⊎ (kind ≡ 5) → k ≤ n
+-- a request with a k-th candidate is of kind 1 to 5, and of kind 3 or 5 has n + 1
+module _ (n : ℕ) (r : List ℕ) (k : ℕ) (more : k < candidates n r) (kind : ℕ) (its-kind : kind ≡ kindOf r) where
+  named : (kind < 1) ⊎ (5 < kind) → ⊥
   unfolding candidates
-  peel-place kind its-kind more h =
+  named h = let none : candidates n r ≡ 0 = no-kind (kindOf r) _ _ _ _ _ _ (rw (← its-kind) h) in omega (arith, more)
+
+  pub to-three : (kind ≡ 4 → ⊥) → (kind ≡ 5 → ⊥) → kindOf r ≤ 3
+  to-three f g = rw (← its-kind) (five (λ i. (i ≡ 4 → ⊥) → (i ≡ 5 → ⊥) → i ≤ 3) kind named
+      (λ f g. omega arith) (λ f g. omega arith) (λ f g. omega arith) (λ f g. absurd (f refl)) (λ f g. absurd (g refl)) f g)
+
+  pub the-third : kindOf r ≤ 3 → (kind ≡ 1 → ⊥) → (kind ≡ 2 → ⊥) → kind ≡ 3
+  the-third l f g = five (λ i. i ≤ 3 → (i ≡ 1 → ⊥) → (i ≡ 2 → ⊥) → i ≡ 3) kind named
+      (λ l f g. absurd (f refl)) (λ l f g. absurd (g refl)) (λ l f g. refl) (λ l f g. absurd (omega arith)) (λ l f g. absurd (omega arith))
+      (rw its-kind l) f g
+
+  pub peel-place : (kind ≡ 3) ⊎ (kind ≡ 5) → k ≤ n
+  unfolding candidates
+  peel-place h =
       let three : kind ≡ 3 → candidates n r ≡ n + 1 = λ e. rw (← its-kind, e) refl in
       let five : kind ≡ 5 → candidates n r ≡ n + 1 = λ e. rw (← its-kind, e) refl in
-      let named : candidates n r ≡ n + 1 = ⊎-elim three five h in
-      omega (arith, all-named)
+      let all : candidates n r ≡ n + 1 = ⊎-elim three five h in
+      omega (arith, more)
+
+-- where there is one, with their number as the code has it
+pub some-place : (n : ℕ) (r : List ℕ) (k count : ℕ) → count ≡ cond (leb n 32) (candidates n r) 0 → k < count → (n ≤ 32) × (k < candidates n r)
+some-place n r k count counted h = go (leb n 32) refl
+  where
+    go : (b : Bool) → leb n 32 ≡ b → (n ≤ 32) × (k < candidates n r)
+    go true e = let all : count ≡ candidates n r = counted ∙ rw e refl in (leb-true n 32 e, rw (← all) h)
+    go false e = let none : count ≡ 0 = counted ∙ rw e refl in absurd (omega arith)
+
+-- the k-th candidate, with their number as the code has it
+module _ (n d : ℕ) (t : List ℕ) (P : Subproblem) (r : List ℕ) (k count : ℕ) (counted : count ≡ cond (leb n 32) (candidates n r) 0) where
+  pub piece-over : count ≤ k → Piece P n d t r k P
+  piece-over h = go (readable n d t r) refl
+    where
+      go : (b : Bool) → readable n d t r ≡ b → P ≡ cond (b && ltb k (candidates n r)) (candidate n (tableOf n d t) P r k) P
+      go false e = refl
+      go true e =
+          let all : count ≡ candidates n r = counted ∙ rw (le-leb n 32 (few n d t r e)) refl in
+          rw (le-ltb k (candidates n r) (rw (← all) h))
+
+  module _ (more : k < count) (kind : ℕ) (its-kind : kind ≡ kindOf r) (Q : Subproblem) where
+    place : (n ≤ 32) × (k < candidates n r)
+    place = some-place n r k count counted more
+
+    placed : Q ≡ cond (readable n d t r) (candidate n (tableOf n d t) P r k) P → Piece P n d t r k Q
+    placed e = rw (lt-ltb k (candidates n r) (place .1), and-true (readable n d t r)) e
+
+    pub piece-3 : (kind ≡ 4 → ⊥) → (kind ≡ 5 → ⊥) → Q ≡ aroundValue P n d t r k → Piece P n d t r k Q
+    unfolding readable aroundValue
+    piece-3 f g e =
+        let low : kindOf r ≤ 3 = to-three n r k (place .1) kind its-kind f g in
+        let some : kindOf r ≡ 0 → ⊥ = λ z. named n r k (place .1) kind its-kind (inl (omega (arith, its-kind))) in
+        placed (rw (one-to-three (kindOf r) _ _ _ _ some (omega arith)) e)
+
+    pub piece-4 : kind ≡ 4 → Q ≡ cond (ltb (variableOf r) n) (halved P (variableOf r) k) P → Piece P n d t r k Q
+    unfolding readable candidate
+    piece-4 h e = placed (rw (← its-kind, h, le-leb n 32 (place .0)) e)
+
+    pub piece-5 : kind ≡ 5 → Q ≡ extracted n P r k → Piece P n d t r k Q
+    unfolding readable candidate
+    piece-5 h e = placed (rw (← its-kind, h, le-leb n 32 (place .0)) e)

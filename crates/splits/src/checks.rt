@@ -45,10 +45,7 @@ fn does_forbid(
     if d <= a {
         return true;
     }
-    if mask::has(tables::allowed(n, d, tables, i, variable, a), value) {
-        return false;
-    }
-    true
+    !mask::has(tables::allowed(n, d, tables, i, variable, a), value)
 }
 
 // The instantiated variables other than `variable` in rising order, up to and with the first that forbids `value`, or all.
@@ -95,23 +92,18 @@ fn values_in_others(top: Subproblem, n: usize, variable: usize) -> usize
     sum
 }
 
-// The checks of a request; 0 where its words do not fit.
+// The checks of a request; 0 where its words do not fit. Kinds 4 and 5 count none.
 pub fn checks(top: Subproblem, n: usize, d: usize, tables: &[u16], request: &[u16]) -> usize
     ensures { λ r. ⌜ Checks-of top n d (now (tables .entry)) (now (request .entry)) r ⌝ }
 {
-    if tables::readable(n, d, tables, request) {
-        let kind = words::kind(request);
-        if kind == 1 {
-            let variable = words::variable(request);
-            let looked = look(top, n, d, tables, variable, words::value(request));
-            return looked.count;
-        }
-        if kind == 2 {
-            return values_in_others(top, n, words::variable(request));
-        }
-        if kind == 3 {
-            return values_in_others(top, n, words::variable(request));
-        }
+    let variable = words::variable(request);
+    let value = words::value(request);
+    if !tables::within(n, d, tables, variable, value) {
+        return 0;
     }
-    0
+    match words::kind(request) {
+        1 => look(top, n, d, tables, variable, value).count,
+        2 | 3 => values_in_others(top, n, variable),
+        _ => 0,
+    }
 }

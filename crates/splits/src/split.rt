@@ -7,9 +7,13 @@ use crate::words;
 ghost use mathlib.Core.Path.{_≡_};
 ghost use Prim.Native.Nat.{_+_, _≤_, _<_};
 ghost use Rattle.splits.specs.Problem.{tableOf};
-ghost use Rattle.splits.specs.Splits.{backtracked, checked, inferred, halved, extracted};
+ghost use mathlib.Core.Bool.{cond};
+ghost use lib.Dec.{ltb};
+ghost use Rattle.splits.specs.Requests.{kindOf, variableOf};
+ghost use Rattle.splits.specs.Splits.{backtracked, checked, inferred, halved, extracted, candidates};
 ghost use Rattle.splits.specs.Calls.{Piece, Candidates};
 ghost use Rattle.splits.specs.Ranges.{Inside};
+ghost use Rattle.splits.specs.Work.Loops.{aroundValue};
 
 // Backtracking: the variable instantiated to the value, emptied where an instantiated value forbids it; then the rest.
 fn backtracking(
@@ -78,10 +82,14 @@ fn idc(
         .without(j, tables::allowed(n, d, tables, variable, j, value))
 }
 
-// Halving: the variable's smaller half; then the rest.
-fn halving(top: Subproblem, variable: usize, k: usize) -> Subproblem
-    ensures { λ r. ⌜ r ≡ halved top variable k ⌝ }
+// Halving: the variable's smaller half; then the rest. The subproblem itself where the variable is none of the n.
+fn halving(top: Subproblem, n: usize, request: &[u16], k: usize) -> Subproblem
+    ensures { λ r. ⌜ r ≡ cond (ltb (variableOf (now (request .entry))) n) (halved top (variableOf (now (request .entry))) k) top ⌝ }
 {
+    let variable = words::variable(request);
+    if n <= variable {
+        return top;
+    }
     let half = mask::smaller_half(top.domain(variable));
     if k != 0 {
         return top.without(variable, half);
@@ -110,19 +118,35 @@ pub fn candidates(n: usize, request: &[u16]) -> usize
         return 0;
     }
     let kind = words::kind(request);
-    if kind == 3 {
-        return n + 1;
+    match kind {
+        3 | 5 => n + 1,
+        0 => 0,
+        _ => if kind < 5 { 2 } else { 0 },
     }
-    if kind == 5 {
-        return n + 1;
+}
+
+// Kinds 1 to 3, which split around a value. The subproblem itself where the words do not fit.
+fn around_value(
+    top: Subproblem,
+    n: usize,
+    d: usize,
+    tables: &[u16],
+    request: &[u16],
+    k: usize,
+) -> Subproblem
+    requires { ⌜ (k < candidates n (now request)) × (kindOf (now request) ≤ 3) ⌝ }
+    ensures { λ r. ⌜ r ≡ aroundValue top n d (now (tables .entry)) (now (request .entry)) k ⌝ }
+{
+    let variable = words::variable(request);
+    let value = words::value(request);
+    if !tables::within(n, d, tables, variable, value) {
+        return top;
     }
-    if kind == 0 {
-        return 0;
+    match words::kind(request) {
+        1 => backtracking(top, n, d, tables, variable, value, k),
+        2 => forward_checking(top, n, d, tables, variable, value, k),
+        _ => idc(top, n, d, tables, variable, value, k),
     }
-    if kind < 5 {
-        return 2;
-    }
-    0
 }
 
 // The k-th candidate of a request, from 0, empty where it is no piece; the subproblem itself past the last, or where the words do not fit.
@@ -136,27 +160,12 @@ pub fn piece(
 ) -> Subproblem
     ensures { λ r. ⌜ Piece top n d (now (tables .entry)) (now (request .entry)) k r ⌝ }
 {
-    if !tables::readable(n, d, tables, request) {
-        return top;
-    }
     if candidates(n, request) <= k {
         return top;
     }
     match words::kind(request) {
-        1 => {
-            let variable = words::variable(request);
-            backtracking(top, n, d, tables, variable, words::value(request), k)
-        }
-        2 => {
-            let variable = words::variable(request);
-            forward_checking(top, n, d, tables, variable, words::value(request), k)
-        }
-        3 => {
-            let variable = words::variable(request);
-            idc(top, n, d, tables, variable, words::value(request), k)
-        }
-        4 => halving(top, words::variable(request), k),
+        4 => halving(top, n, request, k),
         5 => extraction(top, n, request, k),
-        _ => top,
+        _ => around_value(top, n, d, tables, request, k),
     }
 }

@@ -1,9 +1,8 @@
 // The problem's tables: for each two variables and each value of the first, the values allowed beside it.
-use crate::words;
 ghost use mathlib.Core.Path.{_≡_};
 ghost use Prim.Native.Nat.{_+_, _*_, _<_};
 ghost use Rattle.splits.specs.Problem.{tableOf};
-ghost use Rattle.splits.specs.Calls.{sized, inside, readable};
+ghost use Rattle.splits.specs.Calls.{sized, inside};
 ghost use Rattle.splits.specs.Ranges.{Sized, Place};
 
 // The mask of the values of `j` allowed beside value `a` of `i`.
@@ -38,24 +37,4 @@ pub(crate) fn within(n: usize, d: usize, tables: &[u16], variable: usize, value:
         return false;
     }
     fits(n, d, tables)
-}
-
-// Whether the words that a request's kind reads fit.
-pub(crate) fn readable(n: usize, d: usize, tables: &[u16], request: &[u16]) -> bool
-    ensures { λ r. ⌜ r ≡ readable n d (now (tables .entry)) (now (request .entry)) ⌝ }
-{
-    let kind = words::kind(request);
-    if kind == 0 {
-        return n <= 32;
-    }
-    if kind < 4 {
-        let variable = words::variable(request);
-        return within(n, d, tables, variable, words::value(request));
-    }
-    if kind == 4 {
-        if n <= words::variable(request) {
-            return false;
-        }
-    }
-    n <= 32
 }

@@ -1,13 +1,16 @@
--- What a loop of the code works out, in the loop's own shape.
+-- What a loop or a part of the code works out, in its own shape.
 use mathlib.Core.Path.{_≡_}
 use mathlib.Core.Bool.{Bool, cond, _||_}
+use mathlib.Core.List.{List}
 use Prim.Native.Nat.{ℕ}
 use lib.Dec.{eqb, leb}
 use Rattle.splits.specs.Masks.{bit, size}
-use Rattle.splits.specs.Problem.{Table}
+use Rattle.splits.specs.Problem.{Table, tableOf}
 use Rattle.splits.specs.Subproblems.{domain}
-use Rattle.splits.specs.Splits.{forbidden}
+use Rattle.splits.specs.Splits.{forbidden, candidate}
 use Rattle.splits.specs.Checks.{tried, others}
+use Rattle.splits.specs.Requests.{variableOf, valueOf}
+use Rattle.splits.specs.Calls.{inside}
 use Rattle.splits.specs.declared.subproblem.Subproblem.{Subproblem}
 
 -- What kind 1 finds on its way: the count and whether it met a conflict.
@@ -20,3 +23,7 @@ unfoldable pub refusalOfVariable : ℕ → ℕ → Subproblem → ℕ → ℕ �
 refusalOfVariable n d P kind V′ v =
     cond (leb n V′ || eqb (bit (P .marked) V′) 1) 8
     (cond (eqb kind 4) (cond (eqb (size (domain P V′)) 1) 9 0) (cond (leb d v || eqb (bit (domain P V′) v) 0) 9 0))
+
+-- The k-th candidate of a request of kind 1 to 3; the subproblem itself where the words do not fit.
+unfoldable pub aroundValue : Subproblem → ℕ → ℕ → List ℕ → List ℕ → ℕ → Subproblem
+aroundValue P n d tables r k = cond (inside n d tables (variableOf r) (valueOf r)) (candidate n (tableOf n d tables) P r k) P

@@ -1,8 +1,6 @@
 -- `splits::checks::does_forbid` meets its contract.
 -- Assumes nothing.
 use Rattle.splits.proofs.Counting.{forbids-is, forbids-none}
-use mathlib.Core.Bool.{not}
-use mathlib.Core.Path.{sym, ap, _∙_}
 use borrow.Author.Needs.{needs}
 use Rattle.splits.proofs.checks.does_forbid.Statement.{statement}
 use Rattle.splits.proofs.checks.does_forbid.Tie as tie
@@ -23,19 +21,9 @@ has-requires : tie.Need-has-requires
 has-requires c κs = search needs
 
 returns-2 : tie.Need-returns-2
-returns-2 c = sym (ap not (c .if2 .taken)) ∙ forbids-is _ _ _ _ _ _ _ _ _ _ _ (c .before .before .before .before .before .domain .ensures) (c .before .before .before .before .lowest .ensures) (c .before .before .allowed .ensures) (c .before .has .ensures)
-
-returns-3 : tie.Need-returns-3
-returns-3 c = sym (ap not (c .if2 .left)) ∙ forbids-is _ _ _ _ _ _ _ _ _ _ _ (c .before .before .before .before .before .domain .ensures) (c .before .before .before .before .lowest .ensures) (c .before .before .allowed .ensures) (c .before .has .ensures)
+returns-2 c = forbids-is _ _ _ _ _ _ _ _ _ _ _ (c .before .before .before .before .domain .ensures) (c .before .before .before .lowest .ensures) (c .before .allowed .ensures) (c .has .ensures)
 
 pub does-forbid-spec : {M : Type 1} → statement M
 does-forbid-spec =
     tie.close
-    (tie.spec
-    domain-requires
-    lowest-requires
-    returns
-    allowed-requires
-    has-requires
-    returns-2
-    returns-3)
+    (tie.spec domain-requires lowest-requires returns allowed-requires has-requires returns-2)

@@ -1,13 +1,13 @@
 -- `split::candidates` meets its contract, kind by kind.
 -- Assumes nothing.
-use mathlib.Core.Path.{sym, _∙_}
-use mathlib.Core.Logic.{inr}
+use mathlib.Core.Path.{_≡_, sym}
+use mathlib.Core.Logic.{inl, inr, ⊎-elim}
 use Prim.Native.Nat.{_<_}
 use native.Mathlib.Omega.{arith}
 use borrow.Author.Tests.{le-leb, lt-leb}
-use borrow.Author.Needs.{needs}
 use Rattle.splits.specs.Splits.{candidates}
 use Rattle.splits.proofs.ByKind.{no-kind, two-pieces}
+use borrow.Author.Needs.{needs}
 use Rattle.splits.proofs.split.candidates.Statement.{statement}
 use Rattle.splits.proofs.split.candidates.Tie as tie
 
@@ -22,43 +22,23 @@ add-result c = search needs
 
 returns-2 : tie.Need-returns-2
 unfolding candidates
-returns-2 c = simp (le-leb _ _ (c .before .before .if1 .left), sym (c .before .kind .ensures) ∙ c .if2 .taken)
-
-add-result-2 : tie.Need-add-result-2
-add-result-2 c = search needs
+returns-2 c = rw (le-leb _ _ (c .before .before .if1 .left), ← c .before .kind .ensures) (⊎-elim (λ e. rw e) (λ e. rw e) (c .match .keys1))
 
 returns-3 : tie.Need-returns-3
 unfolding candidates
-returns-3 c = simp (le-leb _ _ (c .before .before .before .if1 .left), sym (c .before .before .kind .ensures) ∙ c .if3 .taken)
+returns-3 c = rw (le-leb _ _ (c .before .before .if1 .left), ← c .before .kind .ensures, c .match .keys2)
 
 returns-4 : tie.Need-returns-4
 unfolding candidates
-returns-4 c = simp (le-leb _ _ (c .before .before .before .before .if1 .left), sym (c .before .before .before .kind .ensures) ∙ c .if4 .taken)
+returns-4 c = rw (le-leb _ _ (c .before .before .before .if1 .left), ← c .before .before .kind .ensures) (sym (two-pieces _ _ _ _ (λ e. c .before .match .rest .0 .1 (inl e)) (c .before .match .rest .1) (c .if2 .taken)))
 
 returns-5 : tie.Need-returns-5
 unfolding candidates
 returns-5 c =
-    let q = c .before .before .before .before in
-    simp (le-leb _ _ (q .before .if1 .left), sym (q .kind .ensures))
-    (sym (two-pieces _ _ _ _ (c .before .before .before .if2 .left) (c .before .if4 .left) (c .if5 .taken)))
-
-returns-6 : tie.Need-returns-6
-unfolding candidates
-returns-6 c =
-    let q = c .before .before .before .before in
-    let past : 5 < q .kind .result = omega arith in
-    simp (le-leb _ _ (q .before .if1 .left), sym (q .kind .ensures)) (sym (no-kind _ _ _ _ _ _ _ (inr past)))
+    let other : c .before .before .kind .result ≡ 5 → ⊥ = λ e. c .before .match .rest .0 .1 (inr e) in
+    let past : 5 < c .before .before .kind .result = omega arith in
+    rw (le-leb _ _ (c .before .before .before .if1 .left), ← c .before .before .kind .ensures) (sym (no-kind _ _ _ _ _ _ _ (inr past)))
 
 pub candidates-spec : {M : Type 1} → statement M
 candidates-spec =
-    tie.close
-    (tie.spec
-    returns
-    kind-requires
-    add-result
-    returns-2
-    add-result-2
-    returns-3
-    returns-4
-    returns-5
-    returns-6)
+    tie.close (tie.spec returns kind-requires add-result returns-2 returns-3 returns-4 returns-5)
