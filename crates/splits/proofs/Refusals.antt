@@ -1,12 +1,13 @@
 -- Refusals 7 to 10: what the code's loops and tests find, which number the tests give, and which words of a request they read.
 -- Assumes nothing.
 use mathlib.Core.Path.{_≡_, refl, sym, ap, ap₂, _∙_}
-use mathlib.Core.Bool.{Bool, true, false, not, cond, _&&_, _||_, or-false, or-true, or-not-self}
+use mathlib.Core.Bool.{Bool, true, false, not, cond, _&&_, _||_, and-true, and-false, or-false, or-true, or-not-self}
 use mathlib.Core.Logic.{_↔_, Iff·trans, _⊎_, inl, inr, ⊎-elim}
 use mathlib.Core.List.{List, [], _∷_, _++_, map, map-append}
 use Prim.Native.Nat.{ℕ, zero, suc, _+_, _≤_, _<_}
 use native.Mathlib.Nat.{lt-of-not-le}
 use native.Mathlib.Decide.{ℕ-discrete}
+use native.Mathlib.Numerals.{add-one}
 use native.Mathlib.Omega.{arith}
 use lib.ListN.{length}
 use lib.Dec.{eqb, leb, ltb}
@@ -34,11 +35,11 @@ use Rattle.splits.specs.Splits.{
 use Rattle.splits.specs.Checks.{tried, valuesIn, others, checks}
 use Rattle.splits.specs.Refusals.{Accepted, Deserves-7, Deserves-8, Deserves-9, Deserves-10, bad, someBad, allSame, refused-7, refused-8, refused-9, refused-10, refusalOf}
 use Rattle.splits.specs.Promises.{Agree, One}
-use Rattle.splits.specs.Work.Loops.{refusalOfVariable}
+use Rattle.splits.specs.Work.Loops.{deserves9, refusalOfVariable}
 use Rattle.splits.specs.declared.subproblem.Subproblem.{Subproblem}
 use Rattle.splits.proofs.Masks.{bit-le, common-none, part-minus, minus-part-of}
 use Rattle.splits.proofs.ByKind.{kinds, no-kind}
-use Rattle.splits.proofs.Tests.{true-false, and-left, and-right, or-cases, some-more, some-at, some-found, some-same, every-more, every-at, every-not, every-all}
+use Rattle.splits.proofs.Tests.{true-false, and-left, and-right, or-cases, some-more, some-at, some-found, some-same, every-at, every-all}
 use Rattle.splits.proofs.Looking.{keep-append}
 use Rattle.splits.proofs.Subproblems.{domain-out}
 
@@ -51,36 +52,49 @@ bad-none t = let e : minus t 0 ≡ t = omega (arith, common-none t) in rw e (or-
 
 module _ (n : ℕ) (P : Subproblem) (r : List ℕ) where
   -- past the 32 domains the domains are empty
-  pub bad-past : length (P .domains) ≡ 32 → 32 < n → true ≡ someBad n P r
+  pub ten-past : length (P .domains) ≡ 32 → 32 < n → _≡_ {A = ℕ} 10 (cond (someBad n P r || allSame n P r) 10 0)
   unfolding someBad
-  bad-past e h =
-      sym (some-at (λ i. bad (targetOf r i) (domain P i)) n 32 h (rw (← domain-out P 32 e (omega arith)) (bad-none (targetOf r 32))))
-
-  -- so where none is bad there are at most 32 variables
-  pub none-bad-few : length (P .domains) ≡ 32 → someBad n P r ≡ false → n ≤ 32
-  none-bad-few e h = let few : n < 33 = lt-of-not-le (λ l. true-false (bad-past e l ∙ h)) in omega arith
+  ten-past e h =
+      rw (some-at (λ i. bad (targetOf r i) (domain P i)) n 32 h (rw (← domain-out P 32 e (omega arith)) (bad-none (targetOf r 32))))
 
   -- a bad target ends the loop
-  pub bad-at : (i t m : ℕ) (b : Bool) → i < n → t ≡ targetOf r i → m ≡ domain P i → b ≡ bad t m → b ≡ true → true ≡ someBad n P r
+  pub ten-at : (i t m : ℕ) (b : Bool) → i < n → t ≡ targetOf r i → m ≡ domain P i → b ≡ bad t m → b ≡ true
+      → _≡_ {A = ℕ} 10 (cond (someBad n P r || allSame n P r) 10 0)
   unfolding someBad
-  bad-at i t m b h s k e y = sym (some-at (λ j. bad (targetOf r j) (domain P j)) n i h (rw (← s, ← k, ← e) y))
+  ten-at i t m b h s k e y = rw (some-at (λ j. bad (targetOf r j) (domain P j)) n i h (rw (← s, ← k, ← e) y))
 
-  -- and so does one that is not the domain
-  pub same-not : (i t m : ℕ) → i < n → t ≡ targetOf r i → m ≡ domain P i → (t ≡ m → ⊥) → false ≡ allSame n P r
-  unfolding allSame
-  same-not i t m h s k y = sym (every-not (λ j. eqb (targetOf r j) (domain P j)) n i h (rw (← s, ← k) (ne-eqb t m y)))
+module _ (P : Subproblem) (r : List ℕ) where
+  -- what the loop knows of the first i targets: none is bad, and whether all are their domains
+  pub record Passed (i : ℕ) (same : Bool) : Type 0 where
+    pub not-bad : someBad i P r ≡ false
+    pub all : same ≡ allSame i P r
 
--- one target more that is not bad
-pub bad-more : (i : ℕ) (P : Subproblem) (r : List ℕ) (t m : ℕ) (b : Bool) → someBad i P r ≡ false → t ≡ targetOf r i → m ≡ domain P i
-    → b ≡ bad t m → b ≡ false → someBad (i + 1) P r ≡ false
-unfolding someBad
-bad-more i P r t m b inv s k e y = some-more (λ j. bad (targetOf r j) (domain P j)) i inv (rw (← s, ← k, ← e) y)
+  pub passed-none : Passed 0 true
+  unfolding someBad allSame some every
+  passed-none = record { not-bad = refl; all = refl }
 
--- one target more that is the domain
-pub same-more : (i : ℕ) (P : Subproblem) (r : List ℕ) (t m : ℕ) → allSame i P r ≡ true → t ≡ targetOf r i → m ≡ domain P i
-    → t ≡ m → allSame (i + 1) P r ≡ true
-unfolding allSame
-same-more i P r t m inv s k y = every-more (λ j. eqb (targetOf r j) (domain P j)) i inv (rw (← s, ← k) (eq-eqb t m y))
+  -- one target more that is not bad, and is the domain or is not
+  module _ (i t m : ℕ) (b same after : Bool) (so-far : Passed i same) (its-target : t ≡ targetOf r i) (its-domain : m ≡ domain P i)
+      (tested : b ≡ bad t m) (good : b ≡ false) where
+    more-good : someBad (i + 1) P r ≡ false
+    unfolding someBad
+    more-good = some-more (λ j. bad (targetOf r j) (domain P j)) i (so-far .not-bad) (rw (← its-target, ← its-domain, ← tested) good)
+
+    more-same : (s : Bool) → eqb t m ≡ s → (allSame i P r && s) ≡ allSame (i + 1) P r
+    unfolding allSame every
+    more-same s e = rw (add-one, ← its-target, ← its-domain, e)
+
+    pub passed-same : t ≡ m → after ≡ same → Passed (i + 1) after
+    passed-same e k =
+        record { not-bad = more-good; all = k ∙ so-far .all ∙ sym (and-true (allSame i P r)) ∙ more-same true (eq-eqb t m e) }
+
+    pub passed-other : (t ≡ m → ⊥) → after ≡ false → Passed (i + 1) after
+    passed-other f k =
+        record { not-bad = more-good; all = k ∙ sym (and-false (allSame i P r)) ∙ more-same false (ne-eqb t m f) }
+
+  -- and at the end
+  pub passed-all : (n i : ℕ) (same : Bool) → Passed i same → i ≡ n → _≡_ {A = ℕ} (cond same 10 0) (cond (someBad n P r || allSame n P r) 10 0)
+  passed-all n i same h e = rw (← e, h .not-bad, ← h .all)
 
 -- ---- the tests in the code's order
 
@@ -92,10 +106,10 @@ lacks m v false e =
     eq-eqb (bit m v) 0 (omega (arith, bit-le m v))
 
 -- where 8 is not deserved, of a V with domain m
-pub past-8 : (n d : ℕ) (P : Subproblem) (k V′ v m : ℕ) (b : Bool) → V′ < n → b ≡ eqb (bit (P .marked) V′) 1 → b ≡ false → m ≡ domain P V′
-    → refusalOfVariable n d P k V′ v ≡ cond (eqb k 4) (cond (eqb (size m) 1) 9 0) (cond (leb d v || eqb (bit m v) 0) 9 0)
+pub past-8 : (n d : ℕ) (P : Subproblem) (k V′ v m : ℕ) (b c : Bool) → V′ < n → b ≡ eqb (bit (P .marked) V′) 1 → b ≡ false → m ≡ domain P V′
+    → c ≡ deserves9 d m k v → cond c 9 0 ≡ refusalOfVariable n d P k V′ v
 unfolding refusalOfVariable
-past-8 n d P k V′ v m b h e f s = rw (lt-leb n V′ h, ← e, f, ← s)
+past-8 n d P k V′ v m b c h e f s t = rw (lt-leb n V′ h, ← e, f, ← s, ← t)
 
 module _ (n d : ℕ) (P : Subproblem) (r : List ℕ) where
   -- kind 5 can only deserve 10
@@ -106,7 +120,7 @@ module _ (n d : ℕ) (P : Subproblem) (r : List ℕ) where
   -- kinds 1 to 4 only 8 or 9, and 4 reads no v
   pub of-variable : (k V′ v : ℕ) → k ≡ kindOf r → V′ ≡ variableOf r → ((k ≡ 4 → ⊥) → v ≡ valueOf r) → 1 ≤ k → k ≤ 4
       → refusalOfVariable n d P k V′ v ≡ refusalOf n d P r
-  unfolding refusalOf refused-7 refused-8 refused-9 refused-10 refusalOfVariable
+  unfolding refusalOf refused-7 refused-8 refused-9 refused-10 refusalOfVariable deserves9
   of-variable k V′ v s i j l h = elim (ℕ-discrete k 4) [
     | yes e ↦ rw (← s, ← i, e)
     | no f ↦

@@ -3,11 +3,10 @@ use crate::mask;
 use crate::subproblem::Subproblem;
 use crate::words;
 ghost use mathlib.Core.Path.{_≡_};
-ghost use Prim.Native.Nat.{_≤_};
 ghost use mathlib.Core.Bool.{cond, _||_};
 ghost use Rattle.splits.specs.Requests.{kindOf, variableOf, valueOf};
 ghost use Rattle.splits.specs.Refusals.{bad, someBad, allSame};
-ghost use Rattle.splits.specs.Work.Loops.{refusalOfVariable};
+ghost use Rattle.splits.specs.Work.Loops.{deserves9, refusalOfVariable};
 ghost use Rattle.splits.specs.Calls.{Refusal-of};
 
 // Whether a target is empty or not part of the domain.
@@ -18,38 +17,6 @@ fn is_target_bad(target: u16, domain: u16) -> bool
         return true;
     }
     target & !domain != 0
-}
-
-// Whether a target of the n variables is; of more than 32 variables, too.
-fn some_target_bad(top: Subproblem, n: usize, request: &[u16]) -> bool
-    ensures { λ r. ⌜ r ≡ someBad n top (now (request .entry)) ⌝ }
-{
-    if 32 < n {
-        return true;
-    }
-    let mut i = 0;
-    while i < n {
-        if is_target_bad(words::target(request, i), top.domain(i)) {
-            return true;
-        }
-        i += 1;
-    }
-    false
-}
-
-// Whether every target is the domain itself.
-fn all_targets_same(top: Subproblem, n: usize, request: &[u16]) -> bool
-    requires { ⌜ n ≤ 32 ⌝ }
-    ensures { λ r. ⌜ r ≡ allSame n top (now (request .entry)) ⌝ }
-{
-    let mut i = 0;
-    while i < n {
-        if words::target(request, i) != top.domain(i) {
-            return false;
-        }
-        i += 1;
-    }
-    true
 }
 
 // The refusal that a request deserves, in the order 7, 8, 9, 10; 0 for none.
@@ -69,17 +36,41 @@ pub fn refusal(top: Subproblem, n: usize, d: usize, request: &[u16]) -> u32
     refusal_of_variable(top, n, d, request)
 }
 
-// 10 or none.
+// 10 or none: a target is bad, or every target is the domain itself; 10 for more than 32 variables, too.
 fn refusal_of_targets(top: Subproblem, n: usize, request: &[u16]) -> u32
     ensures { λ r. ⌜ r ≡ cond (someBad n top (now (request .entry)) || allSame n top (now (request .entry))) 10 0 ⌝ }
 {
-    if some_target_bad(top, n, request) {
+    if 32 < n {
         return 10;
     }
-    if all_targets_same(top, n, request) {
-        return 10;
+    let mut all_same = true;
+    let mut i = 0;
+    while i < n {
+        let target = words::target(request, i);
+        let domain = top.domain(i);
+        if is_target_bad(target, domain) {
+            return 10;
+        }
+        if target != domain {
+            all_same = false;
+        }
+        i += 1;
     }
-    0
+    if all_same { 10 } else { 0 }
+}
+
+// Whether V, with this domain, deserves 9: kind 4, if it has one value; kinds 1 to 3, if v is d or more, or not in it.
+fn deserves_9(domain: u16, d: usize, request: &[u16]) -> bool
+    ensures { λ r. ⌜ r ≡ deserves9 d domain (kindOf (now (request .entry))) (valueOf (now (request .entry))) ⌝ }
+{
+    if words::kind(request) == 4 {
+        return mask::count(domain) == 1;
+    }
+    let value = words::value(request);
+    if d <= value {
+        return true;
+    }
+    !mask::has(domain, value)
 }
 
 // 8, 9 or none, of kinds 1 to 4.
@@ -93,19 +84,8 @@ fn refusal_of_variable(top: Subproblem, n: usize, d: usize, request: &[u16]) -> 
     if top.is_instantiated(variable) {
         return 8;
     }
-    let domain = top.domain(variable);
-    if words::kind(request) == 4 {
-        if mask::count(domain) == 1 {
-            return 9;
-        }
-        return 0;
-    }
-    let value = words::value(request);
-    if d <= value {
+    if deserves_9(top.domain(variable), d, request) {
         return 9;
     }
-    if mask::has(domain, value) {
-        return 0;
-    }
-    9
+    0
 }

@@ -18,11 +18,14 @@ pub record LookedAt (n : ℕ) (allowed : Table) (P : Subproblem) (V′ v count :
   pub counted : count ≡ tried (others V′) n allowed P V′ v
   pub met : conflict ≡ forbidden n allowed P V′ v
 
+-- Whether 9 is deserved, of a V with domain m.
+unfoldable pub deserves9 : ℕ → ℕ → ℕ → ℕ → Bool
+deserves9 d m kind v = cond (eqb kind 4) (eqb (size m) 1) (leb d v || eqb (bit m v) 0)
+
 -- 8, 9 or none, of kinds 1 to 4.
 unfoldable pub refusalOfVariable : ℕ → ℕ → Subproblem → ℕ → ℕ → ℕ → ℕ
 refusalOfVariable n d P kind V′ v =
-    cond (leb n V′ || eqb (bit (P .marked) V′) 1) 8
-    (cond (eqb kind 4) (cond (eqb (size (domain P V′)) 1) 9 0) (cond (leb d v || eqb (bit (domain P V′) v) 0) 9 0))
+    cond (leb n V′ || eqb (bit (P .marked) V′) 1) 8 (cond (deserves9 d (domain P V′) kind v) 9 0)
 
 -- The k-th candidate of a request of kind 1 to 3; the subproblem itself where the words do not fit.
 unfoldable pub aroundValue : Subproblem → ℕ → ℕ → List ℕ → List ℕ → ℕ → Subproblem
