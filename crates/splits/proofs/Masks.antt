@@ -131,12 +131,20 @@ all-set (suc d) (suc v) l =
     let half : (2 ^ suc d - 1) / 2 ≡ 2 ^ d - 1 = omega (arith, pow-pos d) in
     bit-suc _ v ∙ ap (λ (m : ℕ). bit m v) half ∙ all-set d v (omega arith)
 
+-- numbers with the same lowest digit and the same rest are the same
+halves : (a b : ℕ) → a / 2 ≡ b / 2 → a % 2 ≡ b % 2 → a ≡ b
+halves a b h o = omega arith
+
+flip-min : (a b : ℕ) → min (a % 2) (1 - b % 2) ≡ a % 2 - b % 2
+flip-min a b = omega arith
+
 -- `a & !b`, in a word of w digits
 pub not-minus : (w a b : ℕ) → a < 2 ^ w → b < 2 ^ w → bitAnd a ((2 ^ w - 1) - b) ≡ minus a b
 not-minus zero a b h k = rw (lt-one h) (sym (none-minus b))
 not-minus (suc w) a b h k =
-    let same = rw (flip-half w b k, not-minus w (a / 2) (b / 2) (omega arith) (omega arith)) at (and-step a (2 ^ suc w - 1 - b)) in
-    rw same (omega (arith, flip-odd w b k, minus-half a b, minus-odd a b))
+    halves _ _
+    (common-half a _ ∙ ap (bitAnd (a / 2)) (flip-half w b k) ∙ not-minus w (a / 2) (b / 2) (omega arith) (omega arith) ∙ sym (minus-half a b))
+    (common-odd a _ ∙ ap (min (a % 2)) (flip-odd w b k) ∙ flip-min a b ∙ sym (minus-odd a b))
 
 pub single-lt : (w v : ℕ) → v < w → single v < 2 ^ w
 single-lt w v h = pow-lt h
