@@ -3,11 +3,12 @@
 use mathlib.Core.Path.{_≡_, refl, sym, ap, _∙_}
 use mathlib.Core.Bool.{Bool, true, false, _&&_, _||_}
 use Prim.Native.Nat.{ℕ, zero, suc, _+_, _<_}
-use native.Mathlib.Nat.{not-suc-le-zero, le-of-suc-le-suc, eq-or-lt-of-le}
+use native.Mathlib.Nat.{not-suc-le-zero}
 use native.Mathlib.Numerals.{add-one}
 use native.Mathlib.Omega.{arith}
 use mathlib.Core.Logic.{_⊎_, inl, inr, ⊎-elim}
 use Rattle.splits.specs.Subproblems.{every, some}
+use Rattle.splits.proofs.Products.{last}
 
 pub true-false : true ≡ false → ⊥
 true-false e = let z : _≡_ {A = ℕ} 0 1 = cc in omega arith
@@ -32,10 +33,6 @@ pub or-cases : (a b : Bool) → (a || b) ≡ true → (a ≡ true) ⊎ (b ≡ tr
 or-cases true b e = inl refl
 or-cases false b e = inr e
 
--- of a number below suc n: it is n, or below n
-below-suc : (i n : ℕ) → i < suc n → (i ≡ n) ⊎ (i < n)
-below-suc i n h = eq-or-lt-of-le (le-of-suc-le-suc h)
-
 module _ (f : ℕ → Bool) where
   pub some-more : (i : ℕ) → some i f ≡ false → f i ≡ false → some (i + 1) f ≡ false
   unfolding some
@@ -48,23 +45,23 @@ module _ (f : ℕ → Bool) where
   pub some-at : (n i : ℕ) → i < n → f i ≡ true → some n f ≡ true
   unfolding some
   some-at zero i h e = absurd (not-suc-le-zero h)
-  some-at (suc n) i h e = ⊎-elim (λ s. last (some n f) (ap f (sym s) ∙ e)) (λ l. rw (some-at n i l e)) (below-suc i n h)
+  some-at (suc n) i h e = ⊎-elim (λ s. at-last (some n f) (ap f (sym s) ∙ e)) (λ l. rw (some-at n i l e)) (last h)
     where
-      last : (b : Bool) → f n ≡ true → (b || f n) ≡ true
-      last true x = refl
-      last false x = x
+      at-last : (b : Bool) → f n ≡ true → (b || f n) ≡ true
+      at-last true x = refl
+      at-last false x = x
 
   pub every-at : (n i : ℕ) → i < n → every n f ≡ true → f i ≡ true
   unfolding every
   every-at zero i h e = absurd (not-suc-le-zero h)
   every-at (suc n) i h e =
-      ⊎-elim (λ s. ap f s ∙ and-right (every n f) (f n) e) (λ l. every-at n i l (and-left (every n f) (f n) e)) (below-suc i n h)
+      ⊎-elim (λ s. ap f s ∙ and-right (every n f) (f n) e) (λ l. every-at n i l (and-left (every n f) (f n) e)) (last h)
 
   pub some-none : (n i : ℕ) → i < n → some n f ≡ false → f i ≡ false
   unfolding some
   some-none zero i h e = absurd (not-suc-le-zero h)
   some-none (suc n) i h e =
-      ⊎-elim (λ s. ap f s ∙ or-right (some n f) (f n) e) (λ l. some-none n i l (or-left (some n f) (f n) e)) (below-suc i n h)
+      ⊎-elim (λ s. ap f s ∙ or-right (some n f) (f n) e) (λ l. some-none n i l (or-left (some n f) (f n) e)) (last h)
 
   pub every-not : (n i : ℕ) → i < n → f i ≡ false → every n f ≡ false
   every-not n i h e = go (every n f) refl

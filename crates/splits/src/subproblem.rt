@@ -44,7 +44,8 @@ impl Subproblem {
         if 32 < n {
             return false;
         }
-        (self.marked as u64) % (1 << n) == (1 << n) - 1
+        let bound: u64 = 1 << n;
+        (self.marked as u64) % bound == bound - 1
     }
 
     // Whether one of the first `n` domains is empty.

@@ -11,17 +11,14 @@ use Rattle.splits.proofs.subproblem.Subproblem.all_instantiated.Tie as 
 returns : tie.Need-returns
 returns c = let h : Fits w32 (c .before .args .self .marked) = search needs in marks-over _ _ (h .fits) (c .if1 .taken)
 
+shl-bound : tie.Need-shl-bound
+shl-bound c = search needs
+
 cast-result : tie.Need-cast-result
 cast-result c = search needs
 
-shl-result : tie.Need-shl-result
-shl-result c = search needs
-
 rem-result : tie.Need-rem-result
 rem-result c = rw (shifted _ (c .before .if1 .left)) (pow-pos _)
-
-shl-result-2 : tie.Need-shl-result-2
-shl-result-2 c = search needs
 
 sub-result : tie.Need-sub-result
 sub-result c = rw (shifted _ (c .before .if1 .left)) (pow-pos _)
@@ -32,4 +29,4 @@ returns-2 c = marks-all _ _ (c .before .if1 .left)
 pub all-instantiated-spec : {M : Type 1} → statement M
 all-instantiated-spec =
     tie.close
-    (tie.spec returns cast-result shl-result rem-result shl-result-2 sub-result returns-2)
+    (tie.spec returns shl-bound cast-result rem-result sub-result returns-2)
