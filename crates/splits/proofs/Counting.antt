@@ -1,6 +1,6 @@
 -- The loops that count checks find what the rules count. Assumes nothing.
 use mathlib.Core.Path.{_≡_, refl, sym, ap, _∙_}
-use mathlib.Core.Bool.{Bool, true, false, not, _&&_}
+use mathlib.Core.Bool.{Bool, true, false, not, _&&_, and-true, and-false}
 use mathlib.Core.List.{List}
 use Prim.Native.Nat.{ℕ, zero, suc, _+_, _≤_, _<_}
 use native.Mathlib.Omega.{arith}
@@ -48,6 +48,15 @@ pub forbids-none : (n d : ℕ) (t : List ℕ) (P : Subproblem) (V′ v i m a : �
     → true ≡ forbids (tableOf n d t) P V′ v i
 unfolding forbids
 forbids-none n d t P V′ v i m a e h l = rw (word-none n d t i V′ (lowest (domain P i)) (rw (h, e) at l), bit-none v) refl
+
+-- whether a variable is looked at: another than V, if it is instantiated; V never
+pub other-looked : (P : Subproblem) (V′ i : ℕ) (q : Bool) → (i ≡ V′ → ⊥) → q ≡ eqb (bit (P .marked) i) 1 → q ≡ instantiatedOther P V′ i
+unfolding instantiatedOther
+other-looked P V′ i q f e = simp (ne-eqb i V′ f, and-true) e
+
+pub own-passed : (P : Subproblem) (V′ i : ℕ) → i ≡ V′ → false ≡ instantiatedOther P V′ i
+unfolding instantiatedOther
+own-passed P V′ i e = simp (eq-eqb i V′ e, and-false)
 
 module _ (n : ℕ) (allowed : Table) (P : Subproblem) (V′ v : ℕ) where
   -- what the loop knows before it looks at i

@@ -6,7 +6,7 @@ use crate::words;
 ghost use mathlib.Core.Path.{_≡_};
 ghost use Prim.Native.Nat.{_+_, _<_, _≤_};
 ghost use Rattle.splits.specs.Problem.{tableOf};
-ghost use Rattle.splits.specs.Splits.{forbids, instantiatedOther};
+ghost use Rattle.splits.specs.Splits.{forbids};
 ghost use Rattle.splits.specs.Checks.{valuesIn, others};
 ghost use Rattle.splits.specs.Calls.{Checks-of};
 ghost use Rattle.splits.specs.Ranges.{Inside};
@@ -16,16 +16,6 @@ ghost use Rattle.splits.specs.Work.Loops.{LookedAt};
 pub(crate) struct Looked {
     pub(crate) count: usize,
     pub(crate) conflict: bool,
-}
-
-// Whether `i` is instantiated and another than `variable`.
-fn is_looked_at(top: Subproblem, variable: usize, i: usize) -> bool
-    ensures { λ r. ⌜ r ≡ instantiatedOther top variable i ⌝ }
-{
-    if i == variable {
-        return false;
-    }
-    top.is_instantiated(i)
 }
 
 // Whether the value of the instantiated variable `i` forbids `value` of `variable`; one that is none of the d values does.
@@ -64,11 +54,13 @@ pub(crate) fn look(
     let mut conflict = false;
     let mut i = 0;
     while i < n {
-        if is_looked_at(top, variable, i) {
-            count += 1;
-            if does_forbid(top, n, d, tables, variable, value, i) {
-                conflict = true;
-                break;
+        if i != variable {
+            if top.is_instantiated(i) {
+                count += 1;
+                if does_forbid(top, n, d, tables, variable, value, i) {
+                    conflict = true;
+                    break;
+                }
             }
         }
         i += 1;

@@ -1,6 +1,6 @@
 -- `splits::checks::look` meets its contract.
 -- Assumes nothing.
-use Rattle.splits.proofs.Counting.{Looking, look-more, look-skip, look-stop, look-end}
+use Rattle.splits.proofs.Counting.{other-looked, own-passed, Looking, look-more, look-skip, look-stop, look-end}
 use mathlib.Core.Logic.{⊎-elim}
 use Rattle.splits.specs.Splits.{below, keep, forbidden}
 use Rattle.splits.specs.Subproblems.{some}
@@ -23,8 +23,8 @@ loop-holds : tie.Need-loop-holds Inv-loop μ-loop
 unfolding forbidden some below keep
 loop-holds c = (search needs, (search needs, (refl, record { passed = refl; none = refl })))
 
-is-looked-at-requires : tie.Need-is-looked-at-requires Inv-loop μ-loop
-is-looked-at-requires c κs = search needs
+is-instantiated-requires : tie.Need-is-instantiated-requires Inv-loop μ-loop
+is-instantiated-requires c κs = search needs
 
 add-count : tie.Need-add-count Inv-loop μ-loop
 add-count c = search needs
@@ -39,13 +39,22 @@ loop-less : tie.Need-loop-less Inv-loop μ-loop
 loop-less c = search needs
 
 loop-again : tie.Need-loop-again Inv-loop μ-loop
-loop-again c = let inv = c .before .before .before .loop .inv .1 .1 in let e = c .before .is-looked-at .ensures in (omega arith, ⊎-elim (λ w. (omega (arith, w .3), (inv .0, rw (w .3) (look-more _ _ _ _ _ _ _ (inv .1) _ _ e (w .0 .taken) (w .1 .ensures) (w .2 .left))))) (λ w. (omega (arith, w .1), (inv .0, rw (w .1) (look-skip _ _ _ _ _ _ _ (inv .1) _ e (w .0 .left))))) (c .if1 .came))
+loop-again c =
+    let inv = c .before .before .loop .inv .1 .1 in (
+      omega arith,
+      ⊎-elim
+          (λ w. (omega (arith, w .5), (inv .0, rw (w .5) (look-more _ _ _ _ _ _ _ (inv .1) _ _ (other-looked _ _ _ _ (w .0 .taken) (w .1 .ensures)) (w .2 .taken) (w .3 .ensures) (w .4 .left)))))
+          (⊎-elim
+          (λ w. (omega (arith, w .3), (inv .0, rw (w .3) (look-skip _ _ _ _ _ _ _ (inv .1) _ (other-looked _ _ _ _ (w .0 .taken) (w .1 .ensures)) (w .2 .left)))))
+          (λ w. (omega (arith, w .1), (inv .0, rw (w .1) (look-skip _ _ _ _ _ _ _ (inv .1) _ (own-passed _ _ _ (w .0 .left)) refl)))))
+          (c .if1 .came),
+    )
 
 returns : tie.Need-returns Inv-loop μ-loop
 returns c = look-end _ _ _ _ _ _ _ (c .before .loop .inv .1 .1 .1) _ (c .before .loop .inv .0) (c .loop-test .left) (c .before .loop .inv .1 .1 .0)
 
 returns-2 : tie.Need-returns-2 Inv-loop μ-loop
-returns-2 c = look-stop _ _ _ _ _ _ _ (c .before .before .before .before .before .loop .inv .1 .1 .1) _ _ (c .before .before .before .before .loop-test .taken) (c .before .before .before .is-looked-at .ensures) (c .before .before .if1 .taken) (c .before .does-forbid .ensures) (c .if2 .taken)
+returns-2 c = look-stop _ _ _ _ _ _ _ (c .before .before .before .before .before .before .loop .inv .1 .1 .1) _ _ (c .before .before .before .before .before .loop-test .taken) (other-looked _ _ _ _ (c .before .before .before .before .if1 .taken) (c .before .before .before .is-instantiated .ensures)) (c .before .before .if2 .taken) (c .before .does-forbid .ensures) (c .if3 .taken)
 
 pub look-spec : {M : Type 1} → statement M
 look-spec =
@@ -54,7 +63,7 @@ look-spec =
     Inv-loop
     μ-loop
     loop-holds
-    is-looked-at-requires
+    is-instantiated-requires
     add-count
     does-forbid-requires
     add-i
