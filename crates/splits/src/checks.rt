@@ -90,12 +90,13 @@ pub fn checks(top: Subproblem, n: usize, d: usize, tables: &[u16], request: &[u1
 {
     let variable = words::variable(request);
     let value = words::value(request);
-    if !tables::within(n, d, tables, variable, value) {
-        return 0;
-    }
-    match words::kind(request) {
-        1 => look(top, n, d, tables, variable, value).count,
-        2 | 3 => values_in_others(top, n, variable),
-        _ => 0,
+    if tables::within(n, d, tables, variable, value) {
+        match words::kind(request) {
+            1 => look(top, n, d, tables, variable, value).count,
+            2 | 3 => values_in_others(top, n, variable),
+            _ => 0,
+        }
+    } else {
+        0
     }
 }

@@ -143,9 +143,9 @@ fn around_value(
         return top;
     }
     match words::kind(request) {
-        1 => backtracking(top, n, d, tables, variable, value, k),
-        2 => forward_checking(top, n, d, tables, variable, value, k),
-        _ => idc(top, n, d, tables, variable, value, k),
+        1 => return backtracking(top, n, d, tables, variable, value, k),
+        2 => return forward_checking(top, n, d, tables, variable, value, k),
+        _ => return idc(top, n, d, tables, variable, value, k),
     }
 }
 
@@ -164,8 +164,8 @@ pub fn piece(
         return top;
     }
     match words::kind(request) {
-        4 => halving(top, n, request, k),
-        5 => extraction(top, n, request, k),
-        _ => around_value(top, n, d, tables, request, k),
+        4 => return halving(top, n, request, k),
+        5 => return extraction(top, n, request, k),
+        _ => return around_value(top, n, d, tables, request, k),
     }
 }

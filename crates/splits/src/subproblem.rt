@@ -20,10 +20,9 @@ impl Subproblem {
         ensures { λ r. ⌜ Domain self variable r ⌝ }
     {
         if variable < 32 {
-            self.domains[variable]
-        } else {
-            0
+            return self.domains[variable];
         }
+        0
     }
 
     // Whether a split instantiated the variable.
@@ -31,10 +30,9 @@ impl Subproblem {
         ensures { λ r. ⌜ Is-instantiated self variable r ⌝ }
     {
         if variable < 32 {
-            (self.marked >> variable) % 2 == 1
-        } else {
-            false
+            return (self.marked >> variable) % 2 == 1;
         }
+        false
     }
 
     // Whether each of the first `n` variables is instantiated: the lowest n marks are all set.
@@ -69,14 +67,12 @@ impl Subproblem {
     pub fn instantiate(mut self, variable: usize, value: usize) -> Subproblem
         ensures { λ r. ⌜ Instantiate self variable value r ⌝ }
     {
-        if 32 <= variable {
-            return self;
+        if variable < 32 {
+            if value < 16 {
+                self.domains[variable] = mask::only(value);
+                self.marked |= 1 << variable;
+            }
         }
-        if 16 <= value {
-            return self;
-        }
-        self.domains[variable] = mask::only(value);
-        self.marked |= 1 << variable;
         self
     }
 

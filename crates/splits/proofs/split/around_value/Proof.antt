@@ -27,8 +27,14 @@ kind-requires c κs = search needs
 backtracking-requires : tie.Need-backtracking-requires
 backtracking-requires c κs = inside-true _ _ _ _ _ (sym (c .before .before .before .within .ensures) ∙ not-false _ (c .before .before .if1 .left))
 
+returns-2 : tie.Need-returns-2
+returns-2 c = around-1 _ _ _ _ _ _ _ (c .before .before .before .before .before .before .variable .ensures) (c .before .before .before .before .before .value .ensures) _ (c .before .before .kind .ensures) (sym (c .before .before .before .before .within .ensures) ∙ not-false _ (c .before .before .before .if1 .left)) _ _ (c .before .match .keys1) (c .backtracking .ensures)
+
 forward-checking-requires : tie.Need-forward-checking-requires
 forward-checking-requires c κs = inside-true _ _ _ _ _ (sym (c .before .before .before .within .ensures) ∙ not-false _ (c .before .before .if1 .left))
+
+returns-3 : tie.Need-returns-3
+returns-3 c = around-2 _ _ _ _ _ _ _ (c .before .before .before .before .before .before .variable .ensures) (c .before .before .before .before .before .value .ensures) _ (c .before .before .kind .ensures) (sym (c .before .before .before .before .within .ensures) ∙ not-false _ (c .before .before .before .if1 .left)) _ _ (c .before .match .keys2) (c .forward-checking .ensures)
 
 idc-requires : tie.Need-idc-requires
 idc-requires c κs =
@@ -36,12 +42,6 @@ idc-requires c κs =
     let kind = c .before .kind .ensures in
     let rest = c .match .rest in
     (inside-true _ _ _ _ _ (sym (c .before .before .before .within .ensures) ∙ not-false _ (c .before .before .if1 .left)), peel-place _ _ _ (p .0) _ kind (inl (the-third _ _ _ (p .0) _ kind (p .1) (rest .0 .1) (rest .1))))
-
-returns-2 : tie.Need-returns-2
-returns-2 c = around-1 _ _ _ _ _ _ _ (c .before .before .before .before .before .before .variable .ensures) (c .before .before .before .before .before .value .ensures) _ (c .before .before .kind .ensures) (sym (c .before .before .before .before .within .ensures) ∙ not-false _ (c .before .before .before .if1 .left)) _ _ (c .before .match .keys1) (c .backtracking .ensures)
-
-returns-3 : tie.Need-returns-3
-returns-3 c = around-2 _ _ _ _ _ _ _ (c .before .before .before .before .before .before .variable .ensures) (c .before .before .before .before .before .value .ensures) _ (c .before .before .kind .ensures) (sym (c .before .before .before .before .within .ensures) ∙ not-false _ (c .before .before .before .if1 .left)) _ _ (c .before .match .keys2) (c .forward-checking .ensures)
 
 returns-4 : tie.Need-returns-4
 returns-4 c =
@@ -60,8 +60,8 @@ around-value-spec =
     returns
     kind-requires
     backtracking-requires
-    forward-checking-requires
-    idc-requires
     returns-2
+    forward-checking-requires
     returns-3
+    idc-requires
     returns-4)

@@ -7,12 +7,6 @@ use borrow.Author.Needs.{needs}
 use Rattle.splits.proofs.subproblem.Subproblem.instantiate.Statement.{statement}
 use Rattle.splits.proofs.subproblem.Subproblem.instantiate.Tie as tie
 
-returns : tie.Need-returns
-returns c = simp (le-ltb _ _ (c .if1 .taken))
-
-returns-2 : tie.Need-returns-2
-returns-2 c = simp (le-ltb _ _ (c .if2 .taken), and-false)
-
 only-requires : tie.Need-only-requires
 only-requires c κs = search needs
 
@@ -28,18 +22,24 @@ cast-self c = search needs
 shl-self : tie.Need-shl-self
 shl-self c = search needs
 
+returns : tie.Need-returns
+returns c = instantiate-in _ _ _ _ (c .only .ensures) (c .before .before .if1 .taken) (c .before .if2 .taken)
+
+returns-2 : tie.Need-returns-2
+returns-2 c = simp (le-ltb _ _ (c .if2 .left), and-false)
+
 returns-3 : tie.Need-returns-3
-returns-3 c = instantiate-in _ _ _ _ (c .only .ensures) (c .before .before .if1 .left) (c .before .if2 .left)
+returns-3 c = simp (le-ltb _ _ (c .if1 .left))
 
 pub instantiate-spec : {M : Type 1} → statement M
 instantiate-spec =
     tie.close
     (tie.spec
-    returns
-    returns-2
     only-requires
     mul-self
     element-write-self
     cast-self
     shl-self
+    returns
+    returns-2
     returns-3)
