@@ -14,12 +14,12 @@ use Rattle.search.specs.Calls.{Opens, Runs, Chooses}
 use Rattle.search.specs.declared.state.State.{State}
 use Rattle.search.specs.declared.state.Opened.{Opened}
 use Rattle.search.specs.declared.state.Ran.{Ran}
+use Rattle.search.proofs.FirstPassing.{search-is-passed}
 use Rattle.files.specs.Blocks.{blocksFor}
 use Rattle.files.specs.Calls.{handedContent, saveRefusal, Saves, Loads}
 use Rattle.files.specs.declared.saved.Saved.{Saved}
 use Rattle.files.specs.declared.saved.Loaded.{Loaded}
 use Rattle.files.proofs.Refusals.{save-none}
-use Rattle.files.proofs.Passing.{search-passing}
 use Rattle.files.proofs.Saving.{saved-few}
 use Rattle.console.specs.Bytes.{Whole, wordsOf, bytesOf}
 use Rattle.console.specs.Calls.{OpensWords, RunsWords, ChoosesWords, LoadsWords}
@@ -184,7 +184,7 @@ pub save-fits : (n d : ℕ) (domains tables agenda : List ℕ) (s : State) (befo
 save-fits n d domains tables bytes s before after r small h = elim (ℕ-discrete (saveRefusal n d domains tables (wordsOf bytes) s before) 0) [
   | yes e ↦
       let passed = save-none n d domains tables (wordsOf bytes) s before .0 e .0 in
-      let passing = search-passing n d domains tables (wordsOf bytes) (s .counts .steps .0) (s .counts .checks .0) (s .subproblems) passed in
+      let passing = search-is-passed n d domains tables (wordsOf bytes) (s .counts .steps .0) (s .counts .checks .0) (s .subproblems) .0 passed in
       let few = saved-few n d domains tables (wordsOf bytes) s (words-small bytes small) passing in
       let blocks : r .blocks ≡ blocksFor (length (handedContent n d domains tables (wordsOf bytes) s)) = rw e at (h .blocks) in
       omega arith

@@ -29,7 +29,7 @@ use Rattle.search.proofs.Encoding.{length-stackOf}
 use Rattle.search.proofs.Deserved.{slots-is}
 use Rattle.search.proofs.Copies.{zeros-at}
 use Rattle.files.proofs.Lists.{padded-at}
-use Rattle.files.proofs.Passing.{slots-in}
+use Rattle.files.proofs.Stacks.{slots-in}
 
 -- ---- a request makes n + 2 pieces at most
 

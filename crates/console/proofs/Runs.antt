@@ -28,10 +28,10 @@ use Rattle.search.specs.declared.state.Verdict.the-variants.{Running}
 use Rattle.search.proofs.Verdicts.{running}
 use Rattle.search.proofs.Runs.{after, run-finished, run-taken, run-refused, run-ind, stops}
 use Rattle.search.proofs.Encoding.{length-stackOf, stack-of-words}
-use Rattle.search.proofs.FirstPassing.{search-is-passed, run-is-passed}
+use Rattle.search.proofs.FirstPassing.{requests-none, search-is-passed, run-is-passed}
 use Rattle.search.proofs.Picking.{picked}
 use Rattle.search.proofs.HandedOn.{known, run-leaves-so, chooser-leaves-so}
-use Rattle.files.proofs.Passing.{slots-in, requests-whole}
+use Rattle.files.proofs.Stacks.{slots-in}
 use Rattle.files.proofs.Requests.{whole-append, requests-append}
 use Rattle.files.proofs.LoadOutcomes.{given, not-given}
 use Rattle.console.specs.Work.Parts.{joined, Narrow}
@@ -253,7 +253,7 @@ module _ (n d : ℕ) (domains tables before : List ℕ) (s : State) (small : (i 
     -- The list's length apart, the first checks do not read the requests.
     first-same : first (a ++ b) ≡ first a
     unfolding first runRefusal
-    first-same = rw (requests-whole n (length a) wa, requests-whole n (length (a ++ b)) (whole-append n a b wa wb)) refl
+    first-same = rw (requests-none n (length a) .1 wa, requests-none n (length (a ++ b)) .1 (whole-append n a b wa wb)) refl
 
     -- A run that is not refused passed its first checks.
     passed : r .refusal ≡ 0 → first a ≡ 0

@@ -3,7 +3,7 @@
 use mathlib.Core.Path.{_≡_, refl, sym, ap, subst, _∙_}
 use mathlib.Core.Bool.{Bool, true, false, cond, not}
 use mathlib.Core.List.{List, _++_, append-assoc}
-use Prim.Native.Nat.{ℕ, zero, suc, _+_, _-_, _*_, _/_, _%_, _^_, _≤_, _<_}
+use Prim.Native.Nat.{ℕ, _+_, _-_, _*_, _/_, _%_, _^_, _≤_, _<_}
 use native.Mathlib.Omega.{arith}
 use native.Mathlib.Nat.{zero-add, add-mul, add-assoc, mul-le-mul-right, div-le-self, mul-div-cancel, lt-of-not-le}
 use native.Mathlib.Decide.{decLt}
@@ -14,7 +14,7 @@ use borrow.Author.Tests.{not-true, not-false, eqb-true, eq-eqb, leb-true, leb-fa
 use Rattle.splits.proofs.Tests.{and-left, and-right, true-false}
 use Rattle.search.specs.FirstChecks.{WholeRequests}
 use Rattle.search.specs.Verdicts.{numberOf}
-use Rattle.search.specs.Runs.{Stopped, run, cutInto, requestsIn}
+use Rattle.search.specs.Runs.{Stopped, run, requestsIn}
 use Rattle.search.specs.Agenda.{problemOf, slotsIn}
 use Rattle.search.specs.Calls.{searchOf, Ends, Runs}
 use Rattle.search.proofs.Verdicts.{is-run-on}
@@ -22,7 +22,7 @@ use Rattle.search.proofs.Runs.{stops}
 use Rattle.search.specs.declared.state.State.{State}
 use Rattle.search.specs.declared.state.Ran.{Ran}
 use Rattle.search.specs.declared.state.Verdict.the-variants.{Running}
-use Rattle.files.proofs.Requests.{whole-append}
+use Rattle.files.proofs.Requests.{cut-length, whole-append}
 use Rattle.console.specs.Bytes.{Whole, wordsOf}
 use Rattle.console.specs.Work.Parts.{goesOn, joined, partEnd, Listed, Narrow}
 use Rattle.console.proofs.Words.{words-length, words-append}
@@ -115,11 +115,6 @@ stops-not r e f v =
     true-false (sym (rw (eq-eqb (r .refusal) 0 f, eq-eqb (numberOf (r .verdict)) 1 one) refl) ∙ e)
 
 -- ---- how many it takes
-
-cut-length : (m size : ℕ) (w : List ℕ) → length (cutInto m size w) ≡ m
-unfolding cutInto
-cut-length zero size w = refl
-cut-length (suc m) size w = ap suc (cut-length m size (drop size w))
 
 requests-few : (n : ℕ) (w : List ℕ) → length (requestsIn n w) ≤ length w
 unfolding requestsIn

@@ -1,28 +1,32 @@
 -- Files whose words are accepted: what passing 15 says, and what 15 says, rule by rule.
 -- Assumes nothing.
-use mathlib.Core.Path.{_≡_, refl, sym, _∙_}
+use mathlib.Core.Path.{_≡_, refl, sym, ap, _∙_}
 use mathlib.Core.Logic.{_⊎_, inl, inr, _↔_}
 use mathlib.Core.Bool.{Bool, true, false, not, cond, _&&_, _||_, or-true}
 use mathlib.Core.List.{List, List·Memᴰ}
 use Prim.Native.Nat.{ℕ, zero, _+_, _-_, _*_, _/_, _%_, _^_, _≤_, _<_}
 use native.Mathlib.Omega.{arith}
-use native.Mathlib.Nat.{lt-of-lt-of-le, div-add-mod', mod-lt}
+use native.Mathlib.Nat.{div-add-mod', mod-lt}
 use native.Mathlib.Decide.{decLt}
-use lib.Pow.{pow-mono, pow-pos, shr-shr}
+use lib.Arith.{lt-of-le-ne}
+use lib.Pow.{pow-pos, shr-shr}
 use lib.Dec.{eqb, leb, ltb}
 use borrow.Author.Tests.{eq-eqb, le-leb, lt-ltb, le-ltb, eqb-true, eqb-false, leb-true, leb-false, ltb-true, ltb-false, not-false}
 use Rattle.splits.specs.Masks.{bit}
+use Rattle.splits.specs.Problem.{Proper}
 use Rattle.splits.specs.Subproblems.{Rules, every}
 use Rattle.splits.specs.declared.subproblem.Subproblem.{Subproblem}
-use Rattle.splits.proofs.Masks.{bit-above, some-member}
+use Rattle.splits.proofs.Masks.{bit-le, bit-above, some-member}
 use Rattle.splits.proofs.Tests.{true-false, and-left, and-right, or-left, or-right, every-at, every-all}
 use Rattle.search.specs.FirstChecks.{Over, allObey}
 use Rattle.search.proofs.Decisions.{Refutes, every-fails}
 use Rattle.search.proofs.FirstParts.{given-if}
+use Rattle.search.proofs.Deserved.{refutes-rules, all-rules, all-obey}
+use Rattle.search.proofs.FirstPassing.{gives-none}
 use Rattle.files.specs.Blocks.{blocksFor}
-use Rattle.files.specs.Reading.{blocksIn, contentWord, saidN, saidD, saidSteps, saidChecks, saidSubproblems, saidAllowed, saidProblem, saidSearch, saidWords, Deserves-15, masksBelowTriangle, refusalOfWords}
-use Rattle.files.proofs.Tests.{either, one-of, given-exactly, not-given-exactly}
-use Rattle.files.proofs.Rules.{all-rules, rules-all, some-breaks}
+use Rattle.files.specs.Reading.{blocksIn, contentWord, saidN, saidD, saidSteps, saidChecks, saidSubproblems, saidAllowed, saidProblem, saidSearch, saidWords, gathered, Deserves-15, masksBelowTriangle, refusalOfWords}
+use Rattle.files.proofs.Tests.{either, one-of, given-exactly}
+use Rattle.files.proofs.Gathered.{gathered-lt, gathered-bit}
 
 -- A mask has a bit at d or above exactly if it is 2 ^ d or more.
 pub over-not : (d m : ℕ) → m < 2 ^ d → Over d m → ⊥
@@ -51,6 +55,42 @@ pub record Accepts (file : List ℕ) : Type 0 where
   pub counted : saidChecks file ≤ 496 * saidSteps file
 
 module _ (file : List ℕ) where
+  -- A mask below the triangle is put together of those above.
+  above-is : (i j a : ℕ) → j < i → saidAllowed file i j a ≡ gathered (saidD file) (λ b. bit (saidAllowed file j i b) a)
+  unfolding saidAllowed
+  above-is i j a l = rw (le-ltb i j (omega arith), lt-ltb j i l) refl
+
+  -- So the tables are symmetric.
+  mirror : (i j a b : ℕ) → i < j → a < saidD file → bit (saidAllowed file i j a) b ≡ bit (saidAllowed file j i b) a
+  mirror i j a b l m =
+      sym (ap (λ (x : ℕ). bit x a) (above-is j i b l) ∙ gathered-bit (saidD file) (λ v. bit (saidAllowed file i j v) b) (λ v. bit-le (saidAllowed file i j v) b) a m)
+
+  -- A problem of such numbers, domains and masks is proper.
+  proper-said : 1 ≤ saidN file → saidN file ≤ 32 → 1 ≤ saidD file → saidD file ≤ 16
+      → ((i : ℕ) → i < saidN file → saidProblem file .domain i < 2 ^ saidD file)
+      → ((i j a : ℕ) → i < j → j < saidN file → a < saidD file → saidAllowed file i j a < 2 ^ saidD file) → Proper (saidProblem file)
+  proper-said n₁ n₂ d₁ d₂ domains masks = record {
+    some-variable = n₁;
+    variables = n₂;
+    some-value = d₁;
+    values = d₂;
+    domains = domains;
+    masks = λ i j v l k f m. elim (decLt i j) [
+      | yes h ↦ masks i j v h k m
+      | no h ↦
+          let less : j < i = lt-of-le-ne (omega arith) (λ e. f (sym e)) in
+          rw (above-is i j v less) (gathered-lt (saidD file) (λ b. bit (saidAllowed file j i b) v) (λ b. bit-le (saidAllowed file j i b) v))
+    ];
+    symmetric = λ i j v w l k f m o. elim (decLt i j) [
+      | yes h ↦ mirror i j v w h m
+      | no h ↦ let less : j < i = lt-of-le-ne (omega arith) (λ e. f (sym e)) in sym (mirror j i w v less o)
+    ];
+  }
+
+  -- The problem that an accepted file says is proper.
+  pub said-proper : Accepts file → Proper (saidProblem file)
+  said-proper a = proper-said (a .some-variable) (a .variables) (a .some-value) (a .values) (a .domains) (a .masks)
+
   t-one : Bool
   t-one = leb 1 (saidN file)
 
@@ -90,11 +130,6 @@ module _ (file : List ℕ) where
   is-tests : refusalOfWords file ≡ cond tests 0 15
   unfolding refusalOfWords tests t-one t-vars t-val t-vals t-few t-fills t-zero t-doms t-masks t-rules t-count
   is-tests = refl
-
-  -- A domain of at most 16 values is a mask of 16 bits.
-  small : saidD file ≤ 16 → ((i : ℕ) → i < saidN file → saidProblem file .domain i < 2 ^ saidD file)
-      → (i : ℕ) → i < saidN file → saidProblem file .domain i < 2 ^ 16
-  small l h i k = lt-of-lt-of-le (h i k) (pow-mono l)
 
   domains-say : t-doms ≡ true → (i : ℕ) → i < saidN file → saidProblem file .domain i < 2 ^ saidD file
   unfolding t-doms
@@ -153,12 +188,16 @@ module _ (file : List ℕ) where
       let e2 : (t-one && t-vars) ≡ true = and-left (t-one && t-vars) t-val e3 in
       let e1 : (t-one) ≡ true = and-left (t-one) t-vars e2 in
       let doms = domains-say (and-right (t-one && t-vars && t-val && t-vals && t-few && t-fills && t-zero) t-doms e8) in
-      let vals : saidD file ≤ 16 = leb-true (saidD file) 16 (and-right (t-one && t-vars && t-val) t-vals e4) in
+      let masks = masks-say (and-right (t-one && t-vars && t-val && t-vals && t-few && t-fills && t-zero && t-doms) t-masks e9) in
+      let n₁ : 1 ≤ saidN file = leb-true 1 (saidN file) e1 in
+      let n₂ : saidN file ≤ 32 = leb-true (saidN file) 32 (and-right (t-one) t-vars e2) in
+      let d₁ : 1 ≤ saidD file = leb-true 1 (saidD file) (and-right (t-one && t-vars) t-val e3) in
+      let d₂ : saidD file ≤ 16 = leb-true (saidD file) 16 (and-right (t-one && t-vars && t-val) t-vals e4) in
       record {
-        some-variable = leb-true 1 (saidN file) e1;
-        variables = leb-true (saidN file) 32 (and-right (t-one) t-vars e2);
-        some-value = leb-true 1 (saidD file) (and-right (t-one && t-vars) t-val e3);
-        values = vals;
+        some-variable = n₁;
+        variables = n₂;
+        some-value = d₁;
+        values = d₂;
         few = leb-true (saidSubproblems file) 512 (and-right (t-one && t-vars && t-val && t-vals) t-few e5);
         fills = eqb-true (blocksIn file) (blocksFor (saidWords file)) (and-right (t-one && t-vars && t-val && t-vals && t-few) t-fills e6);
         zeros = λ k l m.
@@ -166,8 +205,8 @@ module _ (file : List ℕ) where
             rw (← at) (eqb-true (contentWord file (saidWords file + (k - saidWords file))) 0
             (every-at (λ k. eqb (contentWord file (saidWords file + k)) 0) (blocksIn file * 253 - saidWords file) (k - saidWords file) (omega arith) (and-right (t-one && t-vars && t-val && t-vals && t-few && t-fills) t-zero e7)));
         domains = doms;
-        masks = masks-say (and-right (t-one && t-vars && t-val && t-vals && t-few && t-fills && t-zero && t-doms) t-masks e9);
-        rules = all-rules (saidProblem file) (small vals doms) (saidSearch file .stack) (and-right (t-one && t-vars && t-val && t-vals && t-few && t-fills && t-zero && t-doms && t-masks) t-rules e10);
+        masks = masks;
+        rules = all-rules (saidProblem file) (saidSearch file .stack) (proper-said n₁ n₂ d₁ d₂ doms masks) (and-right (t-one && t-vars && t-val && t-vals && t-few && t-fills && t-zero && t-doms && t-masks) t-rules e10);
         counted = leb-true (saidChecks file) (496 * saidSteps file) (and-right (t-one && t-vars && t-val && t-vals && t-few && t-fills && t-zero && t-doms && t-masks && t-rules) t-count e11);
       }
 
@@ -178,7 +217,7 @@ module _ (file : List ℕ) where
       (λ k l. eq-eqb (contentWord file (saidWords file + k)) 0 (a .zeros (saidWords file + k) (omega arith) (omega arith))) in
       let doms : t-doms ≡ true = every-all (λ i. ltb (saidProblem file .domain i) (2 ^ saidD file)) (saidN file)
       (λ i l. lt-ltb (saidProblem file .domain i) (2 ^ saidD file) (a .domains i l)) in
-      let rules : t-rules ≡ true = rules-all (saidProblem file) (small (a .values) (a .domains)) (saidSearch file .stack) (a .rules) in
+      let rules : t-rules ≡ true = all-obey (saidProblem file) (saidSearch file .stack) (said-proper a) (a .rules) in
       rw (
         le-leb 1 (saidN file) (a .some-variable),
         le-leb (saidN file) 32 (a .variables),
@@ -210,8 +249,9 @@ module _ (file : List ℕ) where
           → t-masks ≡ true → Way t-rules → Deserves-15 file
       rules a b c d f g h i j (inl x) = counts a b c d f g h i j x (either t-count)
       rules a b c d f g h i j (inr x) =
-          inr (inr (inr (inr (inr (inr (inr (inl
-          (some-breaks (saidProblem file) (small (leb-true (saidD file) 16 d) (domains-say i)) (saidSearch file .stack) x))))))))
+          let proper = proper-said (leb-true 1 (saidN file) a) (leb-true (saidN file) 32 b) (leb-true 1 (saidD file) c) (leb-true (saidD file) 16 d)
+          (domains-say i) (masks-say j) in
+          inr (inr (inr (inr (inr (inr (inr (inl (refutes-rules (saidProblem file) (saidSearch file .stack) proper .holds x))))))))
 
       masks : t-one ≡ true → t-vars ≡ true → t-val ≡ true → t-vals ≡ true → t-few ≡ true → t-fills ≡ true → t-zero ≡ true → t-doms ≡ true
           → Way t-masks → Deserves-15 file
@@ -278,7 +318,7 @@ module _ (file : List ℕ) where
 
   -- It passes exactly if 15 is not deserved.
   pub refusal-not-15 : (refusalOfWords file ≡ 0) ↔ (Deserves-15 file → ⊥)
-  refusal-not-15 = rw is-tests (not-given-exactly tests 15 (Deserves-15 file) (λ z. absurd (omega arith)) tests-refute)
+  refusal-not-15 = rw is-tests (gives-none tests (Deserves-15 file) 15 (λ z. absurd (omega arith)) tests-refute)
 
   -- The answer is 0 or 15.
   pub words-either : (refusalOfWords file ≡ 0) ⊎ (refusalOfWords file ≡ 15)

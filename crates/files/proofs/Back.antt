@@ -2,7 +2,7 @@
 -- Assumes nothing.
 use mathlib.Core.Path.{_≡_, refl, sym, ap, ap₂, _∙_}
 use mathlib.Core.List.{List, List·Memᴰ, _++_}
-use Prim.Native.Nat.{ℕ, _+_, _*_, _≤_}
+use Prim.Native.Nat.{ℕ, _*_, _≤_}
 use native.Mathlib.Omega.{arith}
 use lib.ListN.{length, take, drop}
 use lib.Seq.{take-at}
@@ -13,7 +13,10 @@ use Rattle.search.specs.Agenda.{Words, Shape, slotsIn, agendaOf}
 use Rattle.search.specs.FirstChecks.{WholeSlots, refusalOfLengths, searchRefusal}
 use Rattle.search.specs.Runs.{Search}
 use Rattle.search.specs.Calls.{searchOf}
+use Rattle.search.specs.Promises.{PassedSearch}
 use Rattle.search.specs.declared.state.State.{State}
+use Rattle.search.proofs.Encoding.{length-stackOf, agenda-back}
+use Rattle.search.proofs.FirstPassing.{search-is-passed}
 use Rattle.files.specs.Blocks.{blocksFor, fileOf}
 use Rattle.files.specs.Content.{contentOf}
 use Rattle.files.specs.Reading.{saidN, saidD, saidSteps, saidChecks, saidSubproblems, saidDomains, saidAllowed, saidSearch, tableWords}
@@ -23,8 +26,6 @@ use Rattle.files.specs.declared.saved.Saved.{Saved}
 use Rattle.files.specs.declared.saved.Loaded.{Loaded}
 use Rattle.files.proofs.Triangle.{table-other, triangle-same}
 use Rattle.files.proofs.Blocks.{file-length}
-use Rattle.files.proofs.Stacks.{agenda-read, of-length}
-use Rattle.files.proofs.Passing.{Passing, search-passing, passing-search}
 use Rattle.files.proofs.RoundTrip.{saved-again}
 use Rattle.files.proofs.Saving.{stack-shape, saved-says}
 use Rattle.files.proofs.Loading.{Fits, fit-lengths, load-taken, said-passing, memory-read, said-agree}
@@ -97,7 +98,7 @@ state-search : (n : ℕ) → n ≤ 32 → (words : ℕ) (x : Search) → ((P : S
     → searchOf n (agendaOf n words (x .stack)) (stateOf x) ≡ x
 unfolding stateOf
 state-search n few words x shape =
-    let stack = agenda-read n few words (x .stack) shape in
+    let stack = agenda-back n 16 words (x .stack) few shape in
     λ i. record { stack = stack i; steps = x .steps; checks = x .checks }
 
 -- Load of what save wrote returns and leaves the search that was saved.
@@ -108,9 +109,9 @@ module _ (n d : ℕ) (domains tables agenda : List ℕ) (s : State) (before afte
   none : saveRefusal n d domains tables agenda s before ≡ 0
   none = sym (h .refusal) ∙ e
 
-  passing : Passing n d domains tables agenda (s .counts .steps .0) (s .counts .checks .0) (s .subproblems)
+  passing : PassedSearch n d domains tables agenda (s .counts .steps .0) (s .counts .checks .0) (s .subproblems)
   passing =
-      search-passing n d domains tables agenda (s .counts .steps .0) (s .counts .checks .0) (s .subproblems) (save-none n d domains tables agenda s before .0 none .0)
+      search-is-passed n d domains tables agenda (s .counts .steps .0) (s .counts .checks .0) (s .subproblems) .0 (save-none n d domains tables agenda s before .0 none .0)
 
   says-it : Says (fileOf (handedContent n d domains tables agenda s)) n d domains (tableOf n d tables) (searchOf n agenda s)
   says-it = saved-says n d domains tables agenda s words passing
@@ -121,7 +122,7 @@ module _ (n d : ℕ) (domains tables agenda : List ℕ) (s : State) (before afte
       let x = searchOf n agenda s in
       let given : Loads file domains₀ domains′ tables₀ tables′ agenda₀ agenda′ r = rw (written-blocks n d domains tables agenda s before after saved h none) at l in
       let fits : Fits n d (length domains₀) (length tables₀) (length agenda₀) = record { domain-words = ds; table-words = ts; slots = ws } in
-      let size : length (x .stack) ≡ s .subproblems = of-length n (passing .proper .variables) agenda (s .subproblems) in
+      let size : length (x .stack) ≡ s .subproblems = length-stackOf n agenda (s .subproblems) in
       let slots : length (x .stack) ≤ slotsIn n (length agenda₀) = omega arith in
       lent file n d domains (tableOf n d tables) x says-it domains₀ domains′ tables₀ tables′ agenda₀ agenda′ r given fits slots
 
@@ -134,7 +135,7 @@ module _ (n d : ℕ) (domains tables agenda : List ℕ) (s : State) (before afte
     its-domains = lent-back .its-domains;
     its-allowed = rw (lent-back .its-tables) (lent-agree (fileOf (handedContent n d domains tables agenda s)) n d domains (tableOf n d tables) (searchOf n agenda s) says-it);
     its-search = ap₂ (searchOf n) (lent-back .its-agenda) (lent-back .its-state)
-        ∙ state-search n (passing .proper .variables) (length agenda₀) (searchOf n agenda s) (stack-shape n d domains tables agenda s words passing);
+        ∙ state-search n (passing .passed .proper .variables) (length agenda₀) (searchOf n agenda s) (stack-shape n d domains tables agenda s words passing);
   }
 
 -- ---- save after load
@@ -180,8 +181,8 @@ module _ (file domains₀ domains tables₀ tables agenda₀ agenda : List ℕ) 
   unfolding state tables′ agenda′
   first-passes =
       let t = load-taken file (length domains₀) (length tables₀) (length agenda₀) passes in
-      passing-search (saidN file) (saidD file) (saidDomains file) (tableWords (saidN file) (saidD file) (saidAllowed file))
-      (agendaOf (saidN file) (length agenda₀) (saidSearch file .stack)) (saidSteps file) (saidChecks file) (saidSubproblems file)
+      search-is-passed (saidN file) (saidD file) (saidDomains file) (tableWords (saidN file) (saidD file) (saidAllowed file))
+      (agendaOf (saidN file) (length agenda₀) (saidSearch file .stack)) (saidSteps file) (saidChecks file) (saidSubproblems file) .1
       (said-passing file (t .accepts) bytes (length agenda₀) (t .lengths .slots) (t .room))
 
   saves-again : (before after : List ℕ) (saved : Saved) → Saves (saidN file) (saidD file) (saidDomains file) tables′ agenda′ state before after saved

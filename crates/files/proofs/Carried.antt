@@ -10,17 +10,16 @@ use Rattle.splits.specs.Promises.{AgreeApart}
 use Rattle.search.specs.Agenda.{stackOf, slotsIn, agendaOf}
 use Rattle.search.specs.FirstChecks.{WholeSlots}
 use Rattle.search.specs.Calls.{Runs, Chooses}
-use Rattle.search.specs.Promises.{Handed}
+use Rattle.search.specs.Promises.{Handed, PassedSearch}
 use Rattle.search.specs.declared.state.State.{State}
 use Rattle.search.specs.declared.state.Ran.{Ran}
-use Rattle.search.proofs.Encoding.{agenda-of-words}
+use Rattle.search.proofs.Encoding.{length-stackOf, agenda-of-words}
+use Rattle.search.proofs.FirstPassing.{search-is-passed}
 use Rattle.files.specs.Blocks.{fileOf}
 use Rattle.files.specs.Reading.{saidAllowed}
 use Rattle.files.specs.Calls.{handedContent, saveRefusal}
 use Rattle.files.specs.Promises.{Two-ways}
 use Rattle.files.proofs.Triangle.{table-length}
-use Rattle.files.proofs.Stacks.{of-length}
-use Rattle.files.proofs.Passing.{Passing, search-passing}
 use Rattle.files.proofs.Saving.{within}
 use Rattle.files.proofs.Back.{stateOf, lent-back, loads-back}
 use Rattle.files.proofs.Refusals.{save-none}
@@ -55,16 +54,16 @@ module _ (n d : ℕ) (domains tables : List ℕ) (w : Two-ways n d domains table
   s : State
   s = w .first .state
 
-  passing : Passing n d domains tables agenda (s .counts .steps .0) (s .counts .checks .0) (s .subproblems)
+  passing : PassedSearch n d domains tables agenda (s .counts .steps .0) (s .counts .checks .0) (s .subproblems)
   unfolding agenda s
-  passing = search-passing n d domains tables agenda (s .counts .steps .0) (s .counts .checks .0) (s .subproblems) (handed .passes)
+  passing = search-is-passed n d domains tables agenda (s .counts .steps .0) (s .counts .checks .0) (s .subproblems) .0 (handed .passes)
 
   -- The agenda is that of the stack that it holds.
   its-own : agenda ≡ agendaOf n (length agenda) (stackOf n agenda (s .subproblems))
   unfolding agenda s
   its-own =
       agenda-of-words n (w .first-agenda) (w .first .state .subproblems) (within n d domains tables (w .first-agenda) (w .first .state) (handed .words) passing) (handed .words)
-      (λ i l. elim (decLt i (length (w .first-agenda))) [ yes k ↦ passing .unused i l k | no k ↦ List·getD-eq-default (w .first-agenda) 0 (omega arith) ])
+      (λ i l. elim (decLt i (length (w .first-agenda))) [ yes k ↦ passing .zeros i l k | no k ↦ List·getD-eq-default (w .first-agenda) 0 (omega arith) ])
 
   pub carried : Carried w
   unfolding agenda s stateOf
@@ -72,15 +71,15 @@ module _ (n d : ℕ) (domains tables : List ℕ) (w : Two-ways n d domains table
       let none : saveRefusal n d domains tables agenda s (w .buffer) ≡ 0 =
       save-none n d domains tables agenda s (w .buffer) .1 (handed .passes, λ l. absurd (omega (arith, w .enough))) in
       let saved : w .saved .refusal ≡ 0 = w .saves .refusal ∙ none in
-      let room : s .subproblems ≤ slotsIn n (length (w .agenda₀)) = rw (w .agenda-words) (passing .fits) in
-      let slots : WholeSlots n (length (w .agenda₀)) = rw (w .agenda-words) (passing .slots) in
+      let room : s .subproblems ≤ slotsIn n (length (w .agenda₀)) = rw (w .agenda-words) (passing .room) in
+      let slots : WholeSlots n (length (w .agenda₀)) = rw (w .agenda-words) (passing .passed .slots) in
       let back =
       lent-back n d domains tables agenda s (w .buffer) (w .written) (w .saved) (w .domains₀) (w .domains₁) (w .tables₀) (w .tables₁) (w .agenda₀) (w .agenda₁) (w .loaded)
       (handed .words) (w .saves) saved (w .loads) (w .domain-words) (w .table-words) slots room in
       let given =
       loads-back n d domains tables agenda s (w .buffer) (w .written) (w .saved) (w .domains₀) (w .domains₁) (w .tables₀) (w .tables₁) (w .agenda₀) (w .agenda₁) (w .loaded)
       (handed .words) (w .saves) saved (w .loads) (w .domain-words) (w .table-words) slots room in
-      let count = of-length n (passing .proper .variables) agenda (s .subproblems) in
+      let count = length-stackOf n agenda (s .subproblems) in
       record {
         saved = saved;
         loaded = back .refusal;
@@ -88,7 +87,7 @@ module _ (n d : ℕ) (domains tables : List ℕ) (w : Two-ways n d domains table
         its-d = back .its-d;
         its-domains = back .its-domains;
         its-tables = record {
-          words = ap length (back .its-tables) ∙ table-length n d (saidAllowed (fileOf (handedContent n d domains tables agenda s))) ∙ sym (passing .table-words);
+          words = ap length (back .its-tables) ∙ table-length n d (saidAllowed (fileOf (handedContent n d domains tables agenda s))) ∙ sym (passing .passed .tables-words);
           masks = given .its-allowed;
         };
         its-agenda = back .its-agenda ∙ ap (λ (k : ℕ). agendaOf n k (stackOf n agenda (s .subproblems))) (w .agenda-words) ∙ sym its-own;

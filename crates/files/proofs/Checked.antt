@@ -19,17 +19,17 @@ use Rattle.search.specs.Agenda.{slotsIn, stackOf, stackWords, agendaOf}
 use Rattle.search.specs.FirstChecks.{WholeSlots, searchRefusal}
 use Rattle.search.specs.declared.state.State.{State}
 use Rattle.search.proofs.Copies.{zeros-at}
-use Rattle.search.proofs.Encoding.{stack-of-words}
+use Rattle.search.proofs.Encoding.{stack-of-words, agenda-back}
+use Rattle.search.proofs.FirstPassing.{search-is-passed}
 use Rattle.files.specs.Blocks.{blocksFor}
 use Rattle.files.specs.Reading.{blocksIn, contentWord, contentFrom, saidN, saidD, saidSteps, saidChecks, saidSubproblems, saidDomains, saidAllowed, saidAgenda, saidSearch, saidWords, agendaFrom, tableWords, refusalOfWords}
 use Rattle.files.specs.Promises.{Bytes}
 use Rattle.files.specs.Work.Said.{Numbers, StateSaid, numbersSaid, zeroIn, filled, agendaStart, wordsOf, sizedIn, Read, Ready}
 use Rattle.files.proofs.Lists.{seq, seq-join, map-is}
 use Rattle.files.proofs.Triangle.{table-other}
-use Rattle.files.proofs.Stacks.{agenda-read}
+use Rattle.files.proofs.Stacks.{slots-in}
 use Rattle.files.proofs.Whole.{Whole, file-whole}
 use Rattle.files.proofs.Accepted.{Accepts, words-accept, accept-words, words-either}
-use Rattle.files.proofs.Passing.{slots-in, search-passing, passing-search}
 use Rattle.files.proofs.Tables.{rules-agree}
 use Rattle.files.proofs.RoundTrip.{said-shape, said-length}
 use Rattle.files.proofs.Loading.{said-passing}
@@ -136,7 +136,7 @@ module _ (file : List ℕ) (small : Bytes file) (whole : Whole file) (sized : si
   memory-read =
       let few = numbers .0 .variables in
       ap (stackOf (saidN file) memory) (sym (said-length file small few))
-      ∙ agenda-read (saidN file) few (512 * (saidN file + 2)) (saidSearch file .stack) (said-shape file small few)
+      ∙ agenda-back (saidN file) 16 (512 * (saidN file + 2)) (saidSearch file .stack) few (said-shape file small few)
 
   -- The refusal of the first checks.
   abbrev checked : ℕ
@@ -147,8 +147,8 @@ module _ (file : List ℕ) (small : Bytes file) (whole : Whole file) (sized : si
   -- An accepted file passes them.
   accepted-passes : Accepts file → checked ≡ 0
   accepted-passes a =
-      passing-search (saidN file) (saidD file) (saidDomains file) (tableWords (saidN file) (saidD file) (saidAllowed file)) memory
-      (saidSteps file) (saidChecks file) (saidSubproblems file) (said-passing file a small (512 * (saidN file + 2)) slots fits)
+      search-is-passed (saidN file) (saidD file) (saidDomains file) (tableWords (saidN file) (saidD file) (saidAllowed file)) memory
+      (saidSteps file) (saidChecks file) (saidSubproblems file) .1 (said-passing file a small (512 * (saidN file + 2)) slots fits)
 
   -- One that passes them is accepted.
   passes-accepted : checked ≡ 0 → Accepts file
@@ -156,7 +156,7 @@ module _ (file : List ℕ) (small : Bytes file) (whole : Whole file) (sized : si
       let n : ℕ = saidN file in
       let d : ℕ = saidD file in
       let tables : List ℕ = tableWords n d (saidAllowed file) in
-      let h = search-passing n d (saidDomains file) tables memory (saidSteps file) (saidChecks file) (saidSubproblems file) e in
+      let h = search-is-passed n d (saidDomains file) tables memory (saidSteps file) (saidChecks file) (saidSubproblems file) .0 e in
       record {
         some-variable = numbers .0 .some-variable;
         variables = numbers .0 .variables;
@@ -165,14 +165,14 @@ module _ (file : List ℕ) (small : Bytes file) (whole : Whole file) (sized : si
         few = numbers .1;
         fills = full .fills;
         zeros = λ k l m. full .zeros k l;
-        domains = h .proper .domains;
+        domains = h .passed .proper .domains;
         masks = λ i j a l k m.
             let other : i ≡ j → ⊥ = λ q. absurd (omega arith) in
-            rw (← table-other n d (saidAllowed file) i j a (omega arith) k other m) (h .proper .masks i j a (omega arith) k other m);
+            rw (← table-other n d (saidAllowed file) i j a (omega arith) k other m) (h .passed .proper .masks i j a (omega arith) k other m);
         rules = λ P m.
-            rules-agree n d (λ i. getD (saidDomains file) i 0) (tableOf n d tables) (saidAllowed file) (table-other n d (saidAllowed file)) (h .proper .domains) P
+            rules-agree n d (λ i. getD (saidDomains file) i 0) (tableOf n d tables) (saidAllowed file) (table-other n d (saidAllowed file)) (h .passed .proper .domains) P
             (h .rules P (rw memory-read m));
-        counted = h .counted;
+        counted = h .limit;
       }
 
   -- So 15 is given exactly if they refuse.

@@ -13,12 +13,13 @@ use Rattle.splits.specs.Problem.{Table}
 use Rattle.splits.specs.declared.subproblem.Subproblem.{Subproblem}
 use Rattle.search.specs.Agenda.{Shape, stackOf, stackWords}
 use Rattle.search.specs.Runs.{Search}
+use Rattle.search.proofs.Encoding.{stack-back}
 use Rattle.files.specs.Content.{triangle, contentOf}
 use Rattle.files.specs.Reading.{contentWord, contentFrom, saidN, saidD, saidSteps, saidChecks, saidSubproblems, saidDomains, saidAllowed, saidAgenda, saidSearch, saidWords, triangleWords, trianglePlace, gathered}
 use Rattle.files.proofs.Lists.{map-is}
 use Rattle.files.proofs.Triangle.{triangle-length, triangle-at, place-lt}
 use Rattle.files.proofs.Gathered.{gathered-same, gathered-bits}
-use Rattle.files.proofs.Stacks.{shape-length, stack-read}
+use Rattle.files.proofs.Stacks.{shape-length}
 
 -- Three lists one after the other.
 first-at : (a b c : List ℕ) (k : ℕ) → k < length a → getD (a ++ b ++ c) k 0 ≡ getD a k 0
@@ -135,7 +136,7 @@ module _ (n d : ℕ) (domains : List ℕ) (allowed : Table) (s : Search) (few : 
     pub says-stack : saidSearch file .stack ≡ s .stack
     says-stack =
         rw (says-n, says-agenda, says-subproblems)
-        (ap (λ (l : List ℕ). stackOf n l (length (s .stack))) (sym (append-nil (stackWords n (s .stack)))) ∙ stack-read n few (s .stack) shape [])
+        (ap (λ (l : List ℕ). stackOf n l (length (s .stack))) (sym (append-nil (stackWords n (s .stack)))) ∙ stack-back n 16 (s .stack) [] few shape)
 
     -- It says the search.
     pub says-search : saidSearch file ≡ s

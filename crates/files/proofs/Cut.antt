@@ -19,9 +19,10 @@ use Rattle.search.specs.Promises.{Handed, Leaves}
 use Rattle.search.specs.declared.state.State.{State}
 use Rattle.search.specs.declared.state.Ran.{Ran}
 use Rattle.search.proofs.Runs.{stop, after, two-lists, stops}
+use Rattle.search.proofs.FirstPassing.{run-is-passed}
+use Rattle.search.proofs.HandedOn.{known}
 use Rattle.search.proofs.Promises.{run-leaves, chooser-leaves, choose-two}
 use Rattle.files.specs.Promises.{Two-ways, Trip, Chooser-trip, Same-end}
-use Rattle.files.proofs.Passing.{search-passing, passing-run}
 use Rattle.files.proofs.Requests.{whole-append, requests-append, whole-drop, requests-drop}
 use Rattle.files.proofs.Carried.{Carried, carried, run-on, choose-on}
 
@@ -95,8 +96,8 @@ module _ (n d : ℕ) (domains tables agenda : List ℕ) (s : State) (requests mo
   outcome before left st l r h whole runs =
       ends-outcome (runRefusal n d domains tables before l (st .counts .steps .0) (st .counts .checks .0) (st .subproblems)) n before left st
       (run p (slotsIn n (length before)) (requestsIn n l) (searchOf n before st)) r
-      (passing-run n d domains tables before (st .counts .steps .0) (st .counts .checks .0) (st .subproblems)
-      (search-passing n d domains tables before (st .counts .steps .0) (st .counts .checks .0) (st .subproblems) (h .passes)) l whole) runs
+      (run-is-passed n d domains tables before (st .counts .steps .0) (st .counts .checks .0) (st .subproblems) l .1
+      (known n d domains tables before st h .passed, whole)) runs
 
   out₁ : Outcome n agenda (t .ways .first-agenda) x₁ (t .ways .first)
   unfolding x₁ p room

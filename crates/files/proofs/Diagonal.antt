@@ -16,28 +16,28 @@ use Rattle.search.specs.FirstChecks.{openRefusal, searchRefusal, runRefusal}
 use Rattle.search.specs.Runs.{Stopped, run, requestsIn}
 use Rattle.search.specs.Chooser.{choose}
 use Rattle.search.specs.Calls.{searchOf, Opens, Ends, Runs, Chooses}
-use Rattle.search.specs.Promises.{Passes}
+use Rattle.search.specs.Promises.{Passes, PassedSearch}
 use Rattle.search.specs.declared.state.State.{State}
 use Rattle.search.specs.declared.state.Opened.{Opened}
 use Rattle.search.specs.declared.state.Ran.{Ran}
+use Rattle.search.proofs.Encoding.{length-stackOf}
+use Rattle.search.proofs.FirstPassing.{search-is-passed, run-is-passed}
 use Rattle.search.proofs.Apart.{apart-open, apart-search, apart-run}
 use Rattle.files.specs.Content.{contentOf}
 use Rattle.files.specs.Calls.{handedContent, saveRefusal, Saves}
 use Rattle.files.specs.declared.saved.Saved.{Saved}
-use Rattle.files.proofs.Stacks.{of-length}
 use Rattle.files.proofs.Triangle.{triangle-same}
-use Rattle.files.proofs.Passing.{Passing, search-passing, run-search}
 use Rattle.files.proofs.AgreeingRuns.{run-same, choose-same}
 
--- A search that passed the first checks, as the search crate says it.
-pub passing-passes : (n d : ℕ) (domains tables agenda : List ℕ) (s : State) → s .counts .steps .0 < 2 ^ 32
-    → Passing n d domains tables agenda (s .counts .steps .0) (s .counts .checks .0) (s .subproblems)
+-- A search that passed the first checks, as the search crate says it (its promise Handed-passes asks that the agenda holds words).
+passed-passes : (n d : ℕ) (domains tables agenda : List ℕ) (s : State) → s .counts .steps .0 < 2 ^ 32
+    → PassedSearch n d domains tables agenda (s .counts .steps .0) (s .counts .checks .0) (s .subproblems)
     → Passes (problemOf n d domains tables) (slotsIn n (length agenda)) (searchOf n agenda s)
-passing-passes n d domains tables agenda s l h = record {
-  proper = h .proper;
+passed-passes n d domains tables agenda s l h = record {
+  proper = h .passed .proper;
   rules = h .rules;
-  fits = rw (of-length n (h .proper .variables) agenda (s .subproblems)) (h .fits);
-  counted = h .counted;
+  fits = rw (length-stackOf n agenda (s .subproblems)) (h .room);
+  counted = h .limit;
   stepped = omega arith;
 }
 
@@ -99,9 +99,8 @@ module _ (n d : ℕ) (domains tables tables′ : List ℕ) (same : AgreeApart n 
       (run (problemOf n d domains tables) (slotsIn n (length before)) (requestsIn n requests) (searchOf n before s))
       (run (problemOf n d domains tables′) (slotsIn n (length before)) (requestsIn n requests) (searchOf n before s)) r
       (λ e. run-same (problemOf n d domains tables) (tableOf n d tables′) (same .masks) (slotsIn n (length before)) (requestsIn n requests) (searchOf n before s)
-      (passing-passes n d domains tables before s l
-      (search-passing n d domains tables before (s .counts .steps .0) (s .counts .checks .0) (s .subproblems)
-      (run-search n d domains tables before requests (s .counts .steps .0) (s .counts .checks .0) (s .subproblems) e)))) h)
+      (passed-passes n d domains tables before s l
+      (run-is-passed n d domains tables before (s .counts .steps .0) (s .counts .checks .0) (s .subproblems) requests .0 e .0))) h)
 
   -- The chooser.
   pub diagonal-choose : (before after : List ℕ) (limit : ℕ) (s : State) (r : Ran) → s .counts .steps .0 < 2 ^ 32 → Chooses n d domains tables before after limit s r
@@ -112,8 +111,8 @@ module _ (n d : ℕ) (domains tables tables′ : List ℕ) (same : AgreeApart n 
       (choose (problemOf n d domains tables) (slotsIn n (length before)) limit (searchOf n before s))
       (choose (problemOf n d domains tables′) (slotsIn n (length before)) limit (searchOf n before s)) r
       (λ e. choose-same (problemOf n d domains tables) (tableOf n d tables′) (same .masks) (slotsIn n (length before)) limit (searchOf n before s)
-      (passing-passes n d domains tables before s l
-      (search-passing n d domains tables before (s .counts .steps .0) (s .counts .checks .0) (s .subproblems) e))) h)
+      (passed-passes n d domains tables before s l
+      (search-is-passed n d domains tables before (s .counts .steps .0) (s .counts .checks .0) (s .subproblems) .0 e))) h)
 
   save-same : (agenda : List ℕ) (s : State) (file : List ℕ) → saveRefusal n d domains tables agenda s file ≡ saveRefusal n d domains tables′ agenda s file
   unfolding saveRefusal

@@ -7,10 +7,8 @@ pub mod Whole
 pub mod Triangle
 pub mod Stacks
 pub mod Gathered
-pub mod Rules
 pub mod Accepted
 pub mod Contents
-pub mod Passing
 pub mod Tables
 pub mod RoundTrip
 pub mod Saving

@@ -31,7 +31,6 @@ use Rattle.files.specs.declared.saved.Saved.{Saved}
 use Rattle.files.specs.declared.saved.Loaded.{Loaded}
 use Rattle.files.proofs.Triangle.{table-length}
 use Rattle.files.proofs.Tables.{proper-agree, agree-back}
-use Rattle.files.proofs.Passing.{search-passing}
 use Rattle.files.proofs.Saving.{saved-says}
 use Rattle.files.proofs.Loading.{Fits, load-taken}
 use Rattle.files.proofs.Reaching.{reached-agree}
@@ -65,7 +64,7 @@ module _ (n d : ℕ) (domains tables₀ tables agenda : List ℕ) (s : State) (l
   moved-on : Life n d domains tables₀ tables′ agenda′ (r .state)
   unfolding stateOf
   moved-on =
-      let p = search-passing n d domains tables agenda (s .counts .steps .0) (s .counts .checks .0) (s .subproblems) (life .handed .passes) in
+      let p = known n d domains tables agenda s (life .handed) .passed in
       let passes : saveRefusal n d domains tables agenda s before ≡ 0 = sym (saves .refusal) ∙ none in
       let file : List ℕ = fileOf (handedContent n d domains tables agenda s) in
       let x = searchOf n agenda s in
@@ -89,7 +88,7 @@ module _ (n d : ℕ) (domains tables₀ tables agenda : List ℕ) (s : State) (l
       record {
         handed = l .handed;
         same = record {
-          words = life .same .words ∙ p .table-words ∙ sym long;
+          words = life .same .words ∙ p .passed .tables-words ∙ sym long;
           masks = λ i j a h k f m. life .same .masks i j a h k f m ∙ agree i j a h k f m;
         };
         proper = proper;

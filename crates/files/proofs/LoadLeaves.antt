@@ -9,13 +9,13 @@ use lib.ListN.{length}
 use lib.Dec.{eqb}
 use borrow.Author.Tests.{eq-eqb}
 use Rattle.search.specs.Agenda.{stackOf, agendaOf}
+use Rattle.search.proofs.FirstPassing.{search-is-passed}
 use Rattle.search.proofs.HandedOn.{Shaped, agenda-small}
 use Rattle.files.specs.Reading.{saidN, saidD, saidSteps, saidChecks, saidSubproblems, saidDomains, saidAllowed, saidSearch, tableWords}
 use Rattle.files.specs.Calls.{loadRefusal, Loads}
 use Rattle.files.specs.Promises.{Bytes, Left-by-load}
 use Rattle.files.specs.declared.saved.Loaded.{Loaded}
 use Rattle.files.proofs.Loading.{load-taken, memory-length, memory-read, said-passing}
-use Rattle.files.proofs.Passing.{passing-search}
 use Rattle.files.proofs.RoundTrip.{said-shape, content-word}
 
 pub load-leaves : (file domains domains′ tables tables′ agenda agenda′ : List ℕ) (r : Loaded) → Bytes file
@@ -33,7 +33,7 @@ load-leaves file domains domains′ tables tables′ agenda agenda′ r bytes lo
     let checks-are : r .state .counts .checks .0 ≡ saidChecks file = rw test at (loads .checks) in
     let count-is : r .state .subproblems ≡ saidSubproblems file = rw test at (loads .subproblems) in
     let shaped : Shaped (saidN file) 16 (saidSearch file .stack) = said-shape file bytes (t .accepts .variables) in
-    let passes = passing-search _ _ _ _ _ _ _ _ (said-passing file (t .accepts) bytes (length agenda) (t .lengths .slots) (t .room)) in
+    let passes = search-is-passed _ _ _ _ _ _ _ _ .1 (said-passing file (t .accepts) bytes (length agenda) (t .lengths .slots) (t .room)) in
     let high = content-word file bytes 2 in
     let low = content-word file bytes 3 in
     record {

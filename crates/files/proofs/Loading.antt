@@ -3,32 +3,29 @@
 use mathlib.Core.Path.{_≡_, refl, sym, ap, _∙_}
 use mathlib.Core.Bool.{Bool, true, false, cond, _&&_}
 use mathlib.Core.List.{List}
-use Prim.Native.Nat.{ℕ, _+_, _-_, _*_, _≤_, _<_}
+use Prim.Native.Nat.{ℕ, _+_, _*_, _≤_}
 use native.Mathlib.Omega.{arith}
 use native.Mathlib.Nat.{mul-le-mul-right, div-mul-le-self, le-trans}
-use native.Mathlib.Decide.{decLt}
-use lib.Arith.{lt-of-le-ne}
-use lib.ListN.{length, getD, List·getD-eq-default}
+use lib.ListN.{length, getD}
 use lib.Dec.{eqb, ltb}
-use borrow.Author.Tests.{eq-eqb, eqb-true, lt-ltb, le-ltb, ltb-false}
-use Rattle.splits.specs.Masks.{bit}
-use Rattle.splits.specs.Problem.{Allow-same, Proper, tableOf}
-use Rattle.splits.proofs.Masks.{bit-le}
+use borrow.Author.Tests.{eq-eqb, eqb-true, ltb-false}
+use Rattle.splits.specs.Problem.{Allow-same, tableOf}
 use Rattle.splits.proofs.Tests.{and-left, and-right}
-use Rattle.search.specs.Agenda.{stackOf, stackWords, slotsIn, agendaOf}
+use Rattle.search.specs.Agenda.{stackOf, slotsIn, agendaOf}
 use Rattle.search.specs.FirstChecks.{WholeSlots, orElse, wholeSlots, refusalOfLengths}
+use Rattle.search.specs.Promises.{PassedSearch}
+use Rattle.search.proofs.Encoding.{agenda-back, length-agenda}
 use Rattle.search.proofs.FirstParts.{given-if, else-pass}
+use Rattle.search.proofs.HandedOn.{agenda-zeros}
 use Rattle.search.proofs.Deserved.{slots-true, slots-is}
-use Rattle.files.specs.Reading.{contentWord, contentFrom, saidN, saidD, saidSteps, saidChecks, saidSubproblems, saidDomains, saidAllowed, saidSearch, saidProblem, gathered, tableWords, refusalOfFile, refusalOfWords}
+use Rattle.files.specs.Reading.{contentWord, contentFrom, saidN, saidD, saidSteps, saidChecks, saidSubproblems, saidDomains, saidAllowed, saidSearch, tableWords, refusalOfFile, refusalOfWords}
 use Rattle.files.specs.Calls.{loadRefusal}
 use Rattle.files.specs.Promises.{Bytes}
-use Rattle.files.proofs.Lists.{map-length, padded-at}
-use Rattle.files.proofs.Gathered.{gathered-lt, gathered-bit}
+use Rattle.files.proofs.Lists.{map-length}
 use Rattle.files.proofs.Triangle.{table-length, table-other}
-use Rattle.files.proofs.Stacks.{shape-length, agenda-length, agenda-read}
+use Rattle.files.proofs.Stacks.{shape-length}
 use Rattle.files.proofs.Whole.{Whole, file-whole}
-use Rattle.files.proofs.Accepted.{Accepts, words-accept}
-use Rattle.files.proofs.Passing.{Passing}
+use Rattle.files.proofs.Accepted.{Accepts, said-proper, words-accept}
 use Rattle.files.proofs.Tables.{rules-agree, proper-agree}
 use Rattle.files.proofs.RoundTrip.{said-shape, said-length}
 
@@ -62,88 +59,55 @@ fit-lengths n d domains tables agenda h =
 
 -- ---- the problem that a file says
 
-module _ (file : List ℕ) where
-  above-is : (i j a : ℕ) → j < i → saidAllowed file i j a ≡ gathered (saidD file) (λ b. bit (saidAllowed file j i b) a)
-  unfolding saidAllowed
-  above-is i j a l = rw (le-ltb i j (omega arith), lt-ltb j i l) refl
+module _ (file : List ℕ) (a : Accepts file) where
+  -- The problem whose tables have zeros for a variable with itself is the same.
+  pub said-agree : Allow-same (saidN file) (saidD file) (saidAllowed file) (tableOf (saidN file) (saidD file) (tableWords (saidN file) (saidD file) (saidAllowed file)))
+  said-agree i j v l k f m = sym (table-other (saidN file) (saidD file) (saidAllowed file) i j v l k f m)
 
-  -- It is symmetric, for it was put together so.
-  mirror : (i j a b : ℕ) → i < j → a < saidD file → bit (saidAllowed file i j a) b ≡ bit (saidAllowed file j i b) a
-  mirror i j a b l m =
-      sym (ap (λ (x : ℕ). bit x a) (above-is j i b l) ∙ gathered-bit (saidD file) (λ v. bit (saidAllowed file i j v) b) (λ v. bit-le (saidAllowed file i j v) b) a m)
+  -- It says n domains.
+  pub domain-count : length (saidDomains file) ≡ saidN file
+  unfolding contentFrom
+  domain-count = map-length (λ k. contentWord file (9 + k)) (saidN file)
 
-  module _ (a : Accepts file) where
-    -- The problem that an accepted file says is proper.
-    pub said-proper : Proper (saidProblem file)
-    said-proper = record {
-      some-variable = a .some-variable;
-      variables = a .variables;
-      some-value = a .some-value;
-      values = a .values;
-      domains = a .domains;
-      masks = λ i j v l k f m. elim (decLt i j) [
-        | yes h ↦ a .masks i j v h k m
-        | no h ↦
-            let less : j < i = lt-of-le-ne (omega arith) (λ e. f (sym e)) in
-            rw (above-is i j v less) (gathered-lt (saidD file) (λ b. bit (saidAllowed file j i b) v) (λ b. bit-le (saidAllowed file j i b) v))
-      ];
-      symmetric = λ i j v w l k f m o. elim (decLt i j) [
-        | yes h ↦ mirror i j v w h m
-        | no h ↦ let less : j < i = lt-of-le-ne (omega arith) (λ e. f (sym e)) in sym (mirror j i w v less o)
-      ];
-    }
+  -- ---- its agenda in one of so many words that takes it
 
-    -- So is the one whose tables have zeros for a variable with itself.
-    pub said-agree : Allow-same (saidN file) (saidD file) (saidAllowed file) (tableOf (saidN file) (saidD file) (tableWords (saidN file) (saidD file) (saidAllowed file)))
-    said-agree i j v l k f m = sym (table-other (saidN file) (saidD file) (saidAllowed file) i j v l k f m)
+  module _ (bytes : Bytes file) (words : ℕ) (slots : WholeSlots (saidN file) words) (fits : saidSubproblems file ≤ slotsIn (saidN file) words) where
+    within : saidSubproblems file * (saidN file + 2) ≤ words
+    within = le-trans (mul-le-mul-right (saidN file + 2) fits) (div-mul-le-self words (saidN file + 2))
 
-    -- It says n domains.
-    pub domain-count : length (saidDomains file) ≡ saidN file
-    unfolding contentFrom
-    domain-count = map-length (λ k. contentWord file (9 + k)) (saidN file)
+    -- The agenda that load leaves is as long as the one lent.
+    pub memory-length : length (agendaOf (saidN file) words (saidSearch file .stack)) ≡ words
+    memory-length =
+        length-agenda (saidN file) words (saidSearch file .stack)
+        (rw (shape-length (saidN file) (a .variables) (saidSearch file .stack) (said-shape file bytes (a .variables)), said-length file bytes (a .variables)) within)
 
-    -- ---- its agenda in one of so many words that takes it
+    -- It holds the stack that the file says.
+    pub memory-read : stackOf (saidN file) (agendaOf (saidN file) words (saidSearch file .stack)) (saidSubproblems file) ≡ saidSearch file .stack
+    memory-read =
+        ap (stackOf (saidN file) (agendaOf (saidN file) words (saidSearch file .stack))) (sym (said-length file bytes (a .variables)))
+        ∙ agenda-back (saidN file) 16 words (saidSearch file .stack) (a .variables) (said-shape file bytes (a .variables))
 
-    module _ (bytes : Bytes file) (words : ℕ) (slots : WholeSlots (saidN file) words) (fits : saidSubproblems file ≤ slotsIn (saidN file) words) where
-      within : saidSubproblems file * (saidN file + 2) ≤ words
-      within = le-trans (mul-le-mul-right (saidN file + 2) fits) (div-mul-le-self words (saidN file + 2))
-
-      -- The agenda that load leaves is as long as the one lent.
-      pub memory-length : length (agendaOf (saidN file) words (saidSearch file .stack)) ≡ words
-      memory-length =
-          agenda-length (saidN file) (a .variables) words (saidSearch file .stack) (said-shape file bytes (a .variables))
-          (rw (said-length file bytes (a .variables)) within)
-
-      -- It holds the stack that the file says.
-      pub memory-read : stackOf (saidN file) (agendaOf (saidN file) words (saidSearch file .stack)) (saidSubproblems file) ≡ saidSearch file .stack
-      memory-read =
-          ap (stackOf (saidN file) (agendaOf (saidN file) words (saidSearch file .stack))) (sym (said-length file bytes (a .variables)))
-          ∙ agenda-read (saidN file) (a .variables) words (saidSearch file .stack) (said-shape file bytes (a .variables))
-
-      memory-zero : (k : ℕ) → saidSubproblems file * (saidN file + 2) ≤ k → getD (agendaOf (saidN file) words (saidSearch file .stack)) k 0 ≡ 0
-      unfolding agendaOf
-      memory-zero k l =
-          padded-at (stackWords (saidN file) (saidSearch file .stack)) (words - length (stackWords (saidN file) (saidSearch file .stack))) k
-          ∙ List·getD-eq-default (stackWords (saidN file) (saidSearch file .stack)) 0
-          (rw (shape-length (saidN file) (a .variables) (saidSearch file .stack) (said-shape file bytes (a .variables)), said-length file bytes (a .variables)) l)
-
-      -- What is loaded passes the first checks.
-      pub said-passing : Passing (saidN file) (saidD file) (saidDomains file) (tableWords (saidN file) (saidD file) (saidAllowed file))
-          (agendaOf (saidN file) words (saidSearch file .stack)) (saidSteps file) (saidChecks file) (saidSubproblems file)
-      said-passing =
-          let tables = tableOf (saidN file) (saidD file) (tableWords (saidN file) (saidD file) (saidAllowed file)) in
-          record {
-            proper = proper-agree (saidN file) (saidD file) (λ i. getD (saidDomains file) i 0) (saidAllowed file) tables said-agree said-proper;
-            domain-words = domain-count;
-            table-words = table-length (saidN file) (saidD file) (saidAllowed file);
+    -- What is loaded passes the first checks.
+    pub said-passing : PassedSearch (saidN file) (saidD file) (saidDomains file) (tableWords (saidN file) (saidD file) (saidAllowed file))
+        (agendaOf (saidN file) words (saidSearch file .stack)) (saidSteps file) (saidChecks file) (saidSubproblems file)
+    said-passing =
+        let tables = tableOf (saidN file) (saidD file) (tableWords (saidN file) (saidD file) (saidAllowed file)) in
+        record {
+          passed = record {
+            proper = proper-agree (saidN file) (saidD file) (λ i. getD (saidDomains file) i 0) (saidAllowed file) tables said-agree (said-proper file a);
+            domains-words = domain-count;
+            tables-words = table-length (saidN file) (saidD file) (saidAllowed file);
             slots = rw memory-length slots;
-            rules = λ P m.
-                rules-agree (saidN file) (saidD file) (λ i. getD (saidDomains file) i 0) (saidAllowed file) tables said-agree (a .domains) P
-                (a .rules P (rw memory-read at m));
-            fits = rw memory-length fits;
-            unused = λ k l m. memory-zero k l;
-            counted = a .counted;
-          }
+          };
+          rules = λ P m.
+              rules-agree (saidN file) (saidD file) (λ i. getD (saidDomains file) i 0) (saidAllowed file) tables said-agree (a .domains) P
+              (a .rules P (rw memory-read at m));
+          room = rw memory-length fits;
+          zeros = λ k l m.
+              agenda-zeros (saidN file) 16 words (saidSearch file .stack) (a .variables) (said-shape file bytes (a .variables)) k
+              (rw (said-length file bytes (a .variables)) l);
+          limit = a .counted;
+        }
 
 -- ---- a load that is not refused
 

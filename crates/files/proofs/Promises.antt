@@ -54,7 +54,7 @@ use Rattle.files.specs.Promises.{
   Cut-choose,
 }
 use Rattle.splits.proofs.Refusals.{one}
-use Rattle.search.proofs.Promises.{reached-solvable, reached-steps, reached-checks, chooser-says}
+use Rattle.search.proofs.Promises.{search-passed, reached-solvable, reached-steps, reached-checks, chooser-says}
 use Rattle.files.proofs.Sums
 use Rattle.files.proofs.Blocks
 use Rattle.files.proofs.Whole
@@ -63,7 +63,6 @@ use Rattle.files.proofs.Contents
 use Rattle.files.proofs.RoundTrip
 use Rattle.files.proofs.Saving
 use Rattle.files.proofs.Loading
-use Rattle.files.proofs.Passing
 use Rattle.files.proofs.Refusals
 use Rattle.files.proofs.Diagonal
 use Rattle.files.specs.Calls.{handedContent}
@@ -93,7 +92,7 @@ pub sum-folded : Sum-folded
 sum-folded ws t y z words few = Sums.twice-is ws t y z words (omega arith)
 
 pub load-after-save : Load-after-save
-load-after-save n d domains tables agenda s words e = Saving.saved-says n d domains tables agenda s words (Passing.search-passing n d domains tables agenda _ _ _ e)
+load-after-save n d domains tables agenda s words e = Saving.saved-says n d domains tables agenda s words (search-passed n d domains tables agenda _ _ _ .0 e)
 
 pub save-after-load : Save-after-load
 save-after-load file bytes e h =
@@ -102,7 +101,7 @@ save-after-load file bytes e h =
 pub loaded-passes : Loaded-passes
 loaded-passes file domains tables agenda bytes e =
     let t = Loading.load-taken file (length domains) (length tables) (length agenda) e in
-    Passing.passing-search _ _ _ _ _ _ _ _ (Loading.said-passing file (t .accepts) bytes (length agenda) (t .lengths .slots) (t .room))
+    search-passed _ _ _ _ _ _ _ _ .1 (Loading.said-passing file (t .accepts) bytes (length agenda) (t .lengths .slots) (t .room))
 
 pub load-leaves : Load-leaves
 load-leaves = LoadLeaves.load-leaves
@@ -126,7 +125,7 @@ largest-met domains allowed s words stack shape =
 
 pub save-enough : Save-enough
 save-enough n d domains tables agenda s before after r words e long h =
-    let passing = Passing.search-passing n d domains tables agenda (s .counts .steps .0) (s .counts .checks .0) (s .subproblems) e in
+    let passing = search-passed n d domains tables agenda (s .counts .steps .0) (s .counts .checks .0) (s .subproblems) .0 e in
     let few = Saving.saved-few n d domains tables agenda s words passing in
     let none = Refusals.save-none n d domains tables agenda s before .1 (e, λ short. absurd (omega arith)) in
     let blocks : r .blocks ≡ blocksFor (length (handedContent n d domains tables agenda s)) = rw none at (h .blocks) in

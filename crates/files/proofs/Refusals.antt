@@ -13,6 +13,7 @@ use borrow.Author.Tests.{lt-ltb, le-ltb}
 use Rattle.search.specs.Agenda.{slotsIn}
 use Rattle.search.specs.FirstChecks.{Deserves-3, orElse, wholeSlots, refusalOfLengths, searchRefusal}
 use Rattle.search.specs.declared.state.State.{State}
+use Rattle.search.proofs.FirstPassing.{lengths-none}
 use Rattle.search.proofs.Exactly.{search-refusal-few}
 use Rattle.files.specs.Blocks.{blocksFor}
 use Rattle.files.specs.Reading.{saidN, saidD, saidSubproblems, Deserves-14, Deserves-15, refusalOfFile, refusalOfWords}
@@ -172,13 +173,6 @@ module _ (n d : ℕ) (domains tables agenda : List ℕ) where
     λ g. ⊎-elim (λ e. absurd (fits-not (lengths-fit n d (length domains) (length tables) (length agenda) e) g)) (λ e. e) lengths-either,
   )
 
-  -- And 0 exactly if it is not.
-  pub lengths-not-3 : (refusalOfLengths n d (length domains) (length tables) (length agenda) ≡ 0) ↔ (Deserves-3 n d domains tables agenda → ⊥)
-  lengths-not-3 = (
-    λ e. fits-not (lengths-fit n d (length domains) (length tables) (length agenda) e),
-    λ g. ⊎-elim (λ e. e) (λ e. absurd (g (lengths-3 .0 e))) lengths-either,
-  )
-
 module _ (file domains tables agenda : List ℕ) where
   room : ℕ
   room = cond (ltb (slotsIn (saidN file) (length agenda)) (saidSubproblems file)) 12 0
@@ -230,10 +224,10 @@ module _ (file domains tables agenda : List ℕ) where
   load-12 = (
     λ e.
         let (x, y, z, w) = given-12 all .0 e in
-        (refusal-not-14 file .0 x, refusal-not-15 file .0 y, lengths-not-3 (saidN file) (saidD file) domains tables agenda .0 z, room-12 .0 w),
+        (refusal-not-14 file .0 x, refusal-not-15 file .0 y, lengths-none (saidN file) (saidD file) domains tables agenda .0 z, room-12 .0 w),
     λ g.
         given-12 all .1
-        (refusal-not-14 file .1 (g .0), refusal-not-15 file .1 (g .1), lengths-not-3 (saidN file) (saidD file) domains tables agenda .1 (g .2), room-12 .1 (g .3)),
+        (refusal-not-14 file .1 (g .0), refusal-not-15 file .1 (g .1), lengths-none (saidN file) (saidD file) domains tables agenda .1 (g .2), room-12 .1 (g .3)),
   )
 
   -- None, exactly.
@@ -243,8 +237,8 @@ module _ (file domains tables agenda : List ℕ) where
   load-none = (
     λ e.
         let (x, y, z, w) = given-none all .0 e in
-        (refusal-not-14 file .0 x, refusal-not-15 file .0 y, lengths-not-3 (saidN file) (saidD file) domains tables agenda .0 z, room-not-12 .0 w),
+        (refusal-not-14 file .0 x, refusal-not-15 file .0 y, lengths-none (saidN file) (saidD file) domains tables agenda .0 z, room-not-12 .0 w),
     λ g.
         given-none all .1
-        (refusal-not-14 file .1 (g .0), refusal-not-15 file .1 (g .1), lengths-not-3 (saidN file) (saidD file) domains tables agenda .1 (g .2), room-not-12 .1 (g .3)),
+        (refusal-not-14 file .1 (g .0), refusal-not-15 file .1 (g .1), lengths-none (saidN file) (saidD file) domains tables agenda .1 (g .2), room-not-12 .1 (g .3)),
   )

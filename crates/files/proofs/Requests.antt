@@ -26,6 +26,12 @@ cut-drop (suc t) k size w =
     let size-first : suc t * size ≡ size + t * size = suc-mul t size ∙ add-comm (t * size) size in
     rw (suc-add t k) (ap (λ (j : ℕ). cutInto k size (drop j w)) size-first ∙ ap (cutInto k size) (sym (drop-drop (t * size) size w)) ∙ cut-drop t k size (drop size w))
 
+-- So many parts are cut as asked.
+pub cut-length : (m size : ℕ) (w : List ℕ) → length (cutInto m size w) ≡ m
+unfolding cutInto
+cut-length zero size w = refl
+cut-length (suc m) size w = ap suc (cut-length m size (drop size w))
+
 module _ (n : ℕ) where
   -- So many words of whole requests are so many requests.
   count : (m : ℕ) → m * (n + 3) / (n + 3) ≡ m
@@ -44,11 +50,6 @@ module _ (n : ℕ) where
   requests-append a b (m, e) (k, f) =
       requests-are (m + k) (a ++ b) (length-append a b ∙ ap₂ _+_ e f ∙ sym (add-mul m k (n + 3)))
       ∙ cut-append m k (n + 3) a b e ∙ ap₂ _++_ (sym (requests-are m a e)) (sym (requests-are k b f))
-
-  cut-length : (m size : ℕ) (w : List ℕ) → length (cutInto m size w) ≡ m
-  unfolding cutInto
-  cut-length zero size w = refl
-  cut-length (suc m) size w = ap suc (cut-length m size (drop size w))
 
   -- Without the first t of them.
   module _ (w : List ℕ) (whole : WholeRequests n (length w)) (t : ℕ) (few : t ≤ length (requestsIn n w)) where

@@ -16,6 +16,7 @@ use Rattle.splits.specs.Splits.{below}
 use Rattle.splits.specs.declared.subproblem.Subproblem.{Subproblem}
 use Rattle.search.specs.Agenda.{Shape, stackWords}
 use Rattle.search.specs.Runs.{Search}
+use Rattle.search.proofs.Encoding.{length-stackOf, stack-of-words}
 use Rattle.files.specs.Blocks.{blocksFor, fileOf}
 use Rattle.files.specs.Content.{contentOf, triangle}
 use Rattle.files.specs.Reading.{blocksIn, blockWord, contentWord, contentFrom, saidN, saidD, saidSteps, saidChecks, saidSubproblems, saidDomains, saidAllowed, saidAgenda, saidSearch, saidWords, agendaFrom, triangleWords}
@@ -27,7 +28,7 @@ use Rattle.files.proofs.Accepted.{Accepts, accept-words}
 use Rattle.files.proofs.Contents.{content-length, says-n, says-d, says-steps, says-checks, says-subproblems, says-domains, says-words, says-search, says-stack, says-below, says-above}
 use Rattle.files.proofs.Words.{word-small}
 use Rattle.files.proofs.Lists.{map-length, map-at, seq, seq-join, seq-length, seq-at}
-use Rattle.files.proofs.Stacks.{of-length, of-shape, stack-written}
+use Rattle.files.proofs.Stacks.{of-shape}
 use Rattle.files.proofs.Tables.{with-table, rules-agree, agree-back}
 
 -- ---- how large a content is
@@ -177,7 +178,7 @@ module _ (file : List ℕ) (bytes : Bytes file) where
 
     -- They are as many as it says.
     pub said-length : length (saidSearch file .stack) ≡ saidSubproblems file
-    said-length = of-length (saidN file) few (saidAgenda file) (saidSubproblems file)
+    said-length = length-stackOf (saidN file) (saidAgenda file) (saidSubproblems file)
 
     -- What the words say, put into words again, is the words.
     masks-from : triangle (saidN file) (saidD file) (saidAllowed file) ≡ seq (contentWord file) (9 + saidN file) (triangleWords (saidN file) (saidD file))
@@ -189,7 +190,7 @@ module _ (file : List ℕ) (bytes : Bytes file) where
         ≡ seq (contentWord file) (9 + saidN file + triangleWords (saidN file) (saidD file)) (saidSubproblems file * (saidN file + 2))
     unfolding saidAgenda contentFrom seq
     agenda-from =
-        stack-written (saidN file) few (saidAgenda file) agenda-small (saidSubproblems file) (omega (arith, agenda-length))
+        stack-of-words (saidN file) (saidAgenda file) (saidSubproblems file) (omega (arith, agenda-length)) agenda-small
         ∙ take-all (saidSubproblems file * (saidN file + 2)) (saidAgenda file) (omega (arith, agenda-length))
 
     -- All of it.

@@ -28,11 +28,6 @@ pub given-exactly : (b : Bool) (k : ℕ) (D : Type 0) → (k ≡ 0 → ⊥) → 
 given-exactly true k D f t = (λ e. absurd (f (sym e)), λ d. absurd (t .fails refl d))
 given-exactly false k D f t = (λ e. t .holds refl, λ d. refl)
 
--- And the answer is 0 exactly where it is not deserved.
-pub not-given-exactly : (b : Bool) (k : ℕ) (D : Type 0) → (k ≡ 0 → ⊥) → Refutes b D → (cond b 0 k ≡ 0) ↔ (D → ⊥)
-not-given-exactly true k D f t = (λ e. t .fails refl, λ g. refl)
-not-given-exactly false k D f t = (λ e. absurd (f e), λ g. absurd (g (t .holds refl)))
-
 -- Where the first is none, the second.
 pub else-none : (a b : ℕ) → a ≡ 0 → orElse a b ≡ b
 else-none a b e = rw e refl

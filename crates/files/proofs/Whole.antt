@@ -19,12 +19,13 @@ use Rattle.splits.specs.Splits.{below}
 use Rattle.splits.proofs.Tests.{and-left, and-right, every-at}
 use Rattle.search.proofs.Decisions.{Refutes, every-fails}
 use Rattle.search.proofs.FirstParts.{given-if}
+use Rattle.search.proofs.FirstPassing.{gives-none}
 use Rattle.files.specs.Blocks.{fileBytes, wordAt, checkOf, blocksFor, headedBlock, blockWords, firstBlocks, fileOf}
 use Rattle.files.specs.Content.{each}
 use Rattle.files.specs.Reading.{blocksIn, blockWord, headOf, contentWord, Deserves-14, goodBlock, refusalOfFile}
 use Rattle.files.proofs.Lists.{total-const, each-same, map-is, map-same, seq, seq-is, seq-each}
 use Rattle.files.proofs.Words.{bytes-read}
-use Rattle.files.proofs.Tests.{and-cases, one-of, given-exactly, not-given-exactly}
+use Rattle.files.proofs.Tests.{and-cases, one-of, given-exactly}
 use Rattle.files.proofs.Blocks.{content-at, headed-length, block-length, block-headed, block-check, blocks-words}
 
 -- A file of 1 to 101 whole blocks, each with the number, count and check that are right.
@@ -119,7 +120,7 @@ module _ (file : List ℕ) where
 
   -- And 0 exactly if it is not.
   pub refusal-not-14 : (refusalOfFile file ≡ 0) ↔ (Deserves-14 file → ⊥)
-  refusal-not-14 = rw is-tests (not-given-exactly tests 14 (Deserves-14 file) (λ z. absurd (omega arith)) tests-refute)
+  refusal-not-14 = rw is-tests (gives-none tests (Deserves-14 file) 14 (λ z. absurd (omega arith)) tests-refute)
 
   -- The answer is 0 or 14.
   pub file-either : (refusalOfFile file ≡ 0) ⊎ (refusalOfFile file ≡ 14)
