@@ -7,7 +7,7 @@ use mathlib.Core.Path.{_≡_, refl, sym, ap, _∙_}
 use mathlib.Core.Logic.{inl, inr}
 use mathlib.Core.Bool.{true}
 use mathlib.Core.List.{List}
-use Prim.Native.Nat.{ℕ, _+_, _*_, _/_, _≤_}
+use Prim.Native.Nat.{ℕ, _+_, _*_, _/_, _^_, _≤_, _<_}
 use lib.ListN.{length}
 use lib.Dec.{eqb}
 use borrow.Author.Tests.{eq-eqb, ne-eqb}
@@ -22,7 +22,7 @@ use Rattle.search.specs.Promises.{Leaves, picks}
 use Rattle.search.specs.declared.state.Ran.{Ran}
 use Rattle.search.proofs.FirstPassing.{search-is-passed}
 use Rattle.search.specs.declared.state.Verdict.the-variants.{Solved}
-use Rattle.search.proofs.Promises.{chooser-leaves, stops, picks as picks-run}
+use Rattle.search.proofs.Promises.{chooser-leaves, chooser-refusals, handed-passes, stops, picks as picks-run}
 use Rattle.files.specs.Reading.{saidN, saidSearch, refusalOfFile, refusalOfWords}
 use Rattle.files.specs.Calls.{loadRefusal, Loads}
 use Rattle.files.specs.Promises.{Bytes, Left-by-load}
@@ -158,6 +158,20 @@ module _ (file domains domains′ tables tables′ agenda agenda′ : List ℕ) 
 
   pub chosen-checks : ran .state .counts .checks .0 ≡ ranOf file .search .checks
   chosen-checks = checks ∙ ap (λ x. x .search .checks) same
+
+  -- Its counts and its refusal are in their ranges.
+  pub chosen-counts : (ran .state .counts .steps .0 < 2 ^ 64) × (ran .state .counts .checks .0 < 2 ^ 64)
+  chosen-counts =
+      let limit = search-is-passed (l .n) (l .d) domains′ tables′ after _ _ _ .0 (leaves .handed .passes) .limit in
+      let stepped = leaves .handed .stepped in
+      (omega (arith, stepped), omega (arith, stepped, limit))
+
+  pub chosen-refusal : ran .refusal < 2 ^ 64
+  unfolding stopped
+  chosen-refusal =
+      let known = chooser-refusals (problemOf (l .n) (l .d) domains′ tables′) (slotsIn (l .n) (length agenda′)) 1000000 (searchOf (l .n) agenda′ (l .state))
+      (handed-passes (l .n) (l .d) domains′ tables′ agenda′ (l .state) (left .handed)) in
+      rw refusal (elim known [ inl e ↦ rw e (omega arith) | inr more ↦ elim more [ inl e ↦ rw e (omega arith) | inr e ↦ rw e (omega arith) ] ])
 
   -- A run that is solved was not refused.
   pub solved-taken : ran .verdict ≡ Solved → ran .refusal ≡ 0

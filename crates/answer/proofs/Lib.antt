@@ -7,4 +7,5 @@ pub mod Answering
 pub mod Lending
 pub mod Promises
 pub mod Saying
+mod Fitting
 pub mod Example

@@ -6,9 +6,10 @@ use mathlib.Core.List.{_++_}
 use Prim.Native.Nat.{_-_}
 use lib.ListN.{length, replicate, length-append}
 use Rattle.answer.specs.Calls.{answer}
-use Rattle.answer.specs.Promises.{Answer-to-one, Within, Answer-14, Answer-15, Answer-else, Of-the-calls, Says-a-plan, Says-no-plan, Printed}
+use Rattle.answer.specs.Promises.{Answer-to-one, Within, At-most-512, Answer-14, Answer-15, Answer-else, Of-the-calls, Says-a-plan, Says-no-plan, Printed}
 use Rattle.answer.proofs.Saying
 use Rattle.answer.proofs.Example
+use Rattle.answer.proofs.Fitting
 
 pub answer-to-one : Answer-to-one
 answer-to-one file r r′ h h′ = λ i. record { bytes = (h .bytes ∙ sym (h′ .bytes)) i; length = (h .its-length ∙ sym (h′ .its-length)) i }
@@ -19,6 +20,9 @@ within file r h =
     let bytes : length (r .bytes) ≡ length (answer file ++ replicate (512 - length (answer file)) 0) = ap length (h .bytes) in
     let its-length = h .its-length in
     omega (arith, long, bytes, its-length)
+
+pub at-most-512 : At-most-512
+at-most-512 = Fitting.at-most-512
 
 pub answer-14 : Answer-14
 answer-14 = Saying.says-14

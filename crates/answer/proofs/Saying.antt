@@ -105,7 +105,7 @@ says-else file g h = rw (eq-eqb (refusalOfLoad file) 0 (not-refused file g h)) r
 -- ---- of the calls
 
 -- The lengths lent are those that the file asks for.
-lends : (file : List ℕ) (c : Calls file) → Lends file (length (c .domains)) (length (c .tables)) (length (c .agenda))
+pub lends : (file : List ℕ) (c : Calls file) → Lends file (length (c .domains)) (length (c .tables)) (length (c .agenda))
 lends file c = record { its-domains = λ h. c .domain-words; its-tables = λ h k. c .table-words; its-agenda = λ h. c .agenda-words }
 
 of-refused : (file : List ℕ) (c : Calls file) → (c .loaded .refusal ≡ 0 → ⊥) → answer file ≡ refusedLine (c .loaded .refusal)
@@ -201,6 +201,11 @@ calls-of file =
       agenda-words = length-replicate (512 * (n + 2)) 0;
       chooses = record { verdict = refl; refusal = refl; taken = refl; steps = refl; checks = refl; subproblems = refl; agenda = refl };
     }
+
+-- Load takes a file that deserves neither 14 nor 15.
+pub load-takes : (file : List ℕ) → (Deserves-14 file → ⊥) → (Deserves-15 file → ⊥) → calls-of file .loaded .refusal ≡ 0
+unfolding calls-of
+load-takes file g h = sym (as-lent file) ∙ not-refused file g h
 
 -- ---- line 1
 

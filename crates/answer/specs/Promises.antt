@@ -31,6 +31,10 @@ Answer-to-one = (file : List ℕ) → One (Answers file)
 abbrev pub Within : Type 0
 Within = (file : List ℕ) (r : Text) → Answers file r → r .length ≤ length (r .bytes)
 
+-- It has at most 512 bytes.
+abbrev pub At-most-512 : Type 0
+At-most-512 = (file : List ℕ) → Bytes file → length (answer file) ≤ 512
+
 -- ---- the text, for any bytes
 
 -- A file that is not 1 to 101 whole blocks, or of which a block's check, number or count is wrong, gives the one line "refused 14".

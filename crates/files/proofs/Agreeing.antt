@@ -1,4 +1,4 @@
--- Two tables that agree at every place of two different variables make the same pieces, the same checks, the same runs.
+-- Two tables that agree at every place of two different variables make the same pieces and cost the same checks.
 -- Assumes nothing.
 use mathlib.Core.Path.{_≡_, refl, sym, ap, ap₂}
 use mathlib.Core.Logic.{inl}

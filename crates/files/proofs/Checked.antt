@@ -24,7 +24,7 @@ use Rattle.search.proofs.FirstPassing.{search-is-passed}
 use Rattle.files.specs.Blocks.{blocksFor}
 use Rattle.files.specs.Reading.{blocksIn, contentWord, contentFrom, saidN, saidD, saidSteps, saidChecks, saidSubproblems, saidDomains, saidAllowed, saidAgenda, saidSearch, saidWords, agendaFrom, tableWords, refusalOfWords}
 use Rattle.files.specs.Promises.{Bytes}
-use Rattle.files.specs.Work.Said.{Numbers, StateSaid, numbersSaid, zeroIn, filled, agendaStart, wordsOf, sizedIn, Read, Ready}
+use Rattle.files.specs.Work.Said.{Numbers, StateSaid, numbersSaid, zeroIn, filled, agendaStart, wordCount, sizedIn, Read, Ready}
 use Rattle.files.proofs.Lists.{seq, seq-join, map-is}
 use Rattle.files.proofs.Triangle.{table-other}
 use Rattle.files.proofs.Stacks.{slots-in}
@@ -89,7 +89,7 @@ module _ (file : List ℕ) (small : Bytes file) (whole : Whole file) (sized : si
     pub zeros : (k : ℕ) → saidWords file ≤ k → contentWord file k ≡ 0
 
   full : Full
-  unfolding sizedIn filled zeroIn wordsOf agendaStart
+  unfolding sizedIn filled zeroIn wordCount agendaStart
   full =
       let words : ℕ = saidWords file in
       let test : ℕ → Bool = λ k. eqb (contentWord file (words + k)) 0 in

@@ -43,19 +43,23 @@ four-words x =
     let three : x / 2 ^ 32 / 65536 ≡ x / 2 ^ 48 = div-div-eq-div-mul x (2 ^ 32) 65536 in
     rw (← three, ← two) (omega arith)
 
+-- How many words a content has.
+pub content-words : (n d : ℕ) (domains : List ℕ) (allowed : Table) (s : Search) → length domains ≡ n
+    → length (contentOf n d domains allowed s) ≡ 9 + n + triangleWords n d + length (stackWords n (s .stack))
+unfolding contentOf
+content-words n d domains allowed s words =
+    omega (
+      arith,
+      length-append (domains ++ triangle n d allowed) (stackWords n (s .stack)),
+      length-append domains (triangle n d allowed),
+      triangle-length n d allowed,
+    )
+
 module _ (n d : ℕ) (domains : List ℕ) (allowed : Table) (s : Search) (few : n ≤ 32) (words : length domains ≡ n)
     (shape : (P : Subproblem) → List·Memᴰ P (s .stack) → Shape n 16 P) where
-  -- How many words it has.
+  -- So many where its stack is as memory holds it.
   pub content-length : length (contentOf n d domains allowed s) ≡ 9 + n + triangleWords n d + length (s .stack) * (n + 2)
-  unfolding contentOf
-  content-length =
-      omega (
-        arith,
-        length-append (domains ++ triangle n d allowed) (stackWords n (s .stack)),
-        length-append domains (triangle n d allowed),
-        triangle-length n d allowed,
-        shape-length n few (s .stack) shape,
-      )
+  content-length = omega (arith, content-words n d domains allowed s words, shape-length n few (s .stack) shape)
 
   -- After nine words the domains, then the tables, then the agenda.
   content-tail : (k : ℕ) → getD (contentOf n d domains allowed s) (9 + k) 0 ≡ getD (domains ++ triangle n d allowed ++ stackWords n (s .stack)) k 0

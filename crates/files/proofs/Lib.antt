@@ -1,38 +1,38 @@
 pub mod Lists
-pub mod Sums
-pub mod Words
-pub mod Blocks
+mod Sums
+mod Words
+mod Blocks
 pub mod Tests
 pub mod Whole
-pub mod Triangle
+mod Triangle
 pub mod Stacks
-pub mod Gathered
+mod Gathered
 pub mod Accepted
-pub mod Contents
+mod Contents
 pub mod Tables
-pub mod RoundTrip
+mod RoundTrip
 pub mod Saving
 pub mod Loading
 pub mod Refusals
-pub mod Agreeing
-pub mod AgreeingRuns
+mod Agreeing
+mod AgreeingRuns
 pub mod Requests
-pub mod Reaching
-pub mod Diagonal
-pub mod LoadLeaves
+mod Reaching
+mod Diagonal
+mod LoadLeaves
 pub mod Back
-pub mod Carried
-pub mod Cut
+mod Carried
+mod Cut
 pub mod Solutions
-pub mod Living
+mod Living
 pub mod OneOutcome
 pub mod Promises
-pub mod Places
-pub mod Mirrors
-pub mod Found
-pub mod Filled
-pub mod Refused
-pub mod Checked
+mod Places
+mod Mirrors
+mod Found
+mod Filled
+mod Refused
+mod Checked
 pub mod LoadOutcomes
-pub mod Written
-pub mod SaveOutcomes
+mod Written
+mod SaveOutcomes

@@ -54,6 +54,7 @@ use Rattle.files.specs.Promises.{
   Cut-choose,
 }
 use Rattle.splits.proofs.Refusals.{one}
+use Rattle.search.proofs.Encoding.{length-stack}
 use Rattle.search.proofs.Promises.{search-passed, reached-solvable, reached-steps, reached-checks, chooser-says}
 use Rattle.files.proofs.Sums
 use Rattle.files.proofs.Blocks
@@ -86,7 +87,7 @@ pub blocks-bytes : Blocks-bytes
 blocks-bytes content words few = Blocks.file-small content few words
 
 pub check-word : Check-word
-check-word = Sums.check-word
+check-word = Sums.check-complement
 
 pub sum-folded : Sum-folded
 sum-folded ws t y z words few = Sums.twice-is ws t y z words (omega arith)
@@ -113,14 +114,14 @@ pub saves-back : Saves-back
 saves-back = Back.saves-back
 
 pub largest : Largest
-largest n d domains allowed s few values words stack shape =
-    (RoundTrip.content-few n d domains allowed s few values words stack shape, RoundTrip.blocks-few n d domains allowed s few values words stack shape)
+largest n d domains allowed s few values words stack =
+    (RoundTrip.content-few n d domains allowed s few values words stack, RoundTrip.blocks-few n d domains allowed s few values words stack)
 
 pub largest-met : Largest-met
 unfolding blocksFor
-largest-met domains allowed s words stack shape =
-    let e = Contents.content-length 32 16 domains allowed s (omega arith) words shape in
-    let l : length (contentOf 32 16 domains allowed s) ≡ 25385 = rw stack at e in
+largest-met domains allowed s words stack wide =
+    let e = length-stack 32 (s .stack) (λ P m. omega (arith, wide P m)) in
+    let l : length (contentOf 32 16 domains allowed s) ≡ 25385 = Contents.content-words 32 16 domains allowed s words ∙ rw (e, stack) refl in
     (l, rw l refl)
 
 pub save-enough : Save-enough

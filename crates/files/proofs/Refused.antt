@@ -29,7 +29,7 @@ use Rattle.files.specs.Reading.{
   refusalOfWords,
 }
 use Rattle.files.specs.Calls.{loadRefusal}
-use Rattle.files.specs.Work.Said.{Numbers, numbersSaid, zeroIn, filled, agendaStart, wordsOf, sizedIn}
+use Rattle.files.specs.Work.Said.{Numbers, numbersSaid, zeroIn, filled, agendaStart, wordCount, sizedIn}
 
 -- Tests in a row, in groups.
 grouped : (t a b c d e f : Bool) → (t && a && b && c && d && e && f) ≡ ((t && (a && b)) && (c && d && e && f))
@@ -49,7 +49,7 @@ module _ (file : List ℕ) where
 
   -- 15 is given exactly if a test fails.
   words-tests : refusalOfWords file ≡ cond (sizedIn file && rest) 0 15
-  unfolding rest refusalOfWords sizedIn numbersSaid filled zeroIn agendaStart wordsOf
+  unfolding rest refusalOfWords sizedIn numbersSaid filled zeroIn agendaStart wordCount
   words-tests =
       ap (λ (t : Bool). cond t 0 15)
       (grouped (leb 1 (saidN file) && leb (saidN file) 32 && leb 1 (saidD file) && leb (saidD file) 16 && leb (saidSubproblems file) 512)
@@ -63,7 +63,7 @@ module _ (file : List ℕ) where
   refused-numbers b e y = rw (sym e ∙ not-true b y) refl
 
   -- They are not; the blocks decide.
-  pub sized-blocks : (words : ℕ) (a b : Bool) → a ≡ numbersSaid file → not a ≡ false → words ≡ wordsOf (saidN file) (saidD file) (saidSubproblems file)
+  pub sized-blocks : (words : ℕ) (a b : Bool) → a ≡ numbersSaid file → not a ≡ false → words ≡ wordCount (saidN file) (saidD file) (saidSubproblems file)
       → b ≡ filled file words → b ≡ sizedIn file
   unfolding sizedIn
   sized-blocks words a b e y w f = f ∙ rw (w, sym e ∙ not-false a y) refl
@@ -113,13 +113,13 @@ module _ (file : List ℕ) where
     numbers-found b e y = numbers-said (sym e ∙ not-false b y)
 
     -- How many words there are.
-    pub words-said : (words : ℕ) → words ≡ wordsOf n d m → words ≡ wordsOf (saidN file) (saidD file) (saidSubproblems file)
+    pub words-said : (words : ℕ) → words ≡ wordCount n d m → words ≡ wordCount (saidN file) (saidD file) (saidSubproblems file)
     words-said words e = e ∙ rw (is-n, is-d, is-m) refl
 
     -- What was found of the numbers and the blocks.
     pub sized-numbers : sizedIn file ≡ true → Numbers n d × (m ≤ 512)
     unfolding sizedIn
-    sized-numbers e = numbers-said (and-left (numbersSaid file) (filled file (wordsOf (saidN file) (saidD file) (saidSubproblems file))) e)
+    sized-numbers e = numbers-said (and-left (numbersSaid file) (filled file (wordCount (saidN file) (saidD file) (saidSubproblems file))) e)
 
     -- What passing 15 leaves of them.
     pub numbers-passed : refusalOfWords file ≡ 0 → Numbers n d × (m ≤ 512)

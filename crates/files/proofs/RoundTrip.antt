@@ -25,10 +25,10 @@ use Rattle.files.proofs.Whole.{Whole, rebuilt}
 use Rattle.files.proofs.Triangle.{triangle-from}
 use Rattle.files.proofs.Blocks.{file-blocks, file-content, file-passes}
 use Rattle.files.proofs.Accepted.{Accepts, accept-words}
-use Rattle.files.proofs.Contents.{content-length, says-n, says-d, says-steps, says-checks, says-subproblems, says-domains, says-words, says-search, says-stack, says-below, says-above}
+use Rattle.files.proofs.Contents.{content-words, content-length, says-n, says-d, says-steps, says-checks, says-subproblems, says-domains, says-words, says-search, says-stack, says-below, says-above}
 use Rattle.files.proofs.Words.{word-small}
 use Rattle.files.proofs.Lists.{map-length, map-at, seq, seq-join, seq-length, seq-at}
-use Rattle.files.proofs.Stacks.{of-shape}
+use Rattle.files.proofs.Stacks.{stack-most, of-shape}
 use Rattle.files.proofs.Tables.{with-table, rules-agree, agree-back}
 
 -- ---- how large a content is
@@ -42,20 +42,22 @@ triangle-few n d h l =
     mul-le-mul half l
 
 module _ (n d : ℕ) (domains : List ℕ) (allowed : Table) (s : Search) (few : n ≤ 32) (values : d ≤ 16) (words : length domains ≡ n)
-    (stack : length (s .stack) ≤ 512) (shape : (P : Subproblem) → List·Memᴰ P (s .stack) → Shape n 16 P) where
+    (stack : length (s .stack) ≤ 512) where
   -- A content has at most 25,385 words.
   pub content-few : length (contentOf n d domains allowed s) ≤ 25385
   content-few =
       let slot : n + 2 ≤ 34 = omega arith in
       let slots : length (s .stack) * (n + 2) ≤ 512 * 34 = mul-le-mul stack slot in
-      omega (arith, content-length n d domains allowed s few words shape, triangle-few n d few values)
+      omega (arith, content-words n d domains allowed s words, stack-most n (s .stack), triangle-few n d few values)
 
   -- It fills at most 101 blocks.
   pub blocks-few : blocksFor (length (contentOf n d domains allowed s)) ≤ 101
   unfolding blocksFor
   blocks-few = omega (arith, content-few)
 
-  -- And at least one.
+module _ (n d : ℕ) (domains : List ℕ) (allowed : Table) (s : Search) (few : n ≤ 32) (values : d ≤ 16) (words : length domains ≡ n)
+    (stack : length (s .stack) ≤ 512) (shape : (P : Subproblem) → List·Memᴰ P (s .stack) → Shape n 16 P) where
+  -- It fills at least one block.
   pub blocks-some : 1 ≤ blocksFor (length (contentOf n d domains allowed s))
   unfolding blocksFor
   blocks-some = omega (arith, content-length n d domains allowed s few words shape)
@@ -77,7 +79,7 @@ module _ (n d : ℕ) (domains : List ℕ) (allowed : Table) (s : Search) (few : 
     pub file-says : Says (fileOf (contentOf n d domains allowed s)) n d domains allowed s
     unfolding file
     file-says = record {
-      whole = file-passes (contentOf n d domains allowed s) blocks-some blocks-few;
+      whole = file-passes (contentOf n d domains allowed s) blocks-some (blocks-few n d domains allowed s few values words stack);
       accepted = accept-words file accepts;
       its-n = the-n;
       its-d = the-d;

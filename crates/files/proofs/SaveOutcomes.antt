@@ -15,8 +15,8 @@ use Rattle.search.specs.declared.state.State.{State}
 use Rattle.search.proofs.FirstParts.{given-if, else-first, else-rest, else-pass, numbers-pass, lengths-pass, open-parts, slots-within}
 use Rattle.files.specs.Blocks.{blocksFor, firstBlocks, fileOf}
 use Rattle.files.specs.Calls.{handedContent, saveRefusal, Saves}
-use Rattle.files.specs.Work.Said.{agendaStart, wordsOf}
-use Rattle.files.specs.Work.Saved.{Savable, handed, filePart}
+use Rattle.files.specs.Work.Said.{agendaStart, wordCount}
+use Rattle.files.specs.Work.Saved.{Savable, filePart}
 use Rattle.files.specs.declared.saved.Saved.{Saved}
 use Rattle.files.proofs.Blocks.{blocks-length}
 use Rattle.files.proofs.Written.{handed-length, file-same}
@@ -91,12 +91,12 @@ module _ (n d : ℕ) (domains tables agenda : List ℕ) (s : State) where
           file = not-given refusal _ file file some refl;
         }
 
-    module _ (small : (i : ℕ) → getD agenda i 0 < 2 ^ 16) (r words : ℕ) (is-r : r ≡ searchRefusal n d domains tables agenda (s .counts .steps .0) (s .counts .checks .0) (s .subproblems)) (zero-r : r ≡ 0) (is-words : words ≡ wordsOf n d (s .subproblems)) where
+    module _ (small : (i : ℕ) → getD agenda i 0 < 2 ^ 16) (r words : ℕ) (is-r : r ≡ searchRefusal n d domains tables agenda (s .counts .steps .0) (s .counts .checks .0) (s .subproblems)) (zero-r : r ≡ 0) (is-words : words ≡ wordCount n d (s .subproblems)) where
       -- So many blocks.
       counted-blocks : (words + 252) / 253 ≡ blocksFor (length (handedContent n d domains tables agenda s))
-      unfolding handed blocksFor wordsOf agendaStart
+      unfolding blocksFor wordCount agendaStart
       counted-blocks =
-          let all : words ≡ length (handed n d domains tables agenda s) = is-words ∙ sym (handed-length n d domains tables agenda s (first-passed (sym is-r ∙ zero-r)) small) in
+          let all : words ≡ length (handedContent n d domains tables agenda s) = is-words ∙ sym (handed-length n d domains tables agenda s (first-passed (sym is-r ∙ zero-r)) small) in
           ap (λ (x : ℕ). (x + 252) / 253) all
 
       -- 13 or none is left.
@@ -117,9 +117,9 @@ module _ (n d : ℕ) (domains tables agenda : List ℕ) (s : State) where
           }
 
       -- The blocks are written.
-      written : filePart ((words + 252) / 253) (handed n d domains tables agenda s) ((words + 252) / 253) file
+      written : filePart ((words + 252) / 253) (handedContent n d domains tables agenda s) ((words + 252) / 253) file
           ≡ fileOf (handedContent n d domains tables agenda s) ++ drop (length (fileOf (handedContent n d domains tables agenda s))) file
-      unfolding filePart fileOf handed
+      unfolding filePart fileOf
       written =
           let content : List ℕ = handedContent n d domains tables agenda s in
           let blocks : ℕ = blocksFor (length content) in
@@ -127,12 +127,12 @@ module _ (n d : ℕ) (domains tables agenda : List ℕ) (s : State) where
           ∙ ap (λ (x : ℕ). firstBlocks blocks blocks content ++ drop x file) (sym (blocks-length blocks blocks content))
 
       pub save-written : (x : Saved) (after : List ℕ) → 512 * ((words + 252) / 253) ≤ length file → x .refusal ≡ 0 → x .blocks ≡ (words + 252) / 253
-          → (content : List ℕ) (zeros : ℕ) → content ≡ handed n d domains tables agenda s ++ replicate zeros 0
+          → (content : List ℕ) (zeros : ℕ) → content ≡ handedContent n d domains tables agenda s ++ replicate zeros 0
           → after ≡ filePart ((words + 252) / 253) content ((words + 252) / 253) file → Saves n d domains tables agenda s file after x
       unfolding refusal
       save-written x after h a b content zeros c e =
-          let same : after ≡ filePart ((words + 252) / 253) (handed n d domains tables agenda s) ((words + 252) / 253) file =
-          e ∙ ap (λ (l : List ℕ). filePart ((words + 252) / 253) l ((words + 252) / 253) file) c ∙ file-same (handed n d domains tables agenda s) zeros ((words + 252) / 253) file in
+          let same : after ≡ filePart ((words + 252) / 253) (handedContent n d domains tables agenda s) ((words + 252) / 253) file =
+          e ∙ ap (λ (l : List ℕ). filePart ((words + 252) / 253) l ((words + 252) / 253) file) c ∙ file-same (handedContent n d domains tables agenda s) zeros ((words + 252) / 253) file in
           let none : refusal ≡ 0 = last ∙ rw (le-ltb (length file) (512 * ((words + 252) / 253)) h) refl in
           record {
             refusal = a ∙ sym none;

@@ -39,7 +39,7 @@ module _ (n d : ℕ) (domains tables agenda : List ℕ) (s : State) (words : Wor
   -- Its content fills at most 101 blocks.
   pub saved-few : blocksFor (length (handedContent n d domains tables agenda s)) ≤ 101
   saved-few =
-      blocks-few n d domains (tableOf n d tables) (searchOf n agenda s) (h .passed .proper .variables) (h .passed .proper .values) (h .passed .domains-words) stack-few stack-shape
+      blocks-few n d domains (tableOf n d tables) (searchOf n agenda s) (h .passed .proper .variables) (h .passed .proper .values) (h .passed .domains-words) stack-few
 
   -- The blocks written say the search.
   pub saved-says : Says (fileOf (handedContent n d domains tables agenda s)) n d domains (tableOf n d tables) (searchOf n agenda s)

@@ -2,14 +2,14 @@
 -- Assumes nothing.
 use mathlib.Core.Path.{_≡_, _∙_}
 use mathlib.Core.Logic.{⊎-elim}
-use mathlib.Core.List.{List, List·Memᴰ, List·Memᴰ·not-nil, List·Memᴰ·cases-cons}
+use mathlib.Core.List.{List, List·Memᴰ, List·Memᴰ·not-nil, List·Memᴰ·cases-cons, [], _∷_}
 use Prim.Native.Nat.{ℕ, zero, suc, _+_, _-_, _*_, _^_, _≤_, _<_}
 use native.Mathlib.Omega.{arith}
 use native.Mathlib.Nat.{suc-mul, mul-div-cancel}
-use lib.ListN.{length, getD, take, length-append, length-replicate, List·getD-eq-default}
+use lib.ListN.{length, getD, take, length-append, length-take, length-replicate, List·getD-eq-default}
 use lib.Seq.{length-take-le}
 use Rattle.splits.specs.declared.subproblem.Subproblem.{Subproblem}
-use Rattle.search.specs.Agenda.{holding, Shape, subproblemOf, slotAt, slotsIn, stackOf, stackWords}
+use Rattle.search.specs.Agenda.{holding, Shape, slotWords, subproblemOf, slotAt, slotsIn, stackOf, stackWords}
 use Rattle.search.proofs.Encoding.{slot-long, part-small, length-stack}
 use Rattle.files.proofs.Lists.{padded-at}
 
@@ -17,7 +17,13 @@ use Rattle.files.proofs.Lists.{padded-at}
 pub slots-in : (n slots : ℕ) → slotsIn n (slots * (n + 2)) ≡ slots
 slots-in n slots = mul-div-cancel slots (omega arith)
 
--- A stack as memory holds it is so many slots.
+-- A stack takes at most so many slots.
+pub stack-most : (n : ℕ) (S : List Subproblem) → length (stackWords n S) ≤ length S * (n + 2)
+unfolding stackWords slotWords
+stack-most n [] = omega arith
+stack-most n (P ∷ S) = simp (length-append, length-take) (omega (arith, stack-most n S))
+
+-- One as memory holds it takes so many.
 pub shape-length : (n : ℕ) → n ≤ 32 → (S : List Subproblem) → ((P : Subproblem) → List·Memᴰ P S → Shape n 16 P) → length (stackWords n S) ≡ length S * (n + 2)
 shape-length n few S h = length-stack n S (λ P m. omega (arith, h P m .long))
 
@@ -28,7 +34,7 @@ module _ (n : ℕ) (ws : List ℕ) (words : length ws ≡ n + 2) (small : (k : �
   slot-shape few =
       let size : length (take n ws) ≡ n = length-take-le n ws (omega arith) in
       record {
-        long = simp (length-append, length-replicate) (omega arith);
+        long = simp (length-append, length-take, length-replicate) (omega arith);
         past = λ i l. padded-at (take n ws) (32 - n) i ∙ out i l size;
         marks = omega (arith, small n, small (n + 1));
         masks = λ i. rw (padded-at (take n ws) (32 - n) i) (part-small n 0 ws small i);

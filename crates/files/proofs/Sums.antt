@@ -75,6 +75,11 @@ pub check-word : (ws : List ℕ) → checkOf ws < 65536
 unfolding checkOf
 check-word ws = omega arith
 
+-- Of words it is the complement of their sum.
+pub check-complement : (ws : List ℕ) → ((k : ℕ) → getD ws k 0 < 65536) → onesSum ws + checkOf ws ≡ 65535
+unfolding checkOf
+check-complement ws h = omega (arith, ones-folds ws h .word)
+
 -- The sum of words that are listed by their places, as a loop adds them up.
 plain-append : (l m : List ℕ) → plain (l ++ m) ≡ plain l + plain m
 unfolding sum

@@ -16,9 +16,9 @@ use Rattle.search.proofs.Encoding.{stack-of-words, length-stackOf}
 use Rattle.files.specs.Blocks.{fileBytes, wordAt, checkOf, contentOfBlock, headedBlock, blockWords, firstBlocks}
 use Rattle.files.specs.Content.{each, triangle, contentOf}
 use Rattle.files.specs.Reading.{blockWord, headOf, triangleWords}
-use Rattle.files.specs.Work.Said.{Numbers, agendaStart, wordsOf}
+use Rattle.files.specs.Work.Said.{Numbers, agendaStart, wordCount}
 use Rattle.files.specs.Calls.{handedContent}
-use Rattle.files.specs.Work.Saved.{Savable, handed, header, Tail, tail, blockPart, filePart}
+use Rattle.files.specs.Work.Saved.{Savable, header, Tail, tail, blockPart, filePart}
 use Rattle.files.proofs.Lists.{map-is, each-length, each-none, each-more, total-below, seq, seq-is, padded-at}
 use Rattle.files.proofs.Words.{bytes-length, bytes-append, word-read}
 use Rattle.files.proofs.Triangle.{rest, rest-total, total-mul, row, row-length, row-words, triangle-rows, triangle-length}
@@ -189,8 +189,8 @@ module _ (n d : ℕ) (domains tables agenda : List ℕ) (s : State) (hands : Sav
   masks = triangle n d (tableOf n d tables)
 
   -- The content is its four parts, one after the other.
-  pub parts : handed n d domains tables agenda s ≡ header n d s ++ domains ++ triangle n d (tableOf n d tables) ++ take (s .subproblems * (n + 2)) agenda
-  unfolding handed header contentOf
+  pub parts : handedContent n d domains tables agenda s ≡ header n d s ++ domains ++ triangle n d (tableOf n d tables) ++ take (s .subproblems * (n + 2)) agenda
+  unfolding header contentOf
   parts =
       rw (length-stackOf n agenda (s .subproblems), stack-of-words n agenda (s .subproblems) (hands .agenda-words) small) refl
 
@@ -217,15 +217,15 @@ module _ (n d : ℕ) (domains tables agenda : List ℕ) (s : State) (hands : Sav
 
   -- How many words they are.
   pub handed-length : length (handedContent n d domains tables agenda s) ≡ 9 + n + triangleWords n d + s .subproblems * (n + 2)
-  unfolding handed used masks
+  unfolding used masks
   handed-length = ap length parts ∙ length-append (header n d s ++ domains ++ masks) (take used agenda) ∙ omega (arith, three, used-length)
 
   -- The header, then the rest: the content, and zeros after it.
   pub content-made : (l ys zs : List ℕ) → length l ≡ 25553 → ys ≡ header n d s
       → zs ≡ domains ++ tail n d tables agenda (s .subproblems) (length (midOf 9 (length (ys ++ drop 9 l) - 9) (ys ++ drop 9 l)) - n)
       → putMid 9 (length (ys ++ drop 9 l) - 9) (ys ++ drop 9 l) zs
-      ≡ handed n d domains tables agenda s ++ replicate (25553 - wordsOf n d (s .subproblems)) 0
-  unfolding tail wordsOf agendaStart
+      ≡ handedContent n d domains tables agenda s ++ replicate (25553 - wordCount n d (s .subproblems)) 0
+  unfolding tail wordCount agendaStart
   content-made l ys zs long y z =
       let size : length ys ≡ 9 = ap length y ∙ header-length in
       let room : 9 ≤ length l = omega arith in

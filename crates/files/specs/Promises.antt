@@ -2,7 +2,7 @@
 use mathlib.Core.Path.{_≡_}
 use mathlib.Core.Logic.{_↔_}
 use mathlib.Core.List.{List, List·Memᴰ, [], _∷_, _++_}
-use Prim.Native.Nat.{ℕ, _+_, _-_, _*_, _/_, _%_, _^_, _≤_, _<_}
+use Prim.Native.Nat.{ℕ, _+_, _*_, _/_, _%_, _^_, _≤_, _<_}
 use lib.ListN.{length, getD, take, drop}
 use Rattle.splits.specs.Problem.{Problem, Proper, Table, Allow-same, Solution, tableOf}
 use Rattle.splits.specs.Masks.{lowest, single}
@@ -10,7 +10,7 @@ use Rattle.splits.specs.Subproblems.{domain}
 use Rattle.splits.specs.Measure.{sum}
 use Rattle.splits.specs.Promises.{Solvable, AgreeApart, One}
 use Rattle.splits.specs.declared.subproblem.Subproblem.{Subproblem}
-use Rattle.search.specs.Agenda.{Words, problemOf, Shape, stackOf, slotsIn, agendaOf}
+use Rattle.search.specs.Agenda.{Words, problemOf, stackOf, slotsIn, agendaOf}
 use Rattle.search.specs.FirstChecks.{WholeSlots, WholeRequests, Deserves-3, searchRefusal}
 use Rattle.search.specs.Runs.{Search}
 use Rattle.search.specs.Calls.{searchOf, Opens, Runs, Chooses}
@@ -49,10 +49,11 @@ Blocks-length = (content : List ℕ) → length (fileOf content) ≡ 512 * block
 abbrev pub Blocks-bytes : Type 0
 Blocks-bytes = (content : List ℕ) → Words content → blocksFor (length content) ≤ 101 → Bytes (fileOf content)
 
--- The check is a word, and RFC 1071's sum is what the sum of up to 255 words comes to when its carries are folded in twice.
+-- The check of words is the complement of their sum: the two come to 65,535, so that it is a word.
 abbrev pub Check-word : Type 0
-Check-word = (ws : List ℕ) → checkOf ws < 65536
+Check-word = (ws : List ℕ) → Words ws → onesSum ws + checkOf ws ≡ 65535
 
+-- RFC 1071's sum is what the sum of up to 255 words comes to when its carries are folded in twice.
 abbrev pub Sum-folded : Type 0
 Sum-folded =
     (ws : List ℕ) (t y z : ℕ) → Words ws → length ws ≤ 255 → t ≡ sum (λ w. w) ws → y ≡ t % 65536 + t / 65536 → z ≡ y % 65536 + y / 65536
@@ -137,14 +138,13 @@ Saves-back =
 abbrev pub Largest : Type 0
 Largest =
     (n d : ℕ) (domains : List ℕ) (allowed : Table) (s : Search) → n ≤ 32 → d ≤ 16 → length domains ≡ n → length (s .stack) ≤ 512
-    → ((P : Subproblem) → List·Memᴰ P (s .stack) → Shape n 16 P)
     → (length (contentOf n d domains allowed s) ≤ 25385) × (blocksFor (length (contentOf n d domains allowed s)) ≤ 101)
 
 -- It is met: n 32, d 16, 512 subproblems.
 abbrev pub Largest-met : Type 0
 Largest-met =
     (domains : List ℕ) (allowed : Table) (s : Search) → length domains ≡ 32 → length (s .stack) ≡ 512
-    → ((P : Subproblem) → List·Memᴰ P (s .stack) → Shape 32 16 P)
+    → ((P : Subproblem) → List·Memᴰ P (s .stack) → length (P .domains) ≡ 32)
     → (length (contentOf 32 16 domains allowed s) ≡ 25385) × (blocksFor (length (contentOf 32 16 domains allowed s)) ≡ 101)
 
 -- So a buffer of 101 blocks, 51,712 bytes, takes any search that passes the first checks, in memory of words.

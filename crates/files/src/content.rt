@@ -9,8 +9,9 @@ ghost use lib.ListN.{length, replicate};
 ghost use Rattle.splits.specs.Problem.{tableOf};
 ghost use Rattle.files.specs.Content.{triangle};
 ghost use Rattle.files.specs.Reading.{triangleWords};
-ghost use Rattle.files.specs.Work.Said.{Numbers, agendaStart, wordsOf};
-ghost use Rattle.files.specs.Work.Saved.{Savable, handed, header, Tail, tail};
+ghost use Rattle.files.specs.Calls.{handedContent};
+ghost use Rattle.files.specs.Work.Said.{Numbers, agendaStart, wordCount};
+ghost use Rattle.files.specs.Work.Saved.{Savable, header, Tail, tail};
 
 // How many words of a content come before its agenda.
 pub(crate) fn agenda_from(n: usize, d: usize) -> usize
@@ -23,7 +24,7 @@ pub(crate) fn agenda_from(n: usize, d: usize) -> usize
 // How many words a content has.
 pub(crate) fn words(n: usize, d: usize, subproblems: usize) -> usize
     requires { ⌜ Numbers n d × (subproblems ≤ 512) ⌝ }
-    ensures { λ r. ⌜ (r ≡ wordsOf n d subproblems) × (r ≤ 25385) ⌝ }
+    ensures { λ r. ⌜ (r ≡ wordCount n d subproblems) × (r ≤ 25385) ⌝ }
 {
     agenda_from(n, d) + subproblems * (n + 2)
 }
@@ -112,7 +113,7 @@ pub(crate) fn put(
     words: &mut [u16],
 )
     requires { ⌜ Savable n d (now domains) (now tables) (now agenda) state × (length (now words) ≡ 25553) ⌝ }
-    ensures { λ r. ⌜ now (words .exit) ≡ handed n d (now (domains .entry)) (now (tables .entry)) (now (agenda .entry)) state ++ replicate (25553 - wordsOf n d (state .subproblems)) 0 ⌝ }
+    ensures { λ r. ⌜ now (words .exit) ≡ handedContent n d (now (domains .entry)) (now (tables .entry)) (now (agenda .entry)) state ++ replicate (25553 - wordCount n d (state .subproblems)) 0 ⌝ }
 {
     let first = header(n, d, state);
     copying::put_words(&first[..9], &mut words[..9]);

@@ -4,7 +4,7 @@ use borrow.Author.Needs.{needs}
 use mathlib.Core.Path.{refl, sym, _∙_}
 use native.Mathlib.Omega.{arith}
 use Prim.Native.Nat.{_-_}
-use Rattle.files.specs.Work.Said.{wordsOf}
+use Rattle.files.specs.Work.Said.{wordCount}
 use Rattle.files.proofs.SaveOutcomes.{first-passed, save-refused, save-short, save-written}
 use Rattle.files.proofs.save.Statement.{statement}
 use Rattle.files.proofs.save.Tie as tie
@@ -46,7 +46,7 @@ same-length : tie.Need-same-length
 same-length c = c .before .before .put-blocks .kept .1 .1 .0
 
 returns-3 : tie.Need-returns-3
-returns-3 c = save-written _ _ _ _ _ _ _ (λ i. omega (arith, c .before .before .before .before .before .before .before .before .before .before .before .before .before .before .shared-slice-known3 .given i)) _ _ (c .before .before .before .before .before .before .before .before .before .before .before .before .search-refusal .ensures) (c .before .before .before .before .before .before .before .before .before .before .before .if1 .left) (c .before .before .before .before .before .before .before .before .before .before .words .ensures .0) _ _ (c .before .before .before .before .before .before .before .before .before .if2 .left) refl refl _ (25553 - wordsOf (c .before .before .before .before .before .before .before .before .before .before .before .before .before .before .before .before .before .args .n) (c .before .before .before .before .before .before .before .before .before .before .before .before .before .before .before .before .before .args .d) (c .before .before .before .before .before .before .before .before .before .before .before .before .before .before .before .before .before .args .state .subproblems)) (c .before .before .before .before .before .before .put .ensures) (c .before .before .put-blocks .ensures)
+returns-3 c = save-written _ _ _ _ _ _ _ (λ i. omega (arith, c .before .before .before .before .before .before .before .before .before .before .before .before .before .before .shared-slice-known3 .given i)) _ _ (c .before .before .before .before .before .before .before .before .before .before .before .before .search-refusal .ensures) (c .before .before .before .before .before .before .before .before .before .before .before .if1 .left) (c .before .before .before .before .before .before .before .before .before .before .words .ensures .0) _ _ (c .before .before .before .before .before .before .before .before .before .if2 .left) refl refl _ (25553 - wordCount (c .before .before .before .before .before .before .before .before .before .before .before .before .before .before .before .before .before .args .n) (c .before .before .before .before .before .before .before .before .before .before .before .before .before .before .before .before .before .args .d) (c .before .before .before .before .before .before .before .before .before .before .before .before .before .before .before .before .before .args .state .subproblems)) (c .before .before .before .before .before .before .put .ensures) (c .before .before .put-blocks .ensures)
 
 pub save-spec : {M : Type 1} → statement M
 save-spec =

@@ -72,11 +72,11 @@ filled file words = eqb (blocksIn file) (blocksFor words) && every (blocksIn fil
 unfoldable pub agendaStart : ℕ → ℕ → ℕ
 agendaStart n d = 9 + n + triangleWords n d
 
-unfoldable pub wordsOf : ℕ → ℕ → ℕ → ℕ
-wordsOf n d subproblems = agendaStart n d + subproblems * (n + 2)
+unfoldable pub wordCount : ℕ → ℕ → ℕ → ℕ
+wordCount n d subproblems = agendaStart n d + subproblems * (n + 2)
 
 unfoldable pub sizedIn : List ℕ → Bool
-sizedIn file = numbersSaid file && filled file (wordsOf (saidN file) (saidD file) (saidSubproblems file))
+sizedIn file = numbersSaid file && filled file (wordCount (saidN file) (saidD file) (saidSubproblems file))
 
 -- The masks in the words of a content: for i below j they stand there; the other way round they are put together of these digits; zeros of i with
 -- itself.

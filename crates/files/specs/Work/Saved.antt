@@ -8,7 +8,6 @@ use Rattle.search.specs.declared.state.State.{State}
 use Rattle.files.specs.Blocks.{fileBytes, blockWords, firstBlocks}
 use Rattle.files.specs.Content.{firstWord, triangle}
 use Rattle.files.specs.Reading.{triangleWords}
-use Rattle.files.specs.Calls.{handedContent}
 use Rattle.files.specs.Work.Said.{Numbers}
 
 -- What the first checks leave.
@@ -18,10 +17,6 @@ pub record Savable (n d : ℕ) (domains tables agenda : List ℕ) (s : State) : 
   pub tables-words : length tables ≡ n * n * d
   pub few : s .subproblems ≤ 512
   pub agenda-words : s .subproblems * (n + 2) ≤ length agenda
-
--- The content of the search.
-unfoldable pub handed : ℕ → ℕ → List ℕ → List ℕ → List ℕ → State → List ℕ
-handed n d domains tables agenda s = handedContent n d domains tables agenda s
 
 -- The nine words before the domains.
 unfoldable pub header : ℕ → ℕ → State → List ℕ
