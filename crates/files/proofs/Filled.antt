@@ -2,9 +2,11 @@
 -- Assumes nothing.
 use mathlib.Core.Path.{_≡_, refl, sym, ap, _∙_}
 use mathlib.Core.List.{List, [], _∷_, _++_, map, map-append, append-assoc, append-nil}
+use mir.Syntax.{w64}
+use mir.Val.{Fits}
 use Prim.Native.Nat.{ℕ, suc, _+_, _-_, _*_, _/_, _%_, _≤_, _<_}
 use native.Mathlib.Omega.{arith}
-use native.Mathlib.Nat.{mul-le-mul, mul-le-mul-right, zero-mul, zero-add, add-mul}
+use native.Mathlib.Nat.{le-refl, le-trans, mul-assoc, mul-le-mul, mul-le-mul-right, zero-mul, zero-add, add-mul}
 use native.Mathlib.Numerals.{add-one}
 use native.Mathlib.Decide.{decLt}
 use lib.ListN.{length, getD, take, drop, set, replicate, length-append, length-drop, length-replicate, take-append-drop, List·getD-eq-default}
@@ -20,7 +22,7 @@ use Rattle.files.specs.Work.Said.{Numbers, allowedIn, pairPart, rowPart,
 use Rattle.files.proofs.Lists.{map-length, map-at, map-is, map-same, each-more, each-same, each-split, each-one, each-length, total-const, seq, seq-is, seq-each, seq-join}
 use Rattle.files.proofs.Places.{content-from, length-from}
 use Rattle.files.proofs.Found.{part-words}
-use Rattle.files.proofs.Mirrors.{part-at, part-long, pair-zeros, mask-at}
+use Rattle.files.proofs.Mirrors.{after-within, part-at, part-long, pair-zeros, mask-at}
 
 -- ---- values written one after the other
 
@@ -345,6 +347,18 @@ module _ (words : List ℕ) (n d : ℕ) where
 pub part-within : (k n w : ℕ) → k < n → k * w + w ≤ n * w
 part-within k n w h = let up : (k + 1) * w ≤ n * w = mul-le-mul-right w (omega arith) in omega arith
 
+-- A part of so many words from a place on: what is worked out to lend it fits, and it lies within.
+pub record Part (at width long : ℕ) : Type 0 where
+  pub start : Fits w64 at
+  pub end : Fits w64 (at + width)
+  pub bytes : Fits w64 (at * 2)
+  pub rises : at ≤ at + width
+  pub within : at + width ≤ long
+
+pub part-fits : (at width long : ℕ) → at + width ≤ long → long ≤ 65536 → Part at width long
+part-fits at width long h few =
+    record { start = omega arith; end = omega arith; bytes = omega arith; rises = omega arith; within = h }
+
 -- The words of a row are few.
 pub row-few : (n d : ℕ) → Numbers n d → n * d ≤ 512
 row-few n d s = mul-le-mul (s .variables) (s .values)
@@ -359,6 +373,48 @@ rows-few n d i s h =
 -- Those before a variable's own are part of its row.
 pub own-few : (n d i : ℕ) → Numbers n d → i < n → (i * d ≤ n * d) × (n * d ≤ 512)
 own-few n d i s h = (mul-le-mul-right d (omega arith), row-few n d s)
+
+-- The masks of two variables are such a part of the words of a content; in another order of those of a variable with the ones before it; and
+-- those of a variable of the tables.
+pub words-part : (from d words : ℕ) → words ≡ 25553 → from + d ≤ 25553 → Part from d words
+words-part from d words e h = part-fits from d words (omega arith) (omega arith)
+
+pub own-part : (n d i j words : ℕ) → Numbers n d → i < n → j < i → words ≡ i * d → Part (j * d) d words
+own-part n d i j words s h l e =
+    let few = own-few n d i s h in
+    part-fits (j * d) d words (rw e (part-within j i d l)) (rw e (le-trans (few .0) (le-trans (few .1) (omega arith))))
+
+pub table-part : (n d i words : ℕ) → Numbers n d → i < n → words ≡ n * n * d → Part (i * (n * d)) (n * d) words
+table-part n d i words s h e =
+    let all : n * (n * d) ≡ n * n * d = sym (mul-assoc n n d) in
+    part-fits (i * (n * d)) (n * d) words (rw (e, ← all) (part-within i n (n * d) h)) (rw (e, ← all) (le-trans (rows-few n d n s (le-refl n)) (omega arith)))
+
+-- A block is such a part of so many.
+pub block-part : (b blocks size words : ℕ) → b < blocks → blocks ≤ 101 → size ≤ 512 → words ≡ blocks * size → Part (b * size) size words
+block-part b blocks size words h few l e =
+    let all : blocks * size ≤ 101 * 512 = mul-le-mul few l in
+    part-fits (b * size) size words (rw e (part-within b blocks size h)) (rw e (le-trans all (omega arith)))
+
+-- What is worked out to find the masks of a variable fits.
+pub row-width : (n d : ℕ) → Numbers n d → Fits w64 (n * d)
+row-width n d s = let few = row-few n d s in omega (arith, few)
+
+-- Those of a variable with the ones after it, of which so many pairs stand before: where they begin, and how many words.
+pub after-part : (n d i p words : ℕ) → Numbers n d → i < n → p ≡ total i (λ h. n - suc h) → words ≡ 25553 → Part (9 + n + p * d) ((n - (i + 1)) * d) words
+after-part n d i p words s h e k =
+    let few = after-within n d i p s h e in
+    part-fits (9 + n + p * d) ((n - (i + 1)) * d) words (rw k (le-trans few (omega arith))) (omega arith)
+
+pub record AfterFits (n d i p : ℕ) : Type 0 where
+  pub pairs : Fits w64 (p * d)
+  pub row : Fits w64 ((n - (i + 1)) * d)
+
+pub after-fits : (n d i p : ℕ) → Numbers n d → i < n → p ≡ total i (λ h. n - suc h) → AfterFits n d i p
+after-fits n d i p s h e =
+    let few = after-within n d i p s h e in
+    let go : (x y : ℕ) → 9 + n + x + y ≤ 7977 → Fits w64 x × Fits w64 y = λ x y l. (omega arith, omega arith) in
+    let (pairs, row) = go (p * d) ((n - (i + 1)) * d) few in
+    record { pairs = pairs; row = row }
 
 -- There is room for those of a variable with itself.
 pub own-fits : (l : List ℕ) (n d i : ℕ) → length l ≡ (n - i) * d → i < n → d ≤ length l

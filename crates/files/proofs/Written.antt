@@ -2,13 +2,15 @@
 -- Assumes nothing.
 use mathlib.Core.Path.{_≡_, refl, sym, ap, _∙_}
 use mathlib.Core.List.{List, [], _∷_, _++_, append-assoc, append-nil}
+use mir.Syntax.{w64}
+use mir.Val.{Fits}
 use Prim.Native.Nat.{ℕ, zero, suc, _+_, _-_, _*_, _/_, _%_, _^_, _≤_, _<_}
 use native.Mathlib.Omega.{arith}
-use native.Mathlib.Nat.{mul-le-mul-right, mul-assoc, add-mul}
+use native.Mathlib.Nat.{le-trans, mul-le-mul, mul-le-mul-right, mul-assoc, add-mul}
 use native.Mathlib.Numerals.{add-one}
 use lib.ListN.{length, getD, take, drop, set, replicate, length-append, length-drop, List·getD-append}
 use lib.Seq.{length-take-le, take-suc, drop-cons, append-snoc, set-at, take-all, take-at, drop-length, ext-getD}
-use borrow.Rule.Slice.PartMut.{putMid, midOf}
+use borrow.Rule.Slice.PartMut.{putMid, midOf, mid-len}
 use Rattle.splits.specs.Problem.{total, tableOf}
 use Rattle.splits.specs.Splits.{below}
 use Rattle.search.specs.declared.state.State.{State}
@@ -24,28 +26,21 @@ use Rattle.files.proofs.Words.{bytes-length, bytes-append, word-read}
 use Rattle.files.proofs.Triangle.{rest, rest-total, total-mul, row, row-length, row-words, triangle-rows, triangle-length}
 use Rattle.files.proofs.Blocks.{content-length, content-at, headed-length, block-length, block-headed, block-check, blocks-length}
 use Rattle.files.proofs.Mirrors.{triangle-few, slots-few, part-at, part-long}
-use Rattle.files.proofs.Filled.{part-more, front-rest, rest-long, tables-few}
+use Rattle.files.proofs.Filled.{Part, part-fits, part-more, front-rest, rest-long, tables-few}
 
 -- ---- the words of the tables
 
-module _ (n d : ℕ) (s : Numbers n d) (t : List ℕ) (long : length t ≡ n * n * d) where
-  -- The rows passed.
-  abbrev pub rows : ℕ → List ℕ
-  rows i = each (row n d (tableOf n d t)) (below i)
+-- How many words the rows before i have.
+abbrev pub before : ℕ → ℕ → ℕ → ℕ
+before n d i = total i (λ h. rest n h * d)
 
-  -- How many words the rows before i have.
-  abbrev pub before : ℕ → ℕ
-  before i = total i (λ h. rest n h * d)
-
-  pub rows-length : (i : ℕ) → length (rows i) ≡ before i
-  rows-length i = each-length (row n d (tableOf n d t)) (λ h. rest n h * d) i (λ h l. row-length n d (tableOf n d t) h)
-
+module _ (n d : ℕ) where
   -- All have as many as the tables.
-  pub before-all : before n ≡ triangleWords n d
+  pub before-all : before n d n ≡ triangleWords n d
   before-all = total-mul n (rest n) d ∙ ap (λ (x : ℕ). x * d) (rest-total n)
 
-  -- It lies within the tables, in the words to write and in those to read.
-  pub before-within : (i : ℕ) → i < n → before i + (n - (i + 1)) * d ≤ triangleWords n d
+  -- Row i lies within the tables, in the words to write and in those to read.
+  pub before-within : (i : ℕ) → i < n → before n d i + (n - (i + 1)) * d ≤ triangleWords n d
   before-within i h = rw (add-one, ← before-all) (total-below n (λ h. rest n h * d) i h)
 
   pub from-within : (i : ℕ) → i < n → (i * n + i + 1) * d + (n - (i + 1)) * d ≤ n * n * d
@@ -56,28 +51,49 @@ module _ (n d : ℕ) (s : Numbers n d) (t : List ℕ) (long : length t ≡ n * n
           let sum : i * n + i + 1 + (n - (i + 1)) ≡ (i + 1) * n = omega arith in
           sym (add-mul (i * n + i + 1) (n - (i + 1)) d) ∙ ap (λ (x : ℕ). x * d) sum ∙ mul-assoc (i + 1) n d
 
-  -- All of it is few enough to work out.
-  pub record Few (i : ℕ) : Type 0 where
-    pub row-few : (n - (i + 1)) * d ≤ 16384
-    pub square-few : i * n ≤ 1024
-    pub to-few : (i * n + i + 1) * d + (n - (i + 1)) * d ≤ length t
-    pub tables-words : length t ≤ 16384
-    pub end-few : before i + (n - (i + 1)) * d ≤ triangleWords n d
-    pub words-few : triangleWords n d ≤ 7936
+  module _ (s : Numbers n d) (words : ℕ) where
+    -- It is a part of so many words.
+    pub row-part : (i : ℕ) → words ≡ n * n * d → i < n → Part ((i * n + i + 1) * d) ((n - (i + 1)) * d) words
+    row-part i e h =
+        let few = tables-few n d s .1 in
+        part-fits ((i * n + i + 1) * d) ((n - (i + 1)) * d) words (rw e (from-within i h)) (rw e (le-trans few (omega arith)))
 
-  pub rows-few : (i : ℕ) → i < n → Few i
-  rows-few i h =
-      let inside = from-within i h in
-      let all = tables-few n d s in
-      let square : i * n ≤ n * n = mul-le-mul-right n (omega arith) in
-      record {
-        row-few = omega (arith, all .1);
-        square-few = omega (arith, all .0);
-        to-few = rw long inside;
-        tables-words = rw long (all .1);
-        end-few = before-within i h;
-        words-few = triangle-few n d s;
-      }
+    pub out-part : (i at : ℕ) → i < n → at ≡ before n d i → words ≡ triangleWords n d → Part at ((n - (i + 1)) * d) words
+    out-part i at h e k =
+        let few = triangle-few n d s in
+        part-fits at ((n - (i + 1)) * d) words (rw (e, k) (before-within i h)) (rw k (le-trans few (omega arith)))
+
+  -- What is worked out to find it fits.
+  pub record Found (i : ℕ) : Type 0 where
+    pub row : Fits w64 ((n - (i + 1)) * d)
+    pub square : Fits w64 (i * n)
+    pub own : Fits w64 (i * n + i)
+    pub next : Fits w64 (i * n + i + 1)
+
+  pub row-found : (i : ℕ) → Numbers n d → i < n → Found i
+  row-found i s h =
+      let few = s .variables in
+      let less : i ≤ 32 = omega arith in
+      let more : n - (i + 1) ≤ 32 = omega arith in
+      let square : i * n ≤ 32 * 32 = mul-le-mul less few in
+      let row : (n - (i + 1)) * d ≤ 32 * 16 = mul-le-mul more (s .values) in
+      record { row = omega arith; square = omega arith; own = omega arith; next = omega arith }
+
+module _ (n d : ℕ) (s : Numbers n d) (t : List ℕ) (long : length t ≡ n * n * d) where
+  -- The rows passed.
+  abbrev pub rows : ℕ → List ℕ
+  rows i = each (row n d (tableOf n d t)) (below i)
+
+  pub rows-length : (i : ℕ) → length (rows i) ≡ before n d i
+  rows-length i = each-length (row n d (tableOf n d t)) (λ h. rest n h * d) i (λ h l. row-length n d (tableOf n d t) h)
+
+  -- As much of the one is lent as of the other.
+  pub row-lent : (i at : ℕ) (l : List ℕ) → i < n → at ≡ before n d i → length l ≡ triangleWords n d
+      → length (take (((i * n + i + 1) * d + (n - (i + 1)) * d) - (i * n + i + 1) * d) (drop ((i * n + i + 1) * d) t))
+      ≡ length (midOf at ((at + (n - (i + 1)) * d) - at) l)
+  row-lent i at l h e k =
+      let w : ℕ = (n - (i + 1)) * d in
+      part-long t ((i * n + i + 1) * d) w (row-part n d s (length t) i long h .within) ∙ sym (mid-len at (at + w) l (out-part n d s (length l) i at h e k .within) ∙ omega arith)
 
   -- What was copied is the row.
   row-copied : (i : ℕ) (ys : List ℕ) → i < n
@@ -86,7 +102,7 @@ module _ (n d : ℕ) (s : Numbers n d) (t : List ℕ) (long : length t ≡ n * n
       let from : ℕ = (i * n + i + 1) * d in
       let w : ℕ = (n - (i + 1)) * d in
       let same : w ≡ rest n i * d = rw add-one refl in
-      e ∙ sym (seq-is (λ k. getD t k 0) from w (take ((from + w) - from) (drop from t)) (part-long t from w (rw long (from-within i h))) (λ k l. sym (part-at t from w k l)))
+      e ∙ sym (seq-is (λ k. getD t k 0) from w (take ((from + w) - from) (drop from t)) (part-long t from w (rw long (from-within n d i h))) (λ k l. sym (part-at t from w k l)))
       ∙ ap (seq (λ k. getD t k 0) from) same ∙ sym (row-words n d t i)
 
   -- None is written yet.
@@ -94,7 +110,7 @@ module _ (n d : ℕ) (s : Numbers n d) (t : List ℕ) (long : length t ≡ n * n
   rows-none l = ap (λ (x : List ℕ). x ++ l) (sym (each-none (row n d (tableOf n d t))))
 
   -- One row more.
-  pub rows-more : (l m ys : List ℕ) (i at : ℕ) → i < n → at ≡ before i → m ≡ rows i ++ drop at l
+  pub rows-more : (l m ys : List ℕ) (i at : ℕ) → i < n → at ≡ before n d i → m ≡ rows i ++ drop at l
       → ys ≡ take (((i * n + i + 1) * d + (n - (i + 1)) * d) - (i * n + i + 1) * d) (drop ((i * n + i + 1) * d) t) → at + (n - (i + 1)) * d ≤ length l
       → putMid at ((at + (n - (i + 1)) * d) - at) m ys ≡ rows (i + 1) ++ drop (at + (n - (i + 1)) * d) l
   rows-more l m ys i at h is-at e y k =
@@ -103,13 +119,13 @@ module _ (n d : ℕ) (s : Numbers n d) (t : List ℕ) (long : length t ≡ n * n
       ∙ rw (add-one, each-more (row n d (tableOf n d t)) i) refl
 
   -- The memory stays as long.
-  pub rows-kept : (l m : List ℕ) (i at : ℕ) → at ≡ before i → m ≡ rows i ++ drop at l → at ≤ length l → length m ≡ length l
+  pub rows-kept : (l m : List ℕ) (i at : ℕ) → at ≡ before n d i → m ≡ rows i ++ drop at l → at ≤ length l → length m ≡ length l
   rows-kept l m i at is-at e h = ap length e ∙ length-append (rows i) (drop at l) ∙ omega (arith, rows-length i, length-drop at l)
 
   -- All rows are written.
-  pub rows-end : (l m : List ℕ) (i at : ℕ) → at ≡ before i → m ≡ rows i ++ drop at l → i ≡ n → length l ≡ triangleWords n d → m ≡ triangle n d (tableOf n d t)
+  pub rows-end : (l m : List ℕ) (i at : ℕ) → at ≡ before n d i → m ≡ rows i ++ drop at l → i ≡ n → length l ≡ triangleWords n d → m ≡ triangle n d (tableOf n d t)
   rows-end l m i at is-at e end size =
-      let last : at ≡ length l = is-at ∙ ap before end ∙ before-all ∙ sym size in
+      let last : at ≡ length l = is-at ∙ ap (before n d) end ∙ before-all n d ∙ sym size in
       e ∙ ap (λ (x : ℕ). rows i ++ drop x l) last ∙ ap (λ (x : List ℕ). rows i ++ x) (drop-length l) ∙ append-nil (rows i) ∙ ap rows end
       ∙ sym (triangle-rows n d (tableOf n d t))
 

@@ -3,18 +3,16 @@
 use borrow.Author.Needs.{needs}
 use mathlib.Core.Path.{_≡_, sym, _∙_}
 use mathlib.Core.List.{_++_}
-use Prim.Native.Nat.{_+_, _-_, _*_, _≤_}
+use Prim.Native.Nat.{_-_, _*_, _≤_}
 use native.Mathlib.Omega.{arith}
 use lib.ListN.{length, drop}
-use borrow.Rule.Slice.PartMut.{mid-len}
 use Rattle.splits.specs.Problem.{total, tableOf}
 use Rattle.splits.specs.Splits.{below}
 use Rattle.files.specs.Content.{each}
 use Rattle.files.specs.Reading.{triangleWords}
 use Rattle.files.proofs.Places.{total-none}
 use Rattle.files.proofs.Triangle.{rest, row}
-use Rattle.files.proofs.Mirrors.{part-long}
-use Rattle.files.proofs.Written.{rows-few, rows-none, rows-more, rows-kept, rows-end, before-next}
+use Rattle.files.proofs.Written.{row-part, out-part, row-found, row-lent, rows-none, rows-more, rows-kept, rows-end, before-next}
 use Rattle.files.proofs.content.put_masks.Statement.{statement}
 use Rattle.files.proofs.content.put_masks.Tie as tie
 
@@ -34,100 +32,57 @@ sub-row : tie.Need-sub-row Inv-loop μ-loop
 sub-row c = search needs
 
 mul-row : tie.Need-mul-row Inv-loop μ-loop
-mul-row c =
-    let a = c .before .before .before .before .args in
-    let pre = c .before .before .before .before .pre in
-    omega (arith, rows-few (a .n) (a .d) (pre .0) (a .tables .now) (pre .1 .0) (c .before .loop .i) (c .loop-test .taken))
+mul-row c = row-found _ _ _ (c .before .before .before .before .pre .0) (c .loop-test .taken) .row
 
 mul-from : tie.Need-mul-from Inv-loop μ-loop
-mul-from c =
-    let a = c .before .before .before .before .args in
-    let pre = c .before .before .before .before .pre in
-    omega (arith, rows-few (a .n) (a .d) (pre .0) (a .tables .now) (pre .1 .0) (c .before .loop .i) (c .loop-test .taken))
+mul-from c = row-found _ _ _ (c .before .before .before .before .pre .0) (c .loop-test .taken) .square
 
 add-from : tie.Need-add-from Inv-loop μ-loop
-add-from c =
-    let a = c .before .before .before .before .args in
-    let pre = c .before .before .before .before .pre in
-    omega (arith, rows-few (a .n) (a .d) (pre .0) (a .tables .now) (pre .1 .0) (c .before .loop .i) (c .loop-test .taken))
+add-from c = row-found _ _ _ (c .before .before .before .before .pre .0) (c .loop-test .taken) .own
 
 add-from-2 : tie.Need-add-from-2 Inv-loop μ-loop
-add-from-2 c =
-    let a = c .before .before .before .before .args in
-    let pre = c .before .before .before .before .pre in
-    omega (arith, rows-few (a .n) (a .d) (pre .0) (a .tables .now) (pre .1 .0) (c .before .loop .i) (c .loop-test .taken))
+add-from-2 c = row-found _ _ _ (c .before .before .before .before .pre .0) (c .loop-test .taken) .next
 
 mul-from-2 : tie.Need-mul-from-2 Inv-loop μ-loop
-mul-from-2 c =
-    let a = c .before .before .before .before .args in
-    let pre = c .before .before .before .before .pre in
-    omega (arith, rows-few (a .n) (a .d) (pre .0) (a .tables .now) (pre .1 .0) (c .before .loop .i) (c .loop-test .taken))
+mul-from-2 c = row-part _ _ (c .before .before .before .before .pre .0) _ _ (c .before .before .before .before .pre .1 .0) (c .loop-test .taken) .start
 
 add-to : tie.Need-add-to Inv-loop μ-loop
-add-to c =
-    let a = c .before .before .before .before .args in
-    let pre = c .before .before .before .before .pre in
-    omega (arith, rows-few (a .n) (a .d) (pre .0) (a .tables .now) (pre .1 .0) (c .before .loop .i) (c .loop-test .taken))
+add-to c = row-part _ _ (c .before .before .before .before .pre .0) _ _ (c .before .before .before .before .pre .1 .0) (c .loop-test .taken) .end
 
 add-end : tie.Need-add-end Inv-loop μ-loop
-add-end c =
-    let a = c .before .before .before .before .args in
-    let pre = c .before .before .before .before .pre in
-    omega (arith, rows-few (a .n) (a .d) (pre .0) (a .tables .now) (pre .1 .0) (c .before .loop .i) (c .loop-test .taken))
+add-end c = out-part _ _ (c .before .before .before .before .pre .0) _ _ _ (c .loop-test .taken) (c .before .loop .inv .1 .0) (c .before .loop .inv .1 .1 .0) .end
 
 mul-put-words : tie.Need-mul-put-words Inv-loop μ-loop
-mul-put-words c =
-    let a = c .before .before .before .before .args in
-    let pre = c .before .before .before .before .pre in
-    omega (arith, rows-few (a .n) (a .d) (pre .0) (a .tables .now) (pre .1 .0) (c .before .loop .i) (c .loop-test .taken))
+mul-put-words c = row-part _ _ (c .before .before .before .before .pre .0) _ _ (c .before .before .before .before .pre .1 .0) (c .loop-test .taken) .bytes
 
 sub-put-words : tie.Need-sub-put-words Inv-loop μ-loop
-sub-put-words c = search needs
+sub-put-words c = row-part _ _ (c .before .before .before .before .pre .0) _ _ (c .before .before .before .before .pre .1 .0) (c .loop-test .taken) .rises
 
 part-put-words-start : tie.Need-part-put-words-start Inv-loop μ-loop
-part-put-words-start c =
-    let a = c .before .before .before .before .args in
-    let pre = c .before .before .before .before .pre in
-    omega (arith, rows-few (a .n) (a .d) (pre .0) (a .tables .now) (pre .1 .0) (c .before .loop .i) (c .loop-test .taken))
+part-put-words-start c = row-part _ _ (c .before .before .before .before .pre .0) _ _ (c .before .before .before .before .pre .1 .0) (c .loop-test .taken) .rises
 
 part-put-words-end : tie.Need-part-put-words-end Inv-loop μ-loop
-part-put-words-end c =
-    let a = c .before .before .before .before .args in
-    let pre = c .before .before .before .before .pre in
-    omega (arith, rows-few (a .n) (a .d) (pre .0) (a .tables .now) (pre .1 .0) (c .before .loop .i) (c .loop-test .taken))
+part-put-words-end c = row-part _ _ (c .before .before .before .before .pre .0) _ _ (c .before .before .before .before .pre .1 .0) (c .loop-test .taken) .within
 
 mul-put-words-2 : tie.Need-mul-put-words-2 Inv-loop μ-loop
-mul-put-words-2 c =
-    let a = c .before .before .before .before .before .args in
-    let pre = c .before .before .before .before .before .pre in
-    omega (arith, rows-few (a .n) (a .d) (pre .0) (a .tables .now) (pre .1 .0) (c .before .before .loop .i) (c .before .loop-test .taken))
+mul-put-words-2 c = out-part _ _ (c .before .before .before .before .before .pre .0) _ _ _ (c .before .loop-test .taken) (c .before .before .loop .inv .1 .0) (c .before .before .loop .inv .1 .1 .0) .bytes
 
 sub-put-words-2 : tie.Need-sub-put-words-2 Inv-loop μ-loop
-sub-put-words-2 c =
-    let a = c .before .before .before .before .before .args in
-    let pre = c .before .before .before .before .before .pre in
-    omega (arith, rows-few (a .n) (a .d) (pre .0) (a .tables .now) (pre .1 .0) (c .before .before .loop .i) (c .before .loop-test .taken))
+sub-put-words-2 c = out-part _ _ (c .before .before .before .before .before .pre .0) _ _ _ (c .before .loop-test .taken) (c .before .before .loop .inv .1 .0) (c .before .before .loop .inv .1 .1 .0) .rises
 
 part-put-words-start-2 : tie.Need-part-put-words-start-2 Inv-loop μ-loop
-part-put-words-start-2 c =
-    let a = c .before .before .before .before .before .args in
-    let pre = c .before .before .before .before .before .pre in
-    omega (arith, rows-few (a .n) (a .d) (pre .0) (a .tables .now) (pre .1 .0) (c .before .before .loop .i) (c .before .loop-test .taken))
+part-put-words-start-2 c = out-part _ _ (c .before .before .before .before .before .pre .0) _ _ _ (c .before .loop-test .taken) (c .before .before .loop .inv .1 .0) (c .before .before .loop .inv .1 .1 .0) .rises
 
 part-put-words-end-2 : tie.Need-part-put-words-end-2 Inv-loop μ-loop
-part-put-words-end-2 c =
-    let a = c .before .before .before .before .before .args in
-    let pre = c .before .before .before .before .before .pre in
-    omega (arith, rows-few (a .n) (a .d) (pre .0) (a .tables .now) (pre .1 .0) (c .before .before .loop .i) (c .before .loop-test .taken))
+part-put-words-end-2 c = out-part _ _ (c .before .before .before .before .before .pre .0) _ _ _ (c .before .loop-test .taken) (c .before .before .loop .inv .1 .0) (c .before .before .loop .inv .1 .1 .0) .within
 
 put-words-requires : tie.Need-put-words-requires Inv-loop μ-loop
 put-words-requires c κs =
+    let pre = c .before .before .before .before .before .before .pre in
     let a = c .before .before .before .before .before .before .args in
-    let i = c .before .before .before .loop .i in
-    let at = c .before .before .before .loop .at in
-    let w = (a .n - (i + 1)) * a .d in
-    let few = rows-few (a .n) (a .d) (c .before .before .before .before .before .before .pre .0) (a .tables .now) (c .before .before .before .before .before .before .pre .1 .0) i (c .before .before .loop-test .taken) in
-    part-long (a .tables .now) ((i * a .n + i + 1) * a .d) w (omega (arith, few)) ∙ sym (mid-len at (at + w) (c .before .before .before .loop .words) (omega (arith, few)) ∙ omega arith)
+    let taken = c .before .before .loop-test .taken in
+    let inv = c .before .before .before .loop .inv in
+    row-lent (a .n) (a .d) (pre .0) (a .tables .now) (pre .1 .0) _ _ (c .before .before .before .loop .words) taken (inv .1 .0) (inv .1 .1 .0)
 
 add-i : tie.Need-add-i Inv-loop μ-loop
 add-i c = search needs
@@ -141,10 +96,10 @@ loop-again c =
     let pre = c .before .before .before .before .before .before .before .before .before .pre in
     let i = c .before .before .before .before .before .before .loop .i in
     let inv = c .before .before .before .before .before .before .loop .inv in
-    let few = rows-few (a .n) (a .d) (pre .0) (a .tables .now) (pre .1 .0) i (c .before .before .before .before .before .loop-test .taken) in
-    let next = rows-more (a .n) (a .d) (pre .0) (a .tables .now) (pre .1 .0) _ _ _ i _ (c .before .before .before .before .before .loop-test .taken) (inv .1 .0) (inv .1 .1 .1) (c .before .before .put-words .ensures) (omega (arith, few)) in
+    let within = out-part (a .n) (a .d) (pre .0) _ i _ (c .before .before .before .before .before .loop-test .taken) (inv .1 .0) (pre .1 .1) .within in
+    let next = rows-more (a .n) (a .d) (pre .0) (a .tables .now) (pre .1 .0) _ _ _ i _ (c .before .before .before .before .before .loop-test .taken) (inv .1 .0) (inv .1 .1 .1) (c .before .before .put-words .ensures) within in
     let up = before-next (a .n) (a .d) i _ (inv .1 .0) in
-    (omega arith, (up, (rows-kept (a .n) (a .d) (pre .0) (a .tables .now) (pre .1 .0) _ _ _ _ up next (omega (arith, few)) ∙ pre .1 .1, next)))
+    (omega arith, (up, (rows-kept (a .n) (a .d) (pre .0) (a .tables .now) (pre .1 .0) _ _ _ _ up next within ∙ pre .1 .1, next)))
 
 same-length : tie.Need-same-length Inv-loop μ-loop
 same-length c = c .before .loop .inv .1 .1 .0 ∙ sym (c .before .before .before .before .pre .1 .1)

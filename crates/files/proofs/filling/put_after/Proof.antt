@@ -5,7 +5,7 @@ use mathlib.Core.Path.{refl, sym}
 use native.Mathlib.Omega.{arith}
 use lib.Seq.{length-take-le}
 use Rattle.files.proofs.Mirrors.{after-within}
-use Rattle.files.proofs.Filled.{part-within, after-rest, after-made, own-fits}
+use Rattle.files.proofs.Filled.{after-part, after-fits, after-rest, after-made, own-fits}
 use Rattle.files.proofs.filling.put_after.Statement.{statement}
 use Rattle.files.proofs.filling.put_after.Tie as tie
 
@@ -16,37 +16,22 @@ pairs-before-requires : tie.Need-pairs-before-requires
 pairs-before-requires c κs = search needs
 
 mul-from : tie.Need-mul-from
-mul-from c =
-    let a = c .before .before .before .args in
-    let pre = c .before .before .before .pre in
-    omega (arith, after-within (a .n) (a .d) (a .i) _ (pre .0) (pre .1 .0) (c .pairs-before .ensures .0), part-within (a .i) (a .n) (a .d) (pre .1 .0))
+mul-from c = after-fits _ _ _ _ (c .before .before .before .pre .0) (c .before .before .before .pre .1 .0) (c .pairs-before .ensures .0) .pairs
 
 add-from-2 : tie.Need-add-from-2
-add-from-2 c =
-    let a = c .before .before .before .args in
-    let pre = c .before .before .before .pre in
-    omega (arith, after-within (a .n) (a .d) (a .i) _ (pre .0) (pre .1 .0) (c .pairs-before .ensures .0), part-within (a .i) (a .n) (a .d) (pre .1 .0))
+add-from-2 c = after-part _ _ _ _ _ (c .before .before .before .pre .0) (c .before .before .before .pre .1 .0) (c .pairs-before .ensures .0) (c .before .before .before .pre .1 .1 .0) .start
 
 add-to : tie.Need-add-to
-add-to c =
-    let a = c .before .before .before .args in
-    let pre = c .before .before .before .pre in
-    omega (arith, after-within (a .n) (a .d) (a .i) _ (pre .0) (pre .1 .0) (c .pairs-before .ensures .0), part-within (a .i) (a .n) (a .d) (pre .1 .0))
+add-to c = search needs
 
 sub-to : tie.Need-sub-to
 sub-to c = search needs
 
 mul-to : tie.Need-mul-to
-mul-to c =
-    let a = c .before .before .before .args in
-    let pre = c .before .before .before .pre in
-    omega (arith, after-within (a .n) (a .d) (a .i) _ (pre .0) (pre .1 .0) (c .pairs-before .ensures .0), part-within (a .i) (a .n) (a .d) (pre .1 .0))
+mul-to c = after-fits _ _ _ _ (c .before .before .before .pre .0) (c .before .before .before .pre .1 .0) (c .pairs-before .ensures .0) .row
 
 add-to-2 : tie.Need-add-to-2
-add-to-2 c =
-    let a = c .before .before .before .args in
-    let pre = c .before .before .before .pre in
-    omega (arith, after-within (a .n) (a .d) (a .i) _ (pre .0) (pre .1 .0) (c .pairs-before .ensures .0), part-within (a .i) (a .n) (a .d) (pre .1 .0))
+add-to-2 c = after-part _ _ _ _ _ (c .before .before .before .pre .0) (c .before .before .before .pre .1 .0) (c .pairs-before .ensures .0) (c .before .before .before .pre .1 .1 .0) .end
 
 slice-relend-prefix-put-zeros : tie.Need-slice-relend-prefix-put-zeros
 slice-relend-prefix-put-zeros c = own-fits (c .before .before .before .args .masks .now) _ _ _ (c .before .before .before .pre .1 .1 .1) (c .before .before .before .pre .1 .0)
@@ -58,27 +43,19 @@ put-zeros-requires : tie.Need-put-zeros-requires
 put-zeros-requires c κs = search needs
 
 mul-put-words : tie.Need-mul-put-words
-mul-put-words c =
-    let a = c .before .before .before .before .before .before .before .args in
-    let pre = c .before .before .before .before .before .before .before .pre in
-    omega (arith, after-within (a .n) (a .d) (a .i) _ (pre .0) (pre .1 .0) (c .before .before .before .before .pairs-before .ensures .0), part-within (a .i) (a .n) (a .d) (pre .1 .0))
+mul-put-words c = after-part _ _ _ _ _ (c .before .before .before .before .before .before .before .pre .0) (c .before .before .before .before .before .before .before .pre .1 .0) (c .before .before .before .before .pairs-before .ensures .0) (c .before .before .before .before .before .before .before .pre .1 .1 .0) .bytes
 
 sub-put-words : tie.Need-sub-put-words
-sub-put-words c = search needs
+sub-put-words c = after-part _ _ _ _ _ (c .before .before .before .before .before .before .before .pre .0) (c .before .before .before .before .before .before .before .pre .1 .0) (c .before .before .before .before .pairs-before .ensures .0) (c .before .before .before .before .before .before .before .pre .1 .1 .0) .rises
 
 part-put-words-start : tie.Need-part-put-words-start
-part-put-words-start c = search needs
+part-put-words-start c = after-part _ _ _ _ _ (c .before .before .before .before .before .before .before .pre .0) (c .before .before .before .before .before .before .before .pre .1 .0) (c .before .before .before .before .pairs-before .ensures .0) (c .before .before .before .before .before .before .before .pre .1 .1 .0) .rises
 
 part-put-words-end : tie.Need-part-put-words-end
-part-put-words-end c =
-    let a = c .before .before .before .before .before .before .before .args in
-    let pre = c .before .before .before .before .before .before .before .pre in
-    omega (arith, after-within (a .n) (a .d) (a .i) _ (pre .0) (pre .1 .0) (c .before .before .before .before .pairs-before .ensures .0), part-within (a .i) (a .n) (a .d) (pre .1 .0))
+part-put-words-end c = after-part _ _ _ _ _ (c .before .before .before .before .before .before .before .pre .0) (c .before .before .before .before .before .before .before .pre .1 .0) (c .before .before .before .before .pairs-before .ensures .0) (c .before .before .before .before .before .before .before .pre .1 .1 .0) .within
 
 mul-put-words-2 : tie.Need-mul-put-words-2
-mul-put-words-2 c =
-    let a = c .before .before .before .before .before .before .before .before .args in
-    omega (arith, own-fits (a .masks .now) (a .n) (a .d) (a .i) (c .before .before .before .before .before .before .before .before .pre .1 .1 .1) (c .before .before .before .before .before .before .before .before .pre .1 .0), c .before .before .before .before .before .before .before .before .pre .0 .values)
+mul-put-words-2 c = let few = c .before .before .before .before .before .before .before .before .pre .0 .values in omega (arith, few)
 
 sub-put-words-2 : tie.Need-sub-put-words-2
 sub-put-words-2 c =

@@ -3,12 +3,12 @@
 use borrow.Author.Needs.{needs}
 use mathlib.Core.Path.{_≡_}
 use mathlib.Core.List.{_++_}
-use Prim.Native.Nat.{_+_, _-_, _*_, _≤_}
+use Prim.Native.Nat.{_-_, _*_, _≤_}
 use native.Mathlib.Omega.{arith}
 use lib.ListN.{length, drop}
 use Rattle.files.specs.Work.Said.{rowPart}
 use Rattle.files.proofs.Mirrors.{pair-turned}
-use Rattle.files.proofs.Filled.{row-none, row-more, row-kept, row-end, part-within, own-few, turned-fits}
+use Rattle.files.proofs.Filled.{row-none, row-more, row-kept, row-end, words-part, own-part, turned-fits}
 use Rattle.files.proofs.filling.put_before.Statement.{statement}
 use Rattle.files.proofs.filling.put_before.Tie as tie
 
@@ -25,67 +25,42 @@ place-requires : tie.Need-place-requires Inv-loop μ-loop
 place-requires c κs = (c .before .before .before .before .pre .0, (c .loop-test .taken, c .before .before .before .before .pre .1 .0))
 
 add-to : tie.Need-add-to Inv-loop μ-loop
-add-to c = search needs
+add-to c = words-part _ _ _ (c .before .before .before .before .before .pre .1 .1 .0) (c .place .ensures .1) .end
 
 mul-at : tie.Need-mul-at Inv-loop μ-loop
-mul-at c =
-    let a = c .before .before .before .before .before .args in
-    let pre = c .before .before .before .before .before .pre in
-    let few = own-few (a .n) (a .d) (a .i) (pre .0) (pre .1 .0) in
-    omega (arith, part-within (c .before .before .loop .j) (a .i) (a .d) (c .before .loop-test .taken), few .0, few .1)
+mul-at c = own-part _ _ _ _ _ (c .before .before .before .before .before .pre .0) (c .before .before .before .before .before .pre .1 .0) (c .before .loop-test .taken) (c .before .before .loop .inv .1 .0) .start
 
 add-end : tie.Need-add-end Inv-loop μ-loop
-add-end c =
-    let a = c .before .before .before .before .before .args in
-    let pre = c .before .before .before .before .before .pre in
-    let few = own-few (a .n) (a .d) (a .i) (pre .0) (pre .1 .0) in
-    omega (arith, part-within (c .before .before .loop .j) (a .i) (a .d) (c .before .loop-test .taken), few .0, few .1)
+add-end c = own-part _ _ _ _ _ (c .before .before .before .before .before .pre .0) (c .before .before .before .before .before .pre .1 .0) (c .before .loop-test .taken) (c .before .before .loop .inv .1 .0) .end
 
 mul-put-turned : tie.Need-mul-put-turned Inv-loop μ-loop
-mul-put-turned c = search needs
+mul-put-turned c = words-part _ _ _ (c .before .before .before .before .before .pre .1 .1 .0) (c .place .ensures .1) .bytes
 
 sub-put-turned : tie.Need-sub-put-turned Inv-loop μ-loop
-sub-put-turned c = search needs
+sub-put-turned c = words-part _ _ _ (c .before .before .before .before .before .pre .1 .1 .0) (c .place .ensures .1) .rises
 
 part-put-turned-start : tie.Need-part-put-turned-start Inv-loop μ-loop
-part-put-turned-start c = search needs
+part-put-turned-start c = words-part _ _ _ (c .before .before .before .before .before .pre .1 .1 .0) (c .place .ensures .1) .rises
 
 part-put-turned-end : tie.Need-part-put-turned-end Inv-loop μ-loop
-part-put-turned-end c = search needs
+part-put-turned-end c = words-part _ _ _ (c .before .before .before .before .before .pre .1 .1 .0) (c .place .ensures .1) .within
 
 mul-put-turned-2 : tie.Need-mul-put-turned-2 Inv-loop μ-loop
-mul-put-turned-2 c =
-    let a = c .before .before .before .before .before .before .args in
-    let pre = c .before .before .before .before .before .before .pre in
-    let few = own-few (a .n) (a .d) (a .i) (pre .0) (pre .1 .0) in
-    omega (arith, part-within (c .before .before .before .loop .j) (a .i) (a .d) (c .before .before .loop-test .taken), few .0, few .1)
+mul-put-turned-2 c = own-part _ _ _ _ _ (c .before .before .before .before .before .before .pre .0) (c .before .before .before .before .before .before .pre .1 .0) (c .before .before .loop-test .taken) (c .before .before .before .loop .inv .1 .0) .bytes
 
 sub-put-turned-2 : tie.Need-sub-put-turned-2 Inv-loop μ-loop
-sub-put-turned-2 c =
-    let a = c .before .before .before .before .before .before .args in
-    let pre = c .before .before .before .before .before .before .pre in
-    let few = own-few (a .n) (a .d) (a .i) (pre .0) (pre .1 .0) in
-    omega (arith, part-within (c .before .before .before .loop .j) (a .i) (a .d) (c .before .before .loop-test .taken), few .0, few .1)
+sub-put-turned-2 c = own-part _ _ _ _ _ (c .before .before .before .before .before .before .pre .0) (c .before .before .before .before .before .before .pre .1 .0) (c .before .before .loop-test .taken) (c .before .before .before .loop .inv .1 .0) .rises
 
 part-put-turned-start-2 : tie.Need-part-put-turned-start-2 Inv-loop μ-loop
-part-put-turned-start-2 c =
-    let a = c .before .before .before .before .before .before .args in
-    let pre = c .before .before .before .before .before .before .pre in
-    let few = own-few (a .n) (a .d) (a .i) (pre .0) (pre .1 .0) in
-    omega (arith, part-within (c .before .before .before .loop .j) (a .i) (a .d) (c .before .before .loop-test .taken), few .0, few .1)
+part-put-turned-start-2 c = own-part _ _ _ _ _ (c .before .before .before .before .before .before .pre .0) (c .before .before .before .before .before .before .pre .1 .0) (c .before .before .loop-test .taken) (c .before .before .before .loop .inv .1 .0) .rises
 
 part-put-turned-end-2 : tie.Need-part-put-turned-end-2 Inv-loop μ-loop
-part-put-turned-end-2 c =
-    let a = c .before .before .before .before .before .before .args in
-    let pre = c .before .before .before .before .before .before .pre in
-    let few = own-few (a .n) (a .d) (a .i) (pre .0) (pre .1 .0) in
-    omega (arith, part-within (c .before .before .before .loop .j) (a .i) (a .d) (c .before .before .loop-test .taken), few .0, few .1)
+part-put-turned-end-2 c = own-part _ _ _ _ _ (c .before .before .before .before .before .before .pre .0) (c .before .before .before .before .before .before .pre .1 .0) (c .before .before .loop-test .taken) (c .before .before .before .loop .inv .1 .0) .within
 
 put-turned-requires : tie.Need-put-turned-requires Inv-loop μ-loop
 put-turned-requires c κs =
-    let a = c .before .before .before .before .before .before .before .args in
     let pre = c .before .before .before .before .before .before .before .pre in
-    let within : c .before .before .before .before .loop .j * a .d + a .d ≤ length (c .before .before .before .before .loop .masks) = omega (arith, part-within (c .before .before .before .before .loop .j) (a .i) (a .d) (c .before .before .before .loop-test .taken)) in
+    let within = own-part _ _ _ _ _ (c .before .before .before .before .before .before .before .pre .0) (c .before .before .before .before .before .before .before .pre .1 .0) (c .before .before .before .loop-test .taken) (c .before .before .before .before .loop .inv .1 .0) .within in
     turned-fits _ _ _ _ _ (pre .1 .1 .0) (c .before .before .place .ensures .1) (pre .0 .values) within
 
 add-j : tie.Need-add-j Inv-loop μ-loop
@@ -96,10 +71,9 @@ loop-less c = search needs
 
 loop-again : tie.Need-loop-again Inv-loop μ-loop
 loop-again c =
-    let a = c .before .before .before .before .before .before .before .before .before .before .args in
     let pre = c .before .before .before .before .before .before .before .before .before .before .pre in
     let inv = c .before .before .before .before .before .before .before .loop .inv in
-    let within : c .before .before .before .before .before .before .before .loop .j * a .d + a .d ≤ length (a .masks .now) = omega (arith, part-within (c .before .before .before .before .before .before .before .loop .j) (a .i) (a .d) (c .before .before .before .before .before .before .loop-test .taken)) in
+    let within = own-part _ _ _ _ _ (pre .0) (pre .1 .0) (c .before .before .before .before .before .before .loop-test .taken) (pre .1 .1 .1) .within in
     let pair = pair-turned _ _ _ _ _ _ (c .before .before .before .before .before .place .ensures .0) _ (c .before .before .before .before .before .place .ensures .1) (pre .1 .1 .0) (c .before .before .before .before .before .before .loop-test .taken) (c .before .before .put-turned .ensures) in
     let next = row-more _ _ _ _ _ _ _ _ (inv .1 .1) pair within in
     (omega arith, (row-kept _ _ _ _ _ _ _ _ next (omega arith) (pre .1 .1 .1), next))

@@ -9,7 +9,7 @@ use lib.ListN.{length, drop}
 use borrow.Rule.Slice.PartMut.{mid-len}
 use Rattle.files.specs.Reading.{contentFrom}
 use Rattle.files.proofs.Mirrors.{part-long}
-use Rattle.files.proofs.Filled.{blocks-none, blocks-more, blocks-kept, blocks-end}
+use Rattle.files.proofs.Filled.{block-part, blocks-none, blocks-more, blocks-kept, blocks-end}
 use Rattle.files.proofs.filling.put_blocks.Statement.{statement}
 use Rattle.files.proofs.filling.put_blocks.Tie as tie
 
@@ -23,37 +23,37 @@ loop-holds : tie.Need-loop-holds Inv-loop μ-loop
 loop-holds c = (omega arith, (omega arith, blocks-none _ _))
 
 mul-at : tie.Need-mul-at Inv-loop μ-loop
-mul-at c = search needs
+mul-at c = block-part _ _ _ _ (c .loop-test .taken) (c .before .before .before .before .pre .1 .0) (omega arith) (c .before .before .before .before .pre .0) .start
 
 add-end : tie.Need-add-end Inv-loop μ-loop
-add-end c = search needs
+add-end c = block-part _ _ _ _ (c .loop-test .taken) (c .before .before .before .before .pre .1 .0) (omega arith) (c .before .before .before .before .pre .0) .end
 
 mul-to : tie.Need-mul-to Inv-loop μ-loop
-mul-to c = search needs
+mul-to c = block-part _ _ _ _ (c .loop-test .taken) (c .before .before .before .before .pre .1 .0) (omega arith) (c .before .loop .inv .1 .0) .start
 
 add-last : tie.Need-add-last Inv-loop μ-loop
-add-last c = search needs
+add-last c = block-part _ _ _ _ (c .loop-test .taken) (c .before .before .before .before .pre .1 .0) (omega arith) (c .before .loop .inv .1 .0) .end
 
 sub-put-block : tie.Need-sub-put-block Inv-loop μ-loop
-sub-put-block c = search needs
+sub-put-block c = block-part _ _ _ _ (c .loop-test .taken) (c .before .before .before .before .pre .1 .0) (omega arith) (c .before .before .before .before .pre .0) .rises
 
 part-put-block-start : tie.Need-part-put-block-start Inv-loop μ-loop
-part-put-block-start c = search needs
+part-put-block-start c = block-part _ _ _ _ (c .loop-test .taken) (c .before .before .before .before .pre .1 .0) (omega arith) (c .before .before .before .before .pre .0) .rises
 
 part-put-block-end : tie.Need-part-put-block-end Inv-loop μ-loop
-part-put-block-end c = search needs
+part-put-block-end c = block-part _ _ _ _ (c .loop-test .taken) (c .before .before .before .before .pre .1 .0) (omega arith) (c .before .before .before .before .pre .0) .within
 
 mul-put-block : tie.Need-mul-put-block Inv-loop μ-loop
-mul-put-block c = search needs
+mul-put-block c = block-part _ _ _ _ (c .before .loop-test .taken) (c .before .before .before .before .before .pre .1 .0) (omega arith) (c .before .before .loop .inv .1 .0) .bytes
 
 sub-put-block-2 : tie.Need-sub-put-block-2 Inv-loop μ-loop
-sub-put-block-2 c = search needs
+sub-put-block-2 c = block-part _ _ _ _ (c .before .loop-test .taken) (c .before .before .before .before .before .pre .1 .0) (omega arith) (c .before .before .loop .inv .1 .0) .rises
 
 part-put-block-start-2 : tie.Need-part-put-block-start-2 Inv-loop μ-loop
-part-put-block-start-2 c = search needs
+part-put-block-start-2 c = block-part _ _ _ _ (c .before .loop-test .taken) (c .before .before .before .before .before .pre .1 .0) (omega arith) (c .before .before .loop .inv .1 .0) .rises
 
 part-put-block-end-2 : tie.Need-part-put-block-end-2 Inv-loop μ-loop
-part-put-block-end-2 c = search needs
+part-put-block-end-2 c = block-part _ _ _ _ (c .before .loop-test .taken) (c .before .before .before .before .before .pre .1 .0) (omega arith) (c .before .before .loop .inv .1 .0) .within
 
 put-block-requires : tie.Need-put-block-requires Inv-loop μ-loop
 put-block-requires c κs =

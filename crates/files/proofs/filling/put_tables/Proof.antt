@@ -8,7 +8,7 @@ use mathlib.Core.List.{_++_}
 use lib.ListN.{length, drop}
 use borrow.Rule.Slice.PartMut.{mid-len}
 use Rattle.files.specs.Work.Said.{tablePart}
-use Rattle.files.proofs.Filled.{table-none, table-more, table-kept, table-end, part-within, row-few, rows-few}
+use Rattle.files.proofs.Filled.{table-none, table-more, table-kept, table-end, table-part, row-width}
 use Rattle.files.proofs.filling.put_tables.Statement.{statement}
 use Rattle.files.proofs.filling.put_tables.Tie as tie
 
@@ -22,50 +22,34 @@ loop-holds : tie.Need-loop-holds Inv-loop μ-loop
 loop-holds c = (omega arith, (omega arith, table-none _ _ _ _))
 
 mul-at : tie.Need-mul-at Inv-loop μ-loop
-mul-at c =
-    let a = c .before .before .before .before .args in
-    omega (arith, part-within (c .before .loop .i) (a .n) (a .n * a .d) (c .loop-test .taken), row-few (a .n) (a .d) (c .before .before .before .before .pre .0), rows-few (a .n) (a .d) (c .before .loop .i) (c .before .before .before .before .pre .0) (omega arith))
+mul-at c = row-width _ _ (c .before .before .before .before .pre .0)
 
 mul-at-2 : tie.Need-mul-at-2 Inv-loop μ-loop
-mul-at-2 c =
-    let a = c .before .before .before .before .args in
-    omega (arith, part-within (c .before .loop .i) (a .n) (a .n * a .d) (c .loop-test .taken), row-few (a .n) (a .d) (c .before .before .before .before .pre .0), rows-few (a .n) (a .d) (c .before .loop .i) (c .before .before .before .before .pre .0) (omega arith))
+mul-at-2 c = table-part _ _ _ _ (c .before .before .before .before .pre .0) (c .loop-test .taken) (c .before .loop .inv .1 .0) .start
 
 mul-end : tie.Need-mul-end Inv-loop μ-loop
-mul-end c =
-    let a = c .before .before .before .before .args in
-    omega (arith, part-within (c .before .loop .i) (a .n) (a .n * a .d) (c .loop-test .taken), row-few (a .n) (a .d) (c .before .before .before .before .pre .0), rows-few (a .n) (a .d) (c .before .loop .i) (c .before .before .before .before .pre .0) (omega arith))
+mul-end c = row-width _ _ (c .before .before .before .before .pre .0)
 
 add-end : tie.Need-add-end Inv-loop μ-loop
-add-end c =
-    let a = c .before .before .before .before .args in
-    omega (arith, part-within (c .before .loop .i) (a .n) (a .n * a .d) (c .loop-test .taken), row-few (a .n) (a .d) (c .before .before .before .before .pre .0), rows-few (a .n) (a .d) (c .before .loop .i) (c .before .before .before .before .pre .0) (omega arith))
+add-end c = table-part _ _ _ _ (c .before .before .before .before .pre .0) (c .loop-test .taken) (c .before .loop .inv .1 .0) .end
 
 mul-put-row : tie.Need-mul-put-row Inv-loop μ-loop
-mul-put-row c =
-    let a = c .before .before .before .before .args in
-    omega (arith, part-within (c .before .loop .i) (a .n) (a .n * a .d) (c .loop-test .taken), row-few (a .n) (a .d) (c .before .before .before .before .pre .0), rows-few (a .n) (a .d) (c .before .loop .i) (c .before .before .before .before .pre .0) (omega arith))
+mul-put-row c = table-part _ _ _ _ (c .before .before .before .before .pre .0) (c .loop-test .taken) (c .before .loop .inv .1 .0) .bytes
 
 sub-put-row : tie.Need-sub-put-row Inv-loop μ-loop
-sub-put-row c =
-    let a = c .before .before .before .before .args in
-    omega (arith, part-within (c .before .loop .i) (a .n) (a .n * a .d) (c .loop-test .taken), row-few (a .n) (a .d) (c .before .before .before .before .pre .0), rows-few (a .n) (a .d) (c .before .loop .i) (c .before .before .before .before .pre .0) (omega arith))
+sub-put-row c = table-part _ _ _ _ (c .before .before .before .before .pre .0) (c .loop-test .taken) (c .before .loop .inv .1 .0) .rises
 
 part-put-row-start : tie.Need-part-put-row-start Inv-loop μ-loop
-part-put-row-start c =
-    let a = c .before .before .before .before .args in
-    omega (arith, part-within (c .before .loop .i) (a .n) (a .n * a .d) (c .loop-test .taken), row-few (a .n) (a .d) (c .before .before .before .before .pre .0), rows-few (a .n) (a .d) (c .before .loop .i) (c .before .before .before .before .pre .0) (omega arith))
+part-put-row-start c = table-part _ _ _ _ (c .before .before .before .before .pre .0) (c .loop-test .taken) (c .before .loop .inv .1 .0) .rises
 
 part-put-row-end : tie.Need-part-put-row-end Inv-loop μ-loop
-part-put-row-end c =
-    let a = c .before .before .before .before .args in
-    omega (arith, part-within (c .before .loop .i) (a .n) (a .n * a .d) (c .loop-test .taken), row-few (a .n) (a .d) (c .before .before .before .before .pre .0), rows-few (a .n) (a .d) (c .before .loop .i) (c .before .before .before .before .pre .0) (omega arith))
+part-put-row-end c = table-part _ _ _ _ (c .before .before .before .before .pre .0) (c .loop-test .taken) (c .before .loop .inv .1 .0) .within
 
 put-row-requires : tie.Need-put-row-requires Inv-loop μ-loop
 put-row-requires c κs =
     let a = c .before .before .before .before .before .args in
     let at = c .before .before .loop .i * (a .n * a .d) in
-    let within : at + a .n * a .d ≤ length (c .before .before .loop .masks) = omega (arith, part-within (c .before .before .loop .i) (a .n) (a .n * a .d) (c .before .loop-test .taken)) in
+    let within = table-part _ _ _ _ (c .before .before .before .before .before .pre .0) (c .before .loop-test .taken) (c .before .before .loop .inv .1 .0) .within in
     (c .before .before .before .before .before .pre .0, (c .before .loop-test .taken, (c .before .before .before .before .before .pre .1 .0, mid-len at (at + a .n * a .d) (c .before .before .loop .masks) within ∙ omega arith)))
 
 add-i : tie.Need-add-i Inv-loop μ-loop
@@ -76,9 +60,8 @@ loop-less c = search needs
 
 loop-again : tie.Need-loop-again Inv-loop μ-loop
 loop-again c =
-    let a = c .before .before .before .before .before .before .before .before .args in
     let inv = c .before .before .before .before .before .loop .inv in
-    let within : c .before .before .before .before .before .loop .i * (a .n * a .d) + a .n * a .d ≤ length (a .masks .now) = omega (arith, part-within (c .before .before .before .before .before .loop .i) (a .n) (a .n * a .d) (c .before .before .before .before .loop-test .taken)) in
+    let within = table-part _ _ _ _ (c .before .before .before .before .before .before .before .before .pre .0) (c .before .before .before .before .loop-test .taken) (c .before .before .before .before .before .before .before .before .pre .1 .1) .within in
     let next = table-more _ _ _ _ _ _ _ (inv .1 .1) (c .before .before .put-row .ensures) within in
     (omega arith, (table-kept _ _ _ _ _ _ next (omega arith) (c .before .before .before .before .before .before .before .before .pre .1 .1), next))
 
