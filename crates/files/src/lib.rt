@@ -8,7 +8,7 @@ use search::state::Steps;
 ghost use mathlib.Core.Path.{_≡_};
 ghost use lib.ListN.{length};
 ghost use Rattle.files.specs.Calls.{Saves, Loads};
-ghost use Rattle.files.specs.Work.Said.{Refused, Read, Ready};
+ghost use Rattle.files.specs.Work.Said.{Refused, Read};
 
 mod block;
 pub mod checksum;
@@ -113,29 +113,28 @@ fn load_content(
     let masks = n * n * d;
     let mut all = room_for_tables();
     filling::put_tables(words, n, d, &mut all[..masks]);
-    load_search(file, words, &all[..masks], domains, tables, agenda)
-}
-
-// The same once the words fit, with the tables in full.
-fn load_search(
-    file: &[u8],
-    words: &[u16],
-    all: &[u16],
-    domains: &mut [u16],
-    tables: &mut [u16],
-    agenda: &mut [u16],
-) -> Loaded
-    requires { ⌜ Ready (now file) (now words) (now all) ⌝ }
-    ensures { λ r. ⌜ Loads (now (file .entry)) (now (domains .entry)) (now (domains .exit)) (now (tables .entry)) (now (tables .exit)) (now (agenda .entry)) (now (agenda .exit)) r ⌝ }
-{
-    let refusal = reading::refusal(file, words, all, domains.len(), tables.len(), agenda.len());
+    let refusal = reading::refusal(
+        file,
+        words,
+        &all[..masks],
+        domains.len(),
+        tables.len(),
+        agenda.len(),
+    );
     if refusal != 0 {
         return refuse(refusal);
     }
-    let n = said::n(file);
-    let d = said::d(file);
     let state = said::state(file);
-    filling::put_search(words, all, n, d, state.subproblems, domains, tables, agenda);
+    filling::put_search(
+        words,
+        &all[..masks],
+        n,
+        d,
+        state.subproblems,
+        domains,
+        tables,
+        agenda,
+    );
     Loaded {
         refusal: 0,
         n,

@@ -1,4 +1,4 @@
--- `load_content` meets its contract.
+-- `load_content` meets its contract: refused, nothing is changed; else the search is written.
 -- Assumes nothing.
 use borrow.Author.Needs.{needs}
 use mathlib.Core.Path.{refl, sym}
@@ -6,7 +6,7 @@ use native.Mathlib.Omega.{arith}
 use lib.Seq.{length-take-le}
 use Rattle.files.proofs.Refused.{sized-found, sized-refused, sized-numbers, refused-15}
 use Rattle.files.proofs.Filled.{tables-few, made-fits, made-count}
-use Rattle.files.proofs.LoadOutcomes.{load-refused, made-ready}
+use Rattle.files.proofs.LoadOutcomes.{load-refused, made-ready, load-lent, load-accepted}
 use Rattle.files.proofs.load_content.Statement.{statement}
 use Rattle.files.proofs.load_content.Tie as tie
 
@@ -46,23 +46,41 @@ put-tables-requires c κs = let s = sized-numbers (c .before .before .before .be
 array-share-prefix-all : tie.Need-array-share-prefix-all
 array-share-prefix-all c = made-fits _ _ _ _ _ (c .before .put-tables .ensures)
 
-slice-aggregate-load-search : tie.Need-slice-aggregate-load-search
-slice-aggregate-load-search c = made-count _ _ _ _ _ (c .before .before .put-tables .ensures)
+slice-aggregate-refusal : tie.Need-slice-aggregate-refusal
+slice-aggregate-refusal c = made-count _ _ _ _ _ (c .before .before .put-tables .ensures)
 
-load-search-requires : tie.Need-load-search-requires
-load-search-requires c κs = made-ready _ _ _ _ _ _ _ (c .before .before .before .before .before .before .before .before .before .before .before .before .before .before .before .before .before .pre) (sized-found _ _ (c .before .before .before .before .before .before .before .before .before .before .before .refusal-of-numbers .ensures) (c .before .before .before .before .before .before .before .before .before .before .if1 .left)) (c .before .before .before .before .before .before .before .before .before .n .ensures) (c .before .before .before .before .before .before .before .before .d .ensures) refl (c .before .before .before .before .before .put-tables .ensures)
+refusal-requires : tie.Need-refusal-requires
+refusal-requires c κs = made-ready _ _ _ _ _ _ _ (c .before .before .before .before .before .before .before .before .before .before .before .before .before .before .pre) (sized-found _ _ (c .before .before .before .before .before .before .before .before .refusal-of-numbers .ensures) (c .before .before .before .before .before .before .before .if1 .left)) (c .before .before .before .before .before .before .n .ensures) (c .before .before .before .before .before .d .ensures) refl (c .before .before .put-tables .ensures)
 
-same-length : tie.Need-same-length
-same-length c = c .before .before .before .before .before .before .load-search .kept .1 .1 .1 .0
-
-same-length-2 : tie.Need-same-length-2
-same-length-2 c = c .before .before .before .before .before .before .load-search .kept .1 .1 .1 .1 .0
-
-same-length-3 : tie.Need-same-length-3
-same-length-3 c = c .before .before .before .before .before .before .load-search .kept .1 .1 .1 .1 .1 .0
+refuse-requires-2 : tie.Need-refuse-requires-2
+refuse-requires-2 c κs = search needs
 
 returns-2 : tie.Need-returns-2
-returns-2 c = c .before .before .before .before .before .before .load-search .ensures
+returns-2 c = load-refused _ _ _ _ _ (c .before .before .refusal .ensures) (c .before .if2 .taken) _ (c .refuse2 .ensures)
+
+state-requires : tie.Need-state-requires
+state-requires c κs = search needs
+
+array-share-prefix-all-2 : tie.Need-array-share-prefix-all-2
+array-share-prefix-all-2 c = made-fits _ _ _ _ _ (c .before .before .before .before .before .put-tables .ensures)
+
+slice-aggregate-put-search : tie.Need-slice-aggregate-put-search
+slice-aggregate-put-search c = made-count _ _ _ _ _ (c .before .before .before .before .before .before .put-tables .ensures)
+
+put-search-requires : tie.Need-put-search-requires
+put-search-requires c κs = load-lent _ _ _ _ _ (c .before .before .before .before .before .before .refusal .ensures) (c .before .before .before .before .before .if2 .left) _ _ _ (c .before .before .before .before .before .before .before .before .before .before .before .before .before .n .ensures) (c .before .before .before .before .before .before .before .before .before .before .before .before .d .ensures) (c .before .before .before .before .state .ensures .subproblems) _ _ (made-ready _ _ _ _ _ _ _ (c .before .before .before .before .before .before .before .before .before .before .before .before .before .before .before .before .before .before .before .before .before .pre) (sized-found _ _ (c .before .before .before .before .before .before .before .before .before .before .before .before .before .before .before .refusal-of-numbers .ensures) (c .before .before .before .before .before .before .before .before .before .before .before .before .before .before .if1 .left)) (c .before .before .before .before .before .before .before .before .before .before .before .before .before .n .ensures) (c .before .before .before .before .before .before .before .before .before .before .before .before .d .ensures) refl (c .before .before .before .before .before .before .before .before .before .put-tables .ensures))
+
+same-length : tie.Need-same-length
+same-length c = c .before .before .before .before .before .before .put-search .kept .1 .1 .1 .1 .1 .0
+
+same-length-2 : tie.Need-same-length-2
+same-length-2 c = c .before .before .before .before .before .before .put-search .kept .1 .1 .1 .1 .1 .1 .0
+
+same-length-3 : tie.Need-same-length-3
+same-length-3 c = search needs
+
+returns-3 : tie.Need-returns-3
+returns-3 c = load-accepted _ _ _ _ _ (c .before .before .before .before .before .before .before .before .before .before .before .before .before .refusal .ensures) (c .before .before .before .before .before .before .before .before .before .before .before .before .if2 .left) _ _ _ (c .before .before .before .before .before .before .before .before .before .before .before .before .before .before .before .before .before .before .before .before .n .ensures) (c .before .before .before .before .before .before .before .before .before .before .before .before .before .before .before .before .before .before .before .d .ensures) (c .before .before .before .before .before .before .before .before .before .before .before .state .ensures .subproblems) (λ i. omega (arith, c .before .before .before .before .before .before .before .before .before .before .before .before .before .before .before .before .before .before .before .before .before .before .before .before .before .before .before .shared-slice-known .given i)) _ _ (made-ready _ _ _ _ _ _ _ (c .before .before .before .before .before .before .before .before .before .before .before .before .before .before .before .before .before .before .before .before .before .before .before .before .before .before .before .before .pre) (sized-found _ _ (c .before .before .before .before .before .before .before .before .before .before .before .before .before .before .before .before .before .before .before .before .before .before .refusal-of-numbers .ensures) (c .before .before .before .before .before .before .before .before .before .before .before .before .before .before .before .before .before .before .before .before .before .if1 .left)) (c .before .before .before .before .before .before .before .before .before .before .before .before .before .before .before .before .before .before .before .before .n .ensures) (c .before .before .before .before .before .before .before .before .before .before .before .before .before .before .before .before .before .before .before .d .ensures) refl (c .before .before .before .before .before .before .before .before .before .before .before .before .before .before .before .before .put-tables .ensures)) _ _ _ _ refl refl refl (c .before .before .before .before .before .before .before .before .before .before .before .state .ensures) (c .before .before .before .before .before .before .put-search .ensures .0) (c .before .before .before .before .before .before .put-search .ensures .1 .0) (c .before .before .before .before .before .before .put-search .ensures .1 .1)
 
 pub load-content-spec : {M : Type 1} → statement M
 load-content-spec =
@@ -80,9 +98,15 @@ load-content-spec =
     slice-aggregate-put-tables
     put-tables-requires
     array-share-prefix-all
-    slice-aggregate-load-search
-    load-search-requires
+    slice-aggregate-refusal
+    refusal-requires
+    refuse-requires-2
+    returns-2
+    state-requires
+    array-share-prefix-all-2
+    slice-aggregate-put-search
+    put-search-requires
     same-length
     same-length-2
     same-length-3
-    returns-2)
+    returns-3)
