@@ -20,7 +20,7 @@ use Rattle.files.specs.Content.{each, triangle, contentOf}
 use Rattle.files.specs.Reading.{blockWord, headOf, triangleWords}
 use Rattle.files.specs.Work.Said.{Numbers, agendaStart, wordCount}
 use Rattle.files.specs.Calls.{handedContent}
-use Rattle.files.specs.Work.Saved.{Savable, header, Tail, tail, blockPart, filePart}
+use Rattle.files.specs.Work.Saved.{Savable, header, blockPart, filePart}
 use Rattle.files.proofs.Lists.{map-is, each-length, each-none, each-more, total-below, seq, seq-is, padded-at}
 use Rattle.files.proofs.Words.{bytes-length, bytes-append, word-read}
 use Rattle.files.proofs.Triangle.{rest, rest-total, total-mul, row, row-length, row-words, triangle-rows, triangle-length}
@@ -136,118 +136,103 @@ before-next n d i at e = rw (e, add-one) refl
 
 -- ---- the words of the content
 
--- There is room for the subproblems after the masks.
-pub tail-rest : (n d : ℕ) (tables agenda : List ℕ) (m w : ℕ) (l ys : List ℕ) → Tail n d tables agenda m (length l) → w ≡ triangleWords n d
-    → ys ≡ triangle n d (tableOf n d tables)
-    → length (take (m * (n + 2)) agenda) ≤ length (midOf w (length (ys ++ drop w l) - w) (ys ++ drop w l))
-tail-rest n d tables agenda m w l ys fits is-w y =
-    let size : length ys ≡ w = ap length y ∙ triangle-length n d (tableOf n d tables) ∙ sym is-w in
-    let room : w ≤ length l = omega (arith, fits .room) in
-    rw (rest-long l ys w size room, length-take-le (m * (n + 2)) agenda (fits .agenda-words)) (omega (arith, fits .room))
-
--- The masks, then the subproblems with zeros after them.
-pub tail-made : (n d : ℕ) (tables agenda : List ℕ) (m w : ℕ) (l ys zs : List ℕ) → Tail n d tables agenda m (length l) → w ≡ triangleWords n d
-    → ys ≡ triangle n d (tableOf n d tables)
-    → zs ≡ take (m * (n + 2)) agenda ++ replicate (length (midOf w (length (ys ++ drop w l) - w) (ys ++ drop w l)) - length (take (m * (n + 2)) agenda)) 0
-    → putMid w (length (ys ++ drop w l) - w) (ys ++ drop w l) zs ≡ tail n d tables agenda m (length l)
-unfolding tail
-tail-made n d tables agenda m w l ys zs fits is-w y z =
-    let size : length ys ≡ w = ap length y ∙ triangle-length n d (tableOf n d tables) ∙ sym is-w in
-    let room : w ≤ length l = omega (arith, fits .room) in
-    front-rest l ys zs w size room
-    ∙ rw (y, z, rest-long l ys w size room, length-take-le (m * (n + 2)) agenda (fits .agenda-words), is-w) refl
-
--- There is room for these after the domains.
-pub lists-rest : (n d : ℕ) (domains tables agenda : List ℕ) (m : ℕ) (l ys : List ℕ) → length domains ≡ n → n ≤ length l → Tail n d tables agenda m (length l - n)
-    → ys ≡ domains → Tail n d tables agenda m (length (midOf n (length (ys ++ drop n l) - n) (ys ++ drop n l)))
-lists-rest n d domains tables agenda m l ys e h fits y = rw (rest-long l ys n (ap length y ∙ e) h) fits
-
--- The domains, then these.
-pub lists-made : (n d : ℕ) (domains tables agenda : List ℕ) (m : ℕ) (l ys zs : List ℕ) → length domains ≡ n → n ≤ length l → ys ≡ domains
-    → zs ≡ tail n d tables agenda m (length (midOf n (length (ys ++ drop n l) - n) (ys ++ drop n l)))
-    → putMid n (length (ys ++ drop n l) - n) (ys ++ drop n l) zs ≡ domains ++ tail n d tables agenda m (length l - n)
-lists-made n d domains tables agenda m l ys zs e h y z =
-    let size : length ys ≡ n = ap length y ∙ e in
-    front-rest l ys zs n size h ∙ rw (y, z, rest-long l ys n size h) refl
-
 -- Nine words come first.
 pub header-long : (n d : ℕ) (s : State) (l : List ℕ) → l ≡ header n d s → length l ≡ 9
 unfolding header
 header-long n d s l e = ap length e
 
--- There is room for the rest after them.
-pub content-rest : (n d : ℕ) (domains tables agenda : List ℕ) (s : State) → Savable n d domains tables agenda s → (l ys : List ℕ) → length l ≡ 25553 → ys ≡ header n d s
-    → (length domains ≡ n) × ((n ≤ length (midOf 9 (length (ys ++ drop 9 l) - 9) (ys ++ drop 9 l)))
-    × Tail n d tables agenda (s .subproblems) (length (midOf 9 (length (ys ++ drop 9 l) - 9) (ys ++ drop 9 l)) - n))
-content-rest n d domains tables agenda s hands l ys long y =
-    let room : 9 ≤ length l = omega arith in
-    let few = slots-few n (s .subproblems) 512 (hands .numbers .variables) (hands .few) (omega arith) in
-    rw (rest-long l ys 9 (header-long n d s ys y) room) (
-      hands .domains-words,
-      (
-        omega (arith, hands .numbers .variables),
-        record {
-          numbers = hands .numbers;
-          tables-words = hands .tables-words;
-          few = hands .few;
-          agenda-words = hands .agenda-words;
-          room = omega (arith, triangle-few n d (hands .numbers), few, hands .numbers .variables);
-        },
-      ),
-    )
-
-module _ (n d : ℕ) (domains tables agenda : List ℕ) (s : State) (hands : Savable n d domains tables agenda s) (small : (i : ℕ) → getD agenda i 0 < 2 ^ 16) where
-  used : ℕ
-  used = s .subproblems * (n + 2)
-
-  -- The masks for i below j.
-  masks : List ℕ
+-- The parts of a content, written one after the other into the words l.
+module _ (n d : ℕ) (domains tables agenda : List ℕ) (s : State) (hands : Savable n d domains tables agenda s) where
+  -- The masks for i below j, and how many words the used slots are.
+  abbrev masks : List ℕ
   masks = triangle n d (tableOf n d tables)
 
-  -- The content is its four parts, one after the other.
-  pub parts : handedContent n d domains tables agenda s ≡ header n d s ++ domains ++ triangle n d (tableOf n d tables) ++ take (s .subproblems * (n + 2)) agenda
-  unfolding header contentOf
-  parts =
-      rw (length-stackOf n agenda (s .subproblems), stack-of-words n agenda (s .subproblems) (hands .agenda-words) small) refl
+  abbrev used : ℕ
+  used = s .subproblems * (n + 2)
+
+  abbrev pub front : List ℕ
+  front = header n d s ++ domains ++ masks
 
   header-length : length (header n d s) ≡ 9
   header-length = header-long n d s (header n d s) refl
 
-  -- The masks are so many words.
-  masks-length : length masks ≡ triangleWords n d
-  unfolding masks
-  masks-length = triangle-length n d (tableOf n d tables)
-
-  -- The used slots are so many words.
   used-length : length (take used agenda) ≡ used
-  unfolding used
-  used-length = length-take-le (s .subproblems * (n + 2)) agenda (hands .agenda-words)
+  used-length = length-take-le used agenda (hands .agenda-words)
 
   -- The first two parts.
   two : length (header n d s ++ domains) ≡ 9 + n
   two = length-append (header n d s) domains ∙ omega (arith, header-length, hands .domains-words)
 
   -- The first three.
-  three : length (header n d s ++ domains ++ masks) ≡ 9 + n + triangleWords n d
-  three = length-append (header n d s ++ domains) masks ∙ omega (arith, two, masks-length)
+  three : length front ≡ 9 + n + triangleWords n d
+  three = length-append (header n d s ++ domains) masks ∙ omega (arith, two, triangle-length n d (tableOf n d tables))
 
-  -- How many words they are.
-  pub handed-length : length (handedContent n d domains tables agenda s) ≡ 9 + n + triangleWords n d + s .subproblems * (n + 2)
-  unfolding used masks
-  handed-length = ap length parts ∙ length-append (header n d s ++ domains ++ masks) (take used agenda) ∙ omega (arith, three, used-length)
+  -- All of them fit.
+  pub few : 9 + n + triangleWords n d + used ≤ 25385
+  few =
+      let slots = slots-few n (s .subproblems) 512 (hands .numbers .variables) (hands .few) (omega arith) in
+      omega (arith, triangle-few n d (hands .numbers), slots, hands .numbers .variables)
 
-  -- The header, then the rest: the content, and zeros after it.
-  pub content-made : (l ys zs : List ℕ) → length l ≡ 25553 → ys ≡ header n d s
-      → zs ≡ domains ++ tail n d tables agenda (s .subproblems) (length (midOf 9 (length (ys ++ drop 9 l) - 9) (ys ++ drop 9 l)) - n)
-      → putMid 9 (length (ys ++ drop 9 l) - 9) (ys ++ drop 9 l) zs
-      ≡ handedContent n d domains tables agenda s ++ replicate (25553 - wordCount n d (s .subproblems)) 0
-  unfolding tail wordCount agendaStart
-  content-made l ys zs long y z =
-      let size : length ys ≡ 9 = ap length y ∙ header-length in
-      let room : 9 ≤ length l = omega arith in
-      let left : ℕ = 25553 - (9 + n + triangleWords n d + s .subproblems * (n + 2)) in
-      let same : length l - 9 - n - triangleWords n d - s .subproblems * (n + 2) ≡ left = omega arith in
-      front-rest l ys zs 9 size room ∙ rw (y, z, rest-long l ys 9 size room, same, parts) (simp append-assoc)
+  module _ (l : List ℕ) (long : length l ≡ 25553) (from : ℕ) (is-from : from ≡ agendaStart n d) where
+    start : from ≡ 9 + n + triangleWords n d
+    unfolding agendaStart
+    start = is-from
+
+    module _ (ys ds : List ℕ) (y : ys ≡ header n d s) (e : ds ≡ domains) where
+      -- The header and the domains.
+      second : putMid 9 ((9 + n) - 9) (ys ++ drop 9 l) ds ≡ (header n d s ++ domains) ++ drop (9 + n) l
+      second =
+          part-more (header n d s) domains l (ys ++ drop 9 l) ds 9 n (ap (λ (x : List ℕ). x ++ drop 9 l) y) header-length e (hands .domains-words)
+          (omega (arith, few))
+
+      -- There is room for the masks.
+      pub masks-room : length (midOf (9 + n) (from - (9 + n)) (putMid 9 ((9 + n) - 9) (ys ++ drop 9 l) ds)) ≡ triangleWords n d
+      masks-room =
+          let whole : List ℕ = (header n d s ++ domains) ++ drop (9 + n) l in
+          let size : length whole ≡ 25553 = length-append (header n d s ++ domains) (drop (9 + n) l) ∙ omega (arith, two, length-drop (9 + n) l, few) in
+          ap (λ (m : List ℕ). length (midOf (9 + n) (from - (9 + n)) m)) second ∙ mid-len (9 + n) from whole (omega (arith, start, few)) ∙ omega (arith, start)
+
+      -- They come next.
+      pub third : (ms : List ℕ) → ms ≡ masks → putMid (9 + n) (from - (9 + n)) (putMid 9 ((9 + n) - 9) (ys ++ drop 9 l) ds) ms ≡ front ++ drop from l
+      third ms t =
+          rw start (part-more (header n d s ++ domains) masks l (putMid 9 ((9 + n) - 9) (ys ++ drop 9 l) ds) ms (9 + n) (triangleWords n d) second two t
+          (triangle-length n d (tableOf n d tables)) (omega (arith, few)))
+
+    module _ (m : List ℕ) (e : m ≡ front ++ drop from l) where
+      after : length (midOf from (length m - from) m) ≡ 25553 - from
+      after =
+          ap (λ (x : List ℕ). length (midOf from (length x - from) x)) e ∙ rest-long l front from (three ∙ sym start) (omega (arith, start, few))
+          ∙ ap (λ (k : ℕ). k - from) long
+
+      -- There is room for the used slots.
+      pub slots-room : length (take used agenda) ≤ length (midOf from (length m - from) m)
+      slots-room = rw (after, used-length) (omega (arith, start, few))
+
+      -- They come last, and zeros after them.
+      pub slots-made : (zs : List ℕ) → zs ≡ take used agenda ++ replicate (length (midOf from (length m - from) m) - length (take used agenda)) 0
+          → putMid from (length m - from) m zs ≡ front ++ take used agenda ++ replicate (25553 - (9 + n + triangleWords n d + used)) 0
+      slots-made zs z =
+          let left : 25553 - from - used ≡ 25553 - (9 + n + triangleWords n d + used) = omega (arith, start) in
+          ap (λ (x : List ℕ). putMid from (length x - from) x zs) e ∙ front-rest l front zs from (three ∙ sym start) (omega (arith, start, few))
+          ∙ ap (λ (x : List ℕ). front ++ x) (z ∙ rw (after, used-length, left) refl)
+          ∙ sym (append-assoc front (take used agenda) (replicate (25553 - (9 + n + triangleWords n d + used)) 0))
+
+  module _ (small : (i : ℕ) → getD agenda i 0 < 2 ^ 16) where
+    -- The content is its four parts, one after the other.
+    pub parts : handedContent n d domains tables agenda s ≡ front ++ take used agenda
+    unfolding header contentOf
+    parts =
+        rw (length-stackOf n agenda (s .subproblems), stack-of-words n agenda (s .subproblems) (hands .agenda-words) small) refl
+
+    -- How many words they are.
+    pub handed-length : length (handedContent n d domains tables agenda s) ≡ 9 + n + triangleWords n d + s .subproblems * (n + 2)
+    handed-length = ap length parts ∙ length-append front (take used agenda) ∙ omega (arith, three, used-length)
+
+    -- What is written is the content, and zeros after it.
+    pub content-made : (w : List ℕ) → w ≡ front ++ take used agenda ++ replicate (25553 - (9 + n + triangleWords n d + used)) 0
+        → w ≡ handedContent n d domains tables agenda s ++ replicate (25553 - wordCount n d (s .subproblems)) 0
+    unfolding wordCount agendaStart
+    content-made w e = e ∙ ap (λ (x : List ℕ). x ++ replicate (25553 - (9 + n + triangleWords n d + used)) 0) (sym parts)
 
 -- ---- the words of a block
 

@@ -11,7 +11,7 @@ ghost use Rattle.files.specs.Content.{triangle};
 ghost use Rattle.files.specs.Reading.{triangleWords};
 ghost use Rattle.files.specs.Calls.{handedContent};
 ghost use Rattle.files.specs.Work.Said.{Numbers, agendaStart, wordCount};
-ghost use Rattle.files.specs.Work.Saved.{Savable, header, Tail, tail};
+ghost use Rattle.files.specs.Work.Saved.{Savable, header};
 
 // How many words of a content come before its agenda.
 pub(crate) fn agenda_from(n: usize, d: usize) -> usize
@@ -67,41 +67,6 @@ fn put_masks(n: usize, d: usize, tables: &[u16], words: &mut [u16])
     }
 }
 
-// The masks, the subproblems and zeros.
-fn put_tail(
-    n: usize,
-    d: usize,
-    tables: &[u16],
-    agenda: &[u16],
-    subproblems: usize,
-    words: &mut [u16],
-)
-    requires { ⌜ Tail n d (now tables) (now agenda) subproblems (length (now words)) ⌝ }
-    ensures { λ r. ⌜ now (words .exit) ≡ tail n d (now (tables .entry)) (now (agenda .entry)) subproblems (length (now (words .entry))) ⌝ }
-{
-    let masks = said::triangle_words(n, d);
-    let used = subproblems * (n + 2);
-    put_masks(n, d, tables, &mut words[..masks]);
-    copying::put_padded(&agenda[..used], &mut words[masks..]);
-}
-
-// The domains before them.
-fn put_lists(
-    n: usize,
-    d: usize,
-    domains: &[u16],
-    tables: &[u16],
-    agenda: &[u16],
-    subproblems: usize,
-    words: &mut [u16],
-)
-    requires { ⌜ (length (now domains) ≡ n) × ((n ≤ length (now words)) × Tail n d (now tables) (now agenda) subproblems (length (now words) - n)) ⌝ }
-    ensures { λ r. ⌜ now (words .exit) ≡ now (domains .entry) ++ tail n d (now (tables .entry)) (now (agenda .entry)) subproblems (length (now (words .entry)) - n) ⌝ }
-{
-    copying::put_words(domains, &mut words[..n]);
-    put_tail(n, d, tables, agenda, subproblems, &mut words[n..]);
-}
-
 // The whole content, and zeros after it.
 pub(crate) fn put(
     n: usize,
@@ -116,14 +81,11 @@ pub(crate) fn put(
     ensures { λ r. ⌜ now (words .exit) ≡ handedContent n d (now (domains .entry)) (now (tables .entry)) (now (agenda .entry)) state ++ replicate (25553 - wordCount n d (state .subproblems)) 0 ⌝ }
 {
     let first = header(n, d, state);
+    let last = 9 + n;
+    let from = agenda_from(n, d);
+    let used = state.subproblems * (n + 2);
     copying::put_words(&first[..9], &mut words[..9]);
-    put_lists(
-        n,
-        d,
-        domains,
-        tables,
-        agenda,
-        state.subproblems,
-        &mut words[9..],
-    );
+    copying::put_words(domains, &mut words[9..last]);
+    put_masks(n, d, tables, &mut words[last..from]);
+    copying::put_padded(&agenda[..used], &mut words[from..]);
 }

@@ -1,13 +1,11 @@
 -- What save hands on from function to function: the search that passed its first checks, and the part of its file that is written.
 use mathlib.Core.Path.{_≡_}
 use mathlib.Core.List.{List, [], _∷_, _++_}
-use Prim.Native.Nat.{ℕ, _+_, _-_, _*_, _/_, _%_, _^_, _≤_}
-use lib.ListN.{length, take, drop, replicate}
-use Rattle.splits.specs.Problem.{tableOf}
+use Prim.Native.Nat.{ℕ, _+_, _*_, _/_, _%_, _^_, _≤_}
+use lib.ListN.{length, take, drop}
 use Rattle.search.specs.declared.state.State.{State}
 use Rattle.files.specs.Blocks.{fileBytes, blockWords, firstBlocks}
-use Rattle.files.specs.Content.{firstWord, triangle}
-use Rattle.files.specs.Reading.{triangleWords}
+use Rattle.files.specs.Content.{firstWord}
 use Rattle.files.specs.Work.Said.{Numbers}
 
 -- What the first checks leave.
@@ -23,19 +21,6 @@ unfoldable pub header : ℕ → ℕ → State → List ℕ
 header n d s =
     firstWord n ∷ d ∷ s .counts .steps .0 / 65536 ∷ s .counts .steps .0 % 65536 ∷ s .counts .checks .0 / 2 ^ 48
     ∷ s .counts .checks .0 / 2 ^ 32 % 65536 ∷ s .counts .checks .0 / 65536 % 65536 ∷ s .counts .checks .0 % 65536 ∷ s .subproblems ∷ []
-
--- What comes after the domains in so many words: the masks, the words of the subproblems, zeros; and that there is room for it.
-unfoldable pub tail : ℕ → ℕ → List ℕ → List ℕ → ℕ → ℕ → List ℕ
-tail n d tables agenda subproblems words =
-    triangle n d (tableOf n d tables)
-    ++ (take (subproblems * (n + 2)) agenda ++ replicate (words - triangleWords n d - subproblems * (n + 2)) 0)
-
-pub record Tail (n d : ℕ) (tables agenda : List ℕ) (subproblems words : ℕ) : Type 0 where
-  pub numbers : Numbers n d
-  pub tables-words : length tables ≡ n * n * d
-  pub few : subproblems ≤ 512
-  pub agenda-words : subproblems * (n + 2) ≤ length agenda
-  pub room : triangleWords n d + subproblems * (n + 2) ≤ words
 
 -- A block of which the first k words are written.
 unfoldable pub blockPart : ℕ → List ℕ → ℕ → ℕ → List ℕ → List ℕ

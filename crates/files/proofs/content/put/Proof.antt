@@ -1,15 +1,29 @@
--- `content::put` meets its contract.
+-- `content::put` meets its contract: its parts are written one after the other.
 -- Assumes nothing.
 use borrow.Author.Needs.{needs}
 use mathlib.Core.Path.{sym, _∙_}
 use native.Mathlib.Omega.{arith}
 use lib.ListN.{length-take}
-use Rattle.files.proofs.Written.{header-long, content-made, content-rest}
+use lib.Seq.{length-take-le}
+use Rattle.files.specs.Work.Said.{agendaStart}
+use Rattle.files.proofs.Written.{header-long, masks-room, third, slots-room, slots-made, content-made}
 use Rattle.files.proofs.content.put.Statement.{statement}
 use Rattle.files.proofs.content.put.Tie as tie
 
 header-requires : tie.Need-header-requires
-header-requires c κs = (c .before .before .before .before .pre .0 .numbers, c .before .before .before .before .pre .0 .few)
+header-requires c κs = search needs
+
+add-last : tie.Need-add-last
+add-last c = search needs
+
+agenda-from-requires : tie.Need-agenda-from-requires
+agenda-from-requires c κs = search needs
+
+add-used : tie.Need-add-used
+add-used c = search needs
+
+mul-used : tie.Need-mul-used
+mul-used c = search needs
 
 slice-aggregate-put-words : tie.Need-slice-aggregate-put-words
 slice-aggregate-put-words c = search needs
@@ -21,38 +35,88 @@ slice-aggregate-put-words-2 : tie.Need-slice-aggregate-put-words-2
 slice-aggregate-put-words-2 c = simp length-take (omega arith)
 
 put-words-requires : tie.Need-put-words-requires
-put-words-requires c κs = header-long _ _ _ _ (c .before .before .header .ensures) ∙ sym (simp length-take (omega arith))
+put-words-requires c κs = header-long _ _ _ _ (c .before .before .before .before .header .ensures) ∙ sym (simp length-take (omega arith))
 
-sub-put-lists : tie.Need-sub-put-lists
-sub-put-lists c = search needs
+sub-put-words : tie.Need-sub-put-words
+sub-put-words c = search needs
 
-part-put-lists-start : tie.Need-part-put-lists-start
-part-put-lists-start c = search needs
+part-put-words-start : tie.Need-part-put-words-start
+part-put-words-start c = search needs
 
-part-put-lists-end : tie.Need-part-put-lists-end
-part-put-lists-end c = search needs
+part-put-words-end : tie.Need-part-put-words-end
+part-put-words-end c = search needs
 
-put-lists-requires : tie.Need-put-lists-requires
-put-lists-requires c κs = content-rest _ _ _ _ _ _ (c .before .before .before .before .before .before .before .before .before .before .before .pre .0) (c .before .before .before .before .before .before .before .before .before .before .before .args .words .now) _ (c .before .before .before .before .before .before .before .before .before .before .before .pre .1) (c .before .before .before .put-words .ensures ∙ c .before .before .before .before .before .before .header .ensures)
+put-words-requires-2 : tie.Need-put-words-requires-2
+put-words-requires-2 c κs = search needs
+
+mul-put-masks : tie.Need-mul-put-masks
+mul-put-masks c = search needs
+
+sub-put-masks : tie.Need-sub-put-masks
+unfolding agendaStart
+sub-put-masks c = let e = c .before .before .before .before .before .before .before .before .before .before .agenda-from .ensures .0 in omega (arith, e)
+
+part-put-masks-start : tie.Need-part-put-masks-start
+unfolding agendaStart
+part-put-masks-start c = let e = c .before .before .before .before .before .before .before .before .before .before .agenda-from .ensures .0 in omega (arith, e)
+
+part-put-masks-end : tie.Need-part-put-masks-end
+part-put-masks-end c = search needs
+
+put-masks-requires : tie.Need-put-masks-requires
+put-masks-requires c κs = (c .before .before .before .before .before .before .before .before .before .before .before .before .before .before .before .before .before .pre .0 .numbers, (c .before .before .before .before .before .before .before .before .before .before .before .before .before .before .before .before .before .pre .0 .tables-words, masks-room _ _ _ _ _ _ (c .before .before .before .before .before .before .before .before .before .before .before .before .before .before .before .before .before .pre .0) (c .before .before .before .before .before .before .before .before .before .before .before .before .before .before .before .before .before .args .words .now) (c .before .before .before .before .before .before .before .before .before .before .before .before .before .before .before .before .before .pre .1) _ (c .before .before .before .before .before .before .before .before .before .before .before .agenda-from .ensures .0) _ _ (c .before .before .before .before .before .before .before .put-words .ensures ∙ c .before .before .before .before .before .before .before .before .before .before .before .before .header .ensures) (c .before .before .before .put-words2 .ensures)))
+
+slice-aggregate-put-padded : tie.Need-slice-aggregate-put-padded
+slice-aggregate-put-padded c = sym (length-take-le _ _ (c .before .before .before .before .before .before .before .before .before .before .before .before .before .before .before .before .before .before .before .before .before .pre .0 .agenda-words))
+
+mul-put-padded : tie.Need-mul-put-padded
+mul-put-padded c = search needs
+
+sub-put-padded : tie.Need-sub-put-padded
+sub-put-padded c = search needs
+
+part-put-padded-start : tie.Need-part-put-padded-start
+part-put-padded-start c = search needs
+
+part-put-padded-end : tie.Need-part-put-padded-end
+part-put-padded-end c = search needs
+
+put-padded-requires : tie.Need-put-padded-requires
+put-padded-requires c κs = slots-room _ _ _ _ _ _ (c .before .before .before .before .before .before .before .before .before .before .before .before .before .before .before .before .before .before .before .before .before .before .pre .0) (c .before .before .before .before .before .before .before .before .before .before .before .before .before .before .before .before .before .before .before .before .before .before .args .words .now) (c .before .before .before .before .before .before .before .before .before .before .before .before .before .before .before .before .before .before .before .before .before .before .pre .1) _ (c .before .before .before .before .before .before .before .before .before .before .before .before .before .before .before .before .agenda-from .ensures .0) _ (third _ _ _ _ _ _ (c .before .before .before .before .before .before .before .before .before .before .before .before .before .before .before .before .before .before .before .before .before .before .pre .0) (c .before .before .before .before .before .before .before .before .before .before .before .before .before .before .before .before .before .before .before .before .before .before .args .words .now) (c .before .before .before .before .before .before .before .before .before .before .before .before .before .before .before .before .before .before .before .before .before .before .pre .1) _ (c .before .before .before .before .before .before .before .before .before .before .before .before .before .before .before .before .agenda-from .ensures .0) _ _ (c .before .before .before .before .before .before .before .before .before .before .before .before .put-words .ensures ∙ c .before .before .before .before .before .before .before .before .before .before .before .before .before .before .before .before .before .header .ensures) (c .before .before .before .before .before .before .before .before .put-words2 .ensures) _ (c .before .before .before .before .put-masks .ensures))
 
 same-length : tie.Need-same-length
 same-length c = search needs
 
 returns : tie.Need-returns
-returns c = content-made _ _ _ _ _ _ (c .before .before .before .before .before .before .before .before .before .before .before .before .before .before .pre .0) (λ i. omega (arith, c .before .before .before .before .before .before .before .before .before .before .before .shared-slice-known3 .given i)) (c .before .before .before .before .before .before .before .before .before .before .before .before .before .before .args .words .now) _ _ (c .before .before .before .before .before .before .before .before .before .before .before .before .before .before .pre .1) (c .before .before .before .before .before .before .put-words .ensures ∙ c .before .before .before .before .before .before .before .before .before .header .ensures) (c .before .before .put-lists .ensures)
+returns c = content-made _ _ _ _ _ _ (c .before .before .before .before .before .before .before .before .before .before .before .before .before .before .before .before .before .before .before .before .before .before .before .before .before .pre .0) (λ i. omega (arith, c .before .before .before .before .before .before .before .before .before .before .before .before .before .before .before .before .before .before .before .before .before .before .shared-slice-known3 .given i)) _ (slots-made _ _ _ _ _ _ (c .before .before .before .before .before .before .before .before .before .before .before .before .before .before .before .before .before .before .before .before .before .before .before .before .before .pre .0) (c .before .before .before .before .before .before .before .before .before .before .before .before .before .before .before .before .before .before .before .before .before .before .before .before .before .args .words .now) (c .before .before .before .before .before .before .before .before .before .before .before .before .before .before .before .before .before .before .before .before .before .before .before .before .before .pre .1) _ (c .before .before .before .before .before .before .before .before .before .before .before .before .before .before .before .before .before .before .before .agenda-from .ensures .0) _ (third _ _ _ _ _ _ (c .before .before .before .before .before .before .before .before .before .before .before .before .before .before .before .before .before .before .before .before .before .before .before .before .before .pre .0) (c .before .before .before .before .before .before .before .before .before .before .before .before .before .before .before .before .before .before .before .before .before .before .before .before .before .args .words .now) (c .before .before .before .before .before .before .before .before .before .before .before .before .before .before .before .before .before .before .before .before .before .before .before .before .before .pre .1) _ (c .before .before .before .before .before .before .before .before .before .before .before .before .before .before .before .before .before .before .before .agenda-from .ensures .0) _ _ (c .before .before .before .before .before .before .before .before .before .before .before .before .before .before .before .put-words .ensures ∙ c .before .before .before .before .before .before .before .before .before .before .before .before .before .before .before .before .before .before .before .before .header .ensures) (c .before .before .before .before .before .before .before .before .before .before .before .put-words2 .ensures) _ (c .before .before .before .before .before .before .before .put-masks .ensures)) _ (c .before .before .put-padded .ensures))
 
 pub put-spec : {M : Type 1} → statement M
 put-spec =
     tie.close
     (tie.spec
     header-requires
+    add-last
+    agenda-from-requires
+    add-used
+    mul-used
     slice-aggregate-put-words
     slice-relend-prefix-put-words
     slice-aggregate-put-words-2
     put-words-requires
-    sub-put-lists
-    part-put-lists-start
-    part-put-lists-end
-    put-lists-requires
+    sub-put-words
+    part-put-words-start
+    part-put-words-end
+    put-words-requires-2
+    mul-put-masks
+    sub-put-masks
+    part-put-masks-start
+    part-put-masks-end
+    put-masks-requires
+    slice-aggregate-put-padded
+    mul-put-padded
+    sub-put-padded
+    part-put-padded-start
+    part-put-padded-end
+    put-padded-requires
     same-length
     returns)
