@@ -35,20 +35,12 @@ fn word(file: &[u8], k: usize) -> u16
     0
 }
 
-// Word `k` of block `b`, from 0.
-fn block_word(file: &[u8], b: usize, k: usize) -> u16
-    requires { ⌜ (b < 65536) × (k < 65536) ⌝ }
-    ensures { λ r. ⌜ r ≡ blockWord (now (file .entry)) b k ⌝ }
-{
-    word(file, 256 * b + k)
-}
-
 // Word `k` of the file's content: 253 words of each block after its first two.
 pub(crate) fn content_word(file: &[u8], k: usize) -> u16
     requires { ⌜ k < 65536 ⌝ }
     ensures { λ r. ⌜ r ≡ contentWord (now (file .entry)) k ⌝ }
 {
-    block_word(file, k / 253, 2 + k % 253)
+    word(file, 256 * (k / 253) + (2 + k % 253))
 }
 
 // Word `k` of one block.

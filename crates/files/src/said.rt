@@ -7,7 +7,7 @@ use search::state::Steps;
 ghost use mathlib.Core.Path.{_≡_};
 ghost use Prim.Native.Nat.{suc, _+_, _-_, _*_, _<_, _≤_};
 ghost use Rattle.splits.specs.Problem.{total};
-ghost use Rattle.files.specs.Reading.{contentWord, saidN, saidD, saidSteps, saidChecks, saidSubproblems, triangleWords, trianglePlace};
+ghost use Rattle.files.specs.Reading.{contentWord, saidN, saidD, saidSubproblems, triangleWords, trianglePlace};
 ghost use Rattle.files.specs.Work.Said.{Numbers, StateSaid};
 
 // The number of variables.
@@ -39,28 +39,14 @@ fn pair_at(file: &[u8], k: usize) -> u32
     (block::content_word(file, k) as u32) * 65536 + (block::content_word(file, k + 1) as u32)
 }
 
-// The steps taken.
-pub(crate) fn steps(file: &[u8]) -> u32
-    ensures { λ r. ⌜ r ≡ saidSteps (now (file .entry)) ⌝ }
-{
-    pair_at(file, 2)
-}
-
-// The checks made.
-pub(crate) fn checks(file: &[u8]) -> u64
-    ensures { λ r. ⌜ r ≡ saidChecks (now (file .entry)) ⌝ }
-{
-    (pair_at(file, 4) as u64) * 4294967296 + (pair_at(file, 6) as u64)
-}
-
-// The two counts and the number of subproblems.
+// The steps taken in two words, the checks made in four, and the number of subproblems.
 pub(crate) fn state(file: &[u8]) -> State
     ensures { λ r. ⌜ StateSaid (now (file .entry)) r ⌝ }
 {
     State {
         counts: Counts {
-            steps: Steps(steps(file)),
-            checks: Checks(checks(file)),
+            steps: Steps(pair_at(file, 2)),
+            checks: Checks((pair_at(file, 4) as u64) * 4294967296 + (pair_at(file, 6) as u64)),
         },
         subproblems: subproblems(file),
     }
