@@ -111,30 +111,15 @@ fn load_content(
     let n = said::n(file);
     let d = said::d(file);
     let masks = n * n * d;
-    let mut all = room_for_tables();
-    filling::put_tables(words, n, d, &mut all[..masks]);
-    let refusal = reading::refusal(
-        file,
-        words,
-        &all[..masks],
-        domains.len(),
-        tables.len(),
-        agenda.len(),
-    );
+    let mut room = room_for_tables();
+    filling::put_tables(words, n, d, &mut room[..masks]);
+    let all = &room[..masks];
+    let refusal = reading::refusal(file, words, all, domains.len(), tables.len(), agenda.len());
     if refusal != 0 {
         return refuse(refusal);
     }
     let state = said::state(file);
-    filling::put_search(
-        words,
-        &all[..masks],
-        n,
-        d,
-        state.subproblems,
-        domains,
-        tables,
-        agenda,
-    );
+    filling::put_search(words, all, n, d, state.subproblems, domains, tables, agenda);
     Loaded {
         refusal: 0,
         n,

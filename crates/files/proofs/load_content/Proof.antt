@@ -34,8 +34,8 @@ mul-masks-2 c = let s = sized-numbers (c .before .before .before .before .before
 room-for-tables-requires : tie.Need-room-for-tables-requires
 room-for-tables-requires c κs = search needs
 
-array-borrow-prefix-all : tie.Need-array-borrow-prefix-all
-array-borrow-prefix-all c = let s = sized-numbers (c .before .before .before .before .before .before .before .before .before .before .args .file .now) _ _ _ (c .before .before .n .ensures) (c .before .d .ensures) refl (sized-found _ _ (c .before .before .before .before .refusal-of-numbers .ensures) (c .before .before .before .if1 .left)) in let few = tables-few _ _ (s .0) in omega (arith, few .1, c .room-for-tables .ensures)
+array-borrow-prefix-room : tie.Need-array-borrow-prefix-room
+array-borrow-prefix-room c = let s = sized-numbers (c .before .before .before .before .before .before .before .before .before .before .args .file .now) _ _ _ (c .before .before .n .ensures) (c .before .d .ensures) refl (sized-found _ _ (c .before .before .before .before .refusal-of-numbers .ensures) (c .before .before .before .if1 .left)) in let few = tables-few _ _ (s .0) in omega (arith, few .1, c .room-for-tables .ensures)
 
 slice-aggregate-put-tables : tie.Need-slice-aggregate-put-tables
 slice-aggregate-put-tables c = let s = sized-numbers (c .before .before .before .before .before .before .before .before .before .before .before .args .file .now) _ _ _ (c .before .before .before .n .ensures) (c .before .before .d .ensures) refl (sized-found _ _ (c .before .before .before .before .before .refusal-of-numbers .ensures) (c .before .before .before .before .if1 .left)) in let few = tables-few _ _ (s .0) in sym (length-take-le _ _ (omega (arith, few .1, c .before .room-for-tables .ensures)))
@@ -43,11 +43,11 @@ slice-aggregate-put-tables c = let s = sized-numbers (c .before .before .before 
 put-tables-requires : tie.Need-put-tables-requires
 put-tables-requires c κs = let s = sized-numbers (c .before .before .before .before .before .before .before .before .before .before .before .args .file .now) _ _ _ (c .before .before .before .n .ensures) (c .before .before .d .ensures) refl (sized-found _ _ (c .before .before .before .before .before .refusal-of-numbers .ensures) (c .before .before .before .before .if1 .left)) in let few = tables-few _ _ (s .0) in (s .0, (c .before .before .before .before .before .before .before .before .before .before .before .pre .long, length-take-le _ _ (omega (arith, few .1, c .before .room-for-tables .ensures))))
 
-array-share-prefix-all : tie.Need-array-share-prefix-all
-array-share-prefix-all c = made-fits _ _ _ _ _ (c .before .put-tables .ensures)
+array-share-prefix-room : tie.Need-array-share-prefix-room
+array-share-prefix-room c = made-fits _ _ _ _ _ (c .before .put-tables .ensures)
 
-slice-aggregate-refusal : tie.Need-slice-aggregate-refusal
-slice-aggregate-refusal c = made-count _ _ _ _ _ (c .before .before .put-tables .ensures)
+slice-aggregate-all : tie.Need-slice-aggregate-all
+slice-aggregate-all c = made-count _ _ _ _ _ (c .before .before .put-tables .ensures)
 
 refusal-requires : tie.Need-refusal-requires
 refusal-requires c κs = made-ready _ _ _ _ _ _ _ (c .before .before .before .before .before .before .before .before .before .before .before .before .before .before .pre) (sized-found _ _ (c .before .before .before .before .before .before .before .before .refusal-of-numbers .ensures) (c .before .before .before .before .before .before .before .if1 .left)) (c .before .before .before .before .before .before .n .ensures) (c .before .before .before .before .before .d .ensures) refl (c .before .before .put-tables .ensures)
@@ -61,14 +61,8 @@ returns-2 c = load-refused _ _ _ _ _ (c .before .before .refusal .ensures) (c .b
 state-requires : tie.Need-state-requires
 state-requires c κs = search needs
 
-array-share-prefix-all-2 : tie.Need-array-share-prefix-all-2
-array-share-prefix-all-2 c = made-fits _ _ _ _ _ (c .before .before .before .before .before .put-tables .ensures)
-
-slice-aggregate-put-search : tie.Need-slice-aggregate-put-search
-slice-aggregate-put-search c = made-count _ _ _ _ _ (c .before .before .before .before .before .before .put-tables .ensures)
-
 put-search-requires : tie.Need-put-search-requires
-put-search-requires c κs = load-lent _ _ _ _ _ (c .before .before .before .before .before .before .refusal .ensures) (c .before .before .before .before .before .if2 .left) _ _ _ (c .before .before .before .before .before .before .before .before .before .before .before .before .before .n .ensures) (c .before .before .before .before .before .before .before .before .before .before .before .before .d .ensures) (c .before .before .before .before .state .ensures .subproblems) _ _ (made-ready _ _ _ _ _ _ _ (c .before .before .before .before .before .before .before .before .before .before .before .before .before .before .before .before .before .before .before .before .before .pre) (sized-found _ _ (c .before .before .before .before .before .before .before .before .before .before .before .before .before .before .before .refusal-of-numbers .ensures) (c .before .before .before .before .before .before .before .before .before .before .before .before .before .before .if1 .left)) (c .before .before .before .before .before .before .before .before .before .before .before .before .before .n .ensures) (c .before .before .before .before .before .before .before .before .before .before .before .before .d .ensures) refl (c .before .before .before .before .before .before .before .before .before .put-tables .ensures))
+put-search-requires c κs = load-lent _ _ _ _ _ (c .before .before .before .before .before .refusal .ensures) (c .before .before .before .before .if2 .left) _ _ _ (c .before .before .before .before .before .before .before .before .before .before .before .before .n .ensures) (c .before .before .before .before .before .before .before .before .before .before .before .d .ensures) (c .before .before .before .state .ensures .subproblems) _ _ (made-ready _ _ _ _ _ _ _ (c .before .before .before .before .before .before .before .before .before .before .before .before .before .before .before .before .before .before .before .before .pre) (sized-found _ _ (c .before .before .before .before .before .before .before .before .before .before .before .before .before .before .refusal-of-numbers .ensures) (c .before .before .before .before .before .before .before .before .before .before .before .before .before .if1 .left)) (c .before .before .before .before .before .before .before .before .before .before .before .before .n .ensures) (c .before .before .before .before .before .before .before .before .before .before .before .d .ensures) refl (c .before .before .before .before .before .before .before .before .put-tables .ensures))
 
 same-length : tie.Need-same-length
 same-length c = c .before .before .before .before .before .before .put-search .kept .1 .1 .1 .1 .1 .0
@@ -80,7 +74,7 @@ same-length-3 : tie.Need-same-length-3
 same-length-3 c = search needs
 
 returns-3 : tie.Need-returns-3
-returns-3 c = load-accepted _ _ _ _ _ (c .before .before .before .before .before .before .before .before .before .before .before .before .before .refusal .ensures) (c .before .before .before .before .before .before .before .before .before .before .before .before .if2 .left) _ _ _ (c .before .before .before .before .before .before .before .before .before .before .before .before .before .before .before .before .before .before .before .before .n .ensures) (c .before .before .before .before .before .before .before .before .before .before .before .before .before .before .before .before .before .before .before .d .ensures) (c .before .before .before .before .before .before .before .before .before .before .before .state .ensures .subproblems) (λ i. omega (arith, c .before .before .before .before .before .before .before .before .before .before .before .before .before .before .before .before .before .before .before .before .before .before .before .before .before .before .before .shared-slice-known .given i)) _ _ (made-ready _ _ _ _ _ _ _ (c .before .before .before .before .before .before .before .before .before .before .before .before .before .before .before .before .before .before .before .before .before .before .before .before .before .before .before .before .pre) (sized-found _ _ (c .before .before .before .before .before .before .before .before .before .before .before .before .before .before .before .before .before .before .before .before .before .before .refusal-of-numbers .ensures) (c .before .before .before .before .before .before .before .before .before .before .before .before .before .before .before .before .before .before .before .before .before .if1 .left)) (c .before .before .before .before .before .before .before .before .before .before .before .before .before .before .before .before .before .before .before .before .n .ensures) (c .before .before .before .before .before .before .before .before .before .before .before .before .before .before .before .before .before .before .before .d .ensures) refl (c .before .before .before .before .before .before .before .before .before .before .before .before .before .before .before .before .put-tables .ensures)) _ _ _ _ refl refl refl (c .before .before .before .before .before .before .before .before .before .before .before .state .ensures) (c .before .before .before .before .before .before .put-search .ensures .0) (c .before .before .before .before .before .before .put-search .ensures .1 .0) (c .before .before .before .before .before .before .put-search .ensures .1 .1)
+returns-3 c = load-accepted _ _ _ _ _ (c .before .before .before .before .before .before .before .before .before .before .before .before .refusal .ensures) (c .before .before .before .before .before .before .before .before .before .before .before .if2 .left) _ _ _ (c .before .before .before .before .before .before .before .before .before .before .before .before .before .before .before .before .before .before .before .n .ensures) (c .before .before .before .before .before .before .before .before .before .before .before .before .before .before .before .before .before .before .d .ensures) (c .before .before .before .before .before .before .before .before .before .before .state .ensures .subproblems) (λ i. omega (arith, c .before .before .before .before .before .before .before .before .before .before .before .before .before .before .before .before .before .before .before .before .before .before .before .before .before .before .shared-slice-known .given i)) _ _ (made-ready _ _ _ _ _ _ _ (c .before .before .before .before .before .before .before .before .before .before .before .before .before .before .before .before .before .before .before .before .before .before .before .before .before .before .before .pre) (sized-found _ _ (c .before .before .before .before .before .before .before .before .before .before .before .before .before .before .before .before .before .before .before .before .before .refusal-of-numbers .ensures) (c .before .before .before .before .before .before .before .before .before .before .before .before .before .before .before .before .before .before .before .before .if1 .left)) (c .before .before .before .before .before .before .before .before .before .before .before .before .before .before .before .before .before .before .before .n .ensures) (c .before .before .before .before .before .before .before .before .before .before .before .before .before .before .before .before .before .before .d .ensures) refl (c .before .before .before .before .before .before .before .before .before .before .before .before .before .before .before .put-tables .ensures)) _ _ _ _ refl refl refl (c .before .before .before .before .before .before .before .before .before .before .state .ensures) (c .before .before .before .before .before .before .put-search .ensures .0) (c .before .before .before .before .before .before .put-search .ensures .1 .0) (c .before .before .before .before .before .before .put-search .ensures .1 .1)
 
 pub load-content-spec : {M : Type 1} → statement M
 load-content-spec =
@@ -94,17 +88,15 @@ load-content-spec =
     mul-masks
     mul-masks-2
     room-for-tables-requires
-    array-borrow-prefix-all
+    array-borrow-prefix-room
     slice-aggregate-put-tables
     put-tables-requires
-    array-share-prefix-all
-    slice-aggregate-refusal
+    array-share-prefix-room
+    slice-aggregate-all
     refusal-requires
     refuse-requires-2
     returns-2
     state-requires
-    array-share-prefix-all-2
-    slice-aggregate-put-search
     put-search-requires
     same-length
     same-length-2
