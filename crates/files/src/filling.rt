@@ -9,15 +9,6 @@ ghost use lib.ListN.{length};
 ghost use Rattle.files.specs.Reading.{contentFrom};
 ghost use Rattle.files.specs.Work.Said.{Numbers, columnPart, rowPart, afterPart, tablePart, partIn, slotsPart, Lent};
 
-// The words of a block's content.
-fn put_block(block: &[u8], words: &mut [u16])
-    requires { ⌜ (length (now block) ≡ 512) × (length (now words) ≡ 253) ⌝ }
-    ensures { λ r. ⌜ now (words .exit) ≡ contentFrom (now (block .entry)) 0 253 ⌝ }
-{
-    let all = block::words_of(block);
-    copying::put_words(&all[2..255], words);
-}
-
 // The words of the content of so many blocks.
 fn put_blocks(file: &[u8], blocks: usize, words: &mut [u16])
     requires { ⌜ (length (now file) ≡ blocks * 512) × ((blocks ≤ 101) × (length (now words) ≡ blocks * 253)) ⌝ }
@@ -29,7 +20,8 @@ fn put_blocks(file: &[u8], blocks: usize, words: &mut [u16])
         let end = at + 512;
         let to = b * 253;
         let last = to + 253;
-        put_block(&file[at..end], &mut words[to..last]);
+        let all = block::words_of(&file[at..end]);
+        copying::put_words(&all[2..255], &mut words[to..last]);
         b += 1;
     }
 }

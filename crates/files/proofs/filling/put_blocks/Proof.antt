@@ -1,7 +1,7 @@
 -- `filling::put_blocks` meets its contract. The invariant: the blocks passed are read.
 -- Assumes nothing.
 use borrow.Author.Needs.{needs}
-use mathlib.Core.Path.{_≡_, _∙_}
+use mathlib.Core.Path.{_≡_, sym, _∙_}
 use mathlib.Core.List.{_++_}
 use Prim.Native.Nat.{_+_, _-_, _*_, _≤_}
 use native.Mathlib.Omega.{arith}
@@ -9,7 +9,7 @@ use lib.ListN.{length, drop}
 use borrow.Rule.Slice.PartMut.{mid-len}
 use Rattle.files.specs.Reading.{contentFrom}
 use Rattle.files.proofs.Mirrors.{part-long}
-use Rattle.files.proofs.Filled.{block-part, blocks-none, blocks-more, blocks-kept, blocks-end}
+use Rattle.files.proofs.Filled.{block-part, content-within, content-count, content-block, blocks-none, blocks-more, blocks-kept, blocks-end}
 use Rattle.files.proofs.filling.put_blocks.Statement.{statement}
 use Rattle.files.proofs.filling.put_blocks.Tie as tie
 
@@ -34,32 +34,43 @@ mul-to c = block-part _ _ _ _ (c .loop-test .taken) (c .before .before .before .
 add-last : tie.Need-add-last Inv-loop μ-loop
 add-last c = block-part _ _ _ _ (c .loop-test .taken) (c .before .before .before .before .pre .1 .0) (omega arith) (c .before .loop .inv .1 .0) .end
 
-sub-put-block : tie.Need-sub-put-block Inv-loop μ-loop
-sub-put-block c = block-part _ _ _ _ (c .loop-test .taken) (c .before .before .before .before .pre .1 .0) (omega arith) (c .before .before .before .before .pre .0) .rises
+sub-words-of : tie.Need-sub-words-of Inv-loop μ-loop
+sub-words-of c = block-part _ _ _ _ (c .loop-test .taken) (c .before .before .before .before .pre .1 .0) (omega arith) (c .before .before .before .before .pre .0) .rises
 
-part-put-block-start : tie.Need-part-put-block-start Inv-loop μ-loop
-part-put-block-start c = block-part _ _ _ _ (c .loop-test .taken) (c .before .before .before .before .pre .1 .0) (omega arith) (c .before .before .before .before .pre .0) .rises
+part-words-of-start : tie.Need-part-words-of-start Inv-loop μ-loop
+part-words-of-start c = block-part _ _ _ _ (c .loop-test .taken) (c .before .before .before .before .pre .1 .0) (omega arith) (c .before .before .before .before .pre .0) .rises
 
-part-put-block-end : tie.Need-part-put-block-end Inv-loop μ-loop
-part-put-block-end c = block-part _ _ _ _ (c .loop-test .taken) (c .before .before .before .before .pre .1 .0) (omega arith) (c .before .before .before .before .pre .0) .within
+part-words-of-end : tie.Need-part-words-of-end Inv-loop μ-loop
+part-words-of-end c = block-part _ _ _ _ (c .loop-test .taken) (c .before .before .before .before .pre .1 .0) (omega arith) (c .before .before .before .before .pre .0) .within
 
-mul-put-block : tie.Need-mul-put-block Inv-loop μ-loop
-mul-put-block c = block-part _ _ _ _ (c .before .loop-test .taken) (c .before .before .before .before .before .pre .1 .0) (omega arith) (c .before .before .loop .inv .1 .0) .bytes
+words-of-requires : tie.Need-words-of-requires Inv-loop μ-loop
+words-of-requires c κs = part-long (c .before .before .before .before .before .args .file .now) (c .before .before .loop .b * 512) 512 (block-part _ _ _ _ (c .before .loop-test .taken) (c .before .before .before .before .before .pre .1 .0) (omega arith) (c .before .before .before .before .before .pre .0) .within)
 
-sub-put-block-2 : tie.Need-sub-put-block-2 Inv-loop μ-loop
-sub-put-block-2 c = block-part _ _ _ _ (c .before .loop-test .taken) (c .before .before .before .before .before .pre .1 .0) (omega arith) (c .before .before .loop .inv .1 .0) .rises
+sub-put-words : tie.Need-sub-put-words Inv-loop μ-loop
+sub-put-words c = search needs
 
-part-put-block-start-2 : tie.Need-part-put-block-start-2 Inv-loop μ-loop
-part-put-block-start-2 c = block-part _ _ _ _ (c .before .loop-test .taken) (c .before .before .before .before .before .pre .1 .0) (omega arith) (c .before .before .loop .inv .1 .0) .rises
+part-put-words-start : tie.Need-part-put-words-start Inv-loop μ-loop
+part-put-words-start c = search needs
 
-part-put-block-end-2 : tie.Need-part-put-block-end-2 Inv-loop μ-loop
-part-put-block-end-2 c = block-part _ _ _ _ (c .before .loop-test .taken) (c .before .before .before .before .before .pre .1 .0) (omega arith) (c .before .before .loop .inv .1 .0) .within
+part-put-words-end : tie.Need-part-put-words-end Inv-loop μ-loop
+part-put-words-end c = content-within _ _ (c .before .words-of .ensures)
 
-put-block-requires : tie.Need-put-block-requires Inv-loop μ-loop
-put-block-requires c κs =
-    let to = c .before .before .before .loop .b * 253 in
-    let within : to + 253 ≤ length (c .before .before .before .loop .words) = omega arith in
-    (part-long (c .before .before .before .before .before .before .args .file .now) (c .before .before .before .loop .b * 512) 512 (omega arith), mid-len to (to + 253) (c .before .before .before .loop .words) within ∙ omega arith)
+mul-put-words : tie.Need-mul-put-words Inv-loop μ-loop
+mul-put-words c = block-part _ _ _ _ (c .before .before .before .before .loop-test .taken) (c .before .before .before .before .before .before .before .before .pre .1 .0) (omega arith) (c .before .before .before .before .before .loop .inv .1 .0) .bytes
+
+sub-put-words-2 : tie.Need-sub-put-words-2 Inv-loop μ-loop
+sub-put-words-2 c = block-part _ _ _ _ (c .before .before .before .before .loop-test .taken) (c .before .before .before .before .before .before .before .before .pre .1 .0) (omega arith) (c .before .before .before .before .before .loop .inv .1 .0) .rises
+
+part-put-words-start-2 : tie.Need-part-put-words-start-2 Inv-loop μ-loop
+part-put-words-start-2 c = block-part _ _ _ _ (c .before .before .before .before .loop-test .taken) (c .before .before .before .before .before .before .before .before .pre .1 .0) (omega arith) (c .before .before .before .before .before .loop .inv .1 .0) .rises
+
+part-put-words-end-2 : tie.Need-part-put-words-end-2 Inv-loop μ-loop
+part-put-words-end-2 c = block-part _ _ _ _ (c .before .before .before .before .loop-test .taken) (c .before .before .before .before .before .before .before .before .pre .1 .0) (omega arith) (c .before .before .before .before .before .loop .inv .1 .0) .within
+
+put-words-requires : tie.Need-put-words-requires Inv-loop μ-loop
+put-words-requires c κs =
+    let to = c .before .before .before .before .before .before .loop .b * 253 in
+    content-count _ _ (c .before .before .before .words-of .ensures) ∙ sym (mid-len to (to + 253) (c .before .before .before .before .before .before .loop .words) (block-part _ _ _ _ (c .before .before .before .before .before .loop-test .taken) (c .before .before .before .before .before .before .before .before .before .pre .1 .0) (omega arith) (c .before .before .before .before .before .before .loop .inv .1 .0) .within) ∙ omega arith)
 
 add-b : tie.Need-add-b Inv-loop μ-loop
 add-b c = search needs
@@ -69,9 +80,10 @@ loop-less c = search needs
 
 loop-again : tie.Need-loop-again Inv-loop μ-loop
 loop-again c =
-    let inv = c .before .before .before .before .before .before .loop .inv in
-    let next = blocks-more _ _ _ _ _ (inv .1 .1) (c .before .before .put-block .ensures) (omega arith) in
-    (omega arith, (blocks-kept _ _ _ _ _ next (omega arith) (c .before .before .before .before .before .before .before .before .before .pre .1 .1), next))
+    let inv = c .before .before .before .before .before .before .before .before .before .loop .inv in
+    let block = content-block _ _ _ (c .before .before .before .before .before .before .words-of .ensures) (c .before .before .put-words .ensures) in
+    let next = blocks-more _ _ _ _ _ (inv .1 .1) block (omega arith) in
+    (omega arith, (blocks-kept _ _ _ _ _ next (omega arith) (c .before .before .before .before .before .before .before .before .before .before .before .before .pre .1 .1), next))
 
 same-length : tie.Need-same-length Inv-loop μ-loop
 same-length c = search needs
@@ -92,14 +104,18 @@ put-blocks-spec =
     add-end
     mul-to
     add-last
-    sub-put-block
-    part-put-block-start
-    part-put-block-end
-    mul-put-block
-    sub-put-block-2
-    part-put-block-start-2
-    part-put-block-end-2
-    put-block-requires
+    sub-words-of
+    part-words-of-start
+    part-words-of-end
+    words-of-requires
+    sub-put-words
+    part-put-words-start
+    part-put-words-end
+    mul-put-words
+    sub-put-words-2
+    part-put-words-start-2
+    part-put-words-end-2
+    put-words-requires
     add-b
     loop-less
     loop-again
