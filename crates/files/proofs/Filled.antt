@@ -1,12 +1,12 @@
 -- Memory that load fills from the front: the words of the content, columns, rows, copies with zeros after them.
 -- Assumes nothing.
-use mathlib.Core.Path.{_≡_, refl, sym, ap, _∙_}
+use mathlib.Core.Path.{_≡_, refl, sym, ap, ap₂, _∙_}
 use mathlib.Core.List.{List, [], _∷_, _++_, map, map-append, append-assoc, append-nil}
 use mir.Syntax.{w64}
 use mir.Val.{Fits}
 use Prim.Native.Nat.{ℕ, suc, _+_, _-_, _*_, _/_, _%_, _≤_, _<_}
 use native.Mathlib.Omega.{arith}
-use native.Mathlib.Nat.{le-refl, le-trans, mul-assoc, mul-le-mul, mul-le-mul-right, zero-mul, zero-add, add-mul}
+use native.Mathlib.Nat.{le-refl, le-trans, le-add-left, le-add-right, add-le-add, mul-assoc, mul-le-mul, mul-le-mul-right, zero-mul, zero-add, add-mul}
 use native.Mathlib.Numerals.{add-one}
 use native.Mathlib.Decide.{decLt}
 use lib.ListN.{length, getD, take, drop, set, replicate, length-append, length-drop, length-replicate, take-append-drop, List·getD-eq-default}
@@ -288,24 +288,21 @@ module _ (words : List ℕ) (n d i : ℕ) where
         front-rest l ys zs d size own ∙ rw (none, rest) (sym (ap (λ (k : ℕ). each f (below k)) one ∙ each-split f 1 (n - suc i) ∙ rw (each-one f) refl))
 
   -- The row is put together of both.
-  pub row-made : (l ys zs : List ℕ) → length l ≡ n * d → i < n → ys ≡ rowPart words n d i i → zs ≡ afterPart words n d i
-      → putMid (i * d) (length (ys ++ drop (i * d) l) - i * d) (ys ++ drop (i * d) l) zs ≡ rowPart words n d i n
+  pub row-split : i < n → rowPart words n d i i ++ afterPart words n d i ≡ rowPart words n d i n
   unfolding rowPart afterPart
-  row-made l ys zs long h y z =
+  row-split h =
       let whole : n ≡ i + (n - i) = omega arith in
-      let some : i * d ≤ n * d = mul-le-mul-right d (omega arith) in
-      front-rest l ys zs (i * d) (ap length y ∙ row-length i) (omega arith)
-      ∙ rw (y, z) (sym (ap (λ (k : ℕ). each (λ k. pairPart words n d i k d) (below k)) whole ∙ each-split (λ k. pairPart words n d i k d) i (n - i)))
+      sym (ap (λ (k : ℕ). each (λ k. pairPart words n d i k d) (below k)) whole ∙ each-split (λ k. pairPart words n d i k d) i (n - i))
 
-  -- What is left of the memory for the second.
-  pub row-rest : (l ys : List ℕ) → length l ≡ n * d → i < n → ys ≡ rowPart words n d i i
-      → length (midOf (i * d) (length (ys ++ drop (i * d) l) - i * d) (ys ++ drop (i * d) l)) ≡ (n - i) * d
-  row-rest l ys long h y =
-      let some : i * d ≤ n * d = mul-le-mul-right d (omega arith) in
-      let sum : (i + (n - i)) * d ≡ n * d = ap (λ (x : ℕ). x * d) (omega arith) in
-      rest-long l ys (i * d) (ap length y ∙ row-length i) (omega arith) ∙ omega (arith, add-mul i (n - i) d)
+  pub after-length : length (afterPart words n d i) ≡ (n - i) * d
+  unfolding afterPart
+  after-length = each-length (λ k. pairPart words n d i (i + k) d) (λ k. d) (n - i) (λ k l. pair-length (i + k) d) ∙ total-const (n - i) d
 
 -- ---- the tables
+
+-- A part of so many words lies within so many more.
+pub part-within : (k n w : ℕ) → k < n → k * w + w ≤ n * w
+part-within k n w h = let up : (k + 1) * w ≤ n * w = mul-le-mul-right w (omega arith) in omega arith
 
 module _ (words : List ℕ) (n d : ℕ) where
   pub table-none : (l : List ℕ) → l ≡ tablePart words n d 0 ++ drop (0 * (n * d)) l
@@ -322,14 +319,51 @@ module _ (words : List ℕ) (n d : ℕ) where
   unfolding tablePart
   next-row i = each-more (λ k. rowPart words n d k n) i
 
-  -- One row more in memory.
-  pub table-more : (l m ys : List ℕ) (i : ℕ) → m ≡ tablePart words n d i ++ drop (i * (n * d)) l → ys ≡ rowPart words n d i n
-      → i * (n * d) + n * d ≤ length l
-      → putMid (i * (n * d)) ((i * (n * d) + n * d) - i * (n * d)) m ys ≡ tablePart words n d (i + 1) ++ drop ((i + 1) * (n * d)) l
-  table-more l m ys i e y h =
-      let up : i * (n * d) + n * d ≡ (i + 1) * (n * d) = omega arith in
-      part-more (tablePart words n d i) (rowPart words n d i n) l m ys (i * (n * d)) (n * d) e (table-length i) y (row-length words n d i n) h
-      ∙ rw (← up, add-one, next-row) refl
+  -- One row more in memory: the masks of a variable with those before it, then the rest.
+  module _ (l m xs : List ℕ) (i : ℕ) (e : m ≡ tablePart words n d i ++ drop (i * (n * d)) l) (x : xs ≡ rowPart words n d i i) (h : i < n)
+      (long : length l ≡ n * n * d) where
+    abbrev pub seam : ℕ
+    seam = i * (n * d) + i * d
+
+    abbrev pub half : List ℕ
+    half = putMid (i * (n * d)) (seam - i * (n * d)) m xs
+
+    ends : i * (n * d) + n * d ≡ seam + (n - i) * d
+    ends =
+        let sum : i + (n - i) ≡ n = omega arith in
+        let split : n * d ≡ i * d + (n - i) * d = sym (ap (λ (k : ℕ). k * d) sum) ∙ add-mul i (n - i) d in
+        omega (arith, split)
+
+    within : seam + (n - i) * d ≤ length l
+    within = rw (← ends, long, mul-assoc n n d) (part-within i n (n * d) h)
+
+    first : half ≡ (tablePart words n d i ++ rowPart words n d i i) ++ drop seam l
+    first =
+        part-more (tablePart words n d i) (rowPart words n d i i) l m xs (i * (n * d)) (i * d) e (table-length i) x (row-length words n d i i)
+        (le-trans (le-add-right seam ((n - i) * d)) within)
+
+    front-long : length (tablePart words n d i ++ rowPart words n d i i) ≡ seam
+    front-long = length-append (tablePart words n d i) (rowPart words n d i i) ∙ ap₂ _+_ (table-length i) (row-length words n d i i)
+
+    pub half-long : length half ≡ n * n * d
+    half-long =
+        ap length first ∙ length-append (tablePart words n d i ++ rowPart words n d i i) (drop seam l)
+        ∙ rw (front-long, length-drop seam l) (let some = le-trans (le-add-right seam ((n - i) * d)) within in omega (arith, some, long))
+
+    pub half-room : length (midOf seam ((i * (n * d) + n * d) - seam) half) ≡ (n - i) * d
+    half-room =
+        mid-len seam (i * (n * d) + n * d) half (rw (half-long, ← long, ends) within) ∙ ap (λ (k : ℕ). k - seam) ends ∙ omega arith
+
+    pub table-more : (ys : List ℕ) → ys ≡ afterPart words n d i
+        → putMid seam ((i * (n * d) + n * d) - seam) half ys ≡ tablePart words n d (i + 1) ++ drop ((i + 1) * (n * d)) l
+    table-more ys y =
+        let up : seam + (n - i) * d ≡ (i + 1) * (n * d) = sym ends ∙ omega arith in
+        let row : (tablePart words n d i ++ rowPart words n d i i) ++ afterPart words n d i ≡ tablePart words n d (i + 1) =
+        append-assoc (tablePart words n d i) (rowPart words n d i i) (afterPart words n d i)
+        ∙ ap (λ (x : List ℕ). tablePart words n d i ++ x) (row-split words n d i h) ∙ sym (rw add-one (next-row i)) in
+        ap (λ (k : ℕ). putMid seam (k - seam) half ys) ends
+        ∙ part-more (tablePart words n d i ++ rowPart words n d i i) (afterPart words n d i) l half ys seam ((n - i) * d) first front-long y
+        (after-length words n d i) within ∙ ap₂ (λ (x : List ℕ) (k : ℕ). x ++ drop k l) row up
 
   -- The memory stays as long.
   pub table-kept : (l m : List ℕ) (i : ℕ) → m ≡ tablePart words n d i ++ drop (i * (n * d)) l → i ≤ n → length l ≡ n * n * d → length m ≡ n * n * d
@@ -342,10 +376,6 @@ module _ (words : List ℕ) (n d : ℕ) where
   table-end l m i e s h =
       let all : n * (n * d) ≡ length l = omega arith in
       rw (e, s, all, drop-length, append-nil) refl
-
--- A part of so many words lies within so many more.
-pub part-within : (k n w : ℕ) → k < n → k * w + w ≤ n * w
-part-within k n w h = let up : (k + 1) * w ≤ n * w = mul-le-mul-right w (omega arith) in omega arith
 
 -- A part of so many words from a place on: what is worked out to lend it fits, and it lies within.
 pub record Part (at width long : ℕ) : Type 0 where
@@ -375,7 +405,7 @@ pub own-few : (n d i : ℕ) → Numbers n d → i < n → (i * d ≤ n * d) × (
 own-few n d i s h = (mul-le-mul-right d (omega arith), row-few n d s)
 
 -- The masks of two variables are such a part of the words of a content; in another order of those of a variable with the ones before it; and
--- those of a variable of the tables.
+-- these of the tables, of which they are followed by the rest of a row.
 pub words-part : (from d words : ℕ) → words ≡ 25553 → from + d ≤ 25553 → Part from d words
 words-part from d words e h = part-fits from d words (omega arith) (omega arith)
 
@@ -384,10 +414,34 @@ own-part n d i j words s h l e =
     let few = own-few n d i s h in
     part-fits (j * d) d words (rw e (part-within j i d l)) (rw e (le-trans (few .0) (le-trans (few .1) (omega arith))))
 
-pub table-part : (n d i words : ℕ) → Numbers n d → i < n → words ≡ n * n * d → Part (i * (n * d)) (n * d) words
-table-part n d i words s h e =
+pub record TableRow (n d i words : ℕ) : Type 0 where
+  pub own : Fits w64 (i * d)
+  pub before : Part (i * (n * d)) (i * d) words
+  pub end : Fits w64 (i * (n * d) + n * d)
+  pub bytes : Fits w64 ((i * (n * d) + i * d) * 2)
+  pub rises : i * (n * d) + i * d ≤ i * (n * d) + n * d
+  pub within : i * (n * d) + n * d ≤ words
+
+pub table-row : (n d i words : ℕ) → Numbers n d → i < n → words ≡ n * n * d → TableRow n d i words
+table-row n d i words s h e =
     let all : n * (n * d) ≡ n * n * d = sym (mul-assoc n n d) in
-    part-fits (i * (n * d)) (n * d) words (rw (e, ← all) (part-within i n (n * d) h)) (rw (e, ← all) (le-trans (rows-few n d n s (le-refl n)) (omega arith)))
+    let some : i * (n * d) + n * d ≤ words = rw (e, ← all) (part-within i n (n * d) h) in
+    let few : words ≤ 16384 = rw (e, ← all) (rows-few n d n s (le-refl n)) in
+    let less : i * (n * d) + i * d ≤ i * (n * d) + n * d = add-le-add (le-refl (i * (n * d))) (own-few n d i s h .0) in
+    record {
+      own = small (i * d) (le-trans (le-add-left (i * d) (i * (n * d))) (le-trans less (le-trans some few)));
+      before = part-fits (i * (n * d)) (i * d) words (le-trans less some) (le-trans few (omega arith));
+      end = small (i * (n * d) + n * d) (le-trans some few);
+      bytes = twice (i * (n * d) + i * d) (le-trans less (le-trans some few));
+      rises = less;
+      within = some;
+    }
+  where
+    small : (x : ℕ) → x ≤ 16384 → Fits w64 x
+    small x l = omega arith
+
+    twice : (x : ℕ) → x ≤ 16384 → Fits w64 (x * 2)
+    twice x l = omega arith
 
 -- A block is such a part of so many.
 pub block-part : (b blocks size words : ℕ) → b < blocks → blocks ≤ 101 → size ≤ 512 → words ≡ blocks * size → Part (b * size) size words

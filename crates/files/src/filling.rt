@@ -82,26 +82,19 @@ fn put_after(words: &[u16], n: usize, d: usize, i: usize, masks: &mut [u16])
     copying::put_words(&words[from..to], &mut masks[d..]);
 }
 
-// The masks of a variable with every other.
-fn put_row(words: &[u16], n: usize, d: usize, i: usize, masks: &mut [u16])
-    requires { ⌜ Numbers n d × ((i < n) × ((length (now words) ≡ 25553) × (length (now masks) ≡ n * d))) ⌝ }
-    ensures { λ r. ⌜ now (masks .exit) ≡ rowPart (now (words .entry)) n d i n ⌝ }
-{
-    let own = i * d;
-    put_before(words, n, d, i, &mut masks[..own]);
-    put_after(words, n, d, i, &mut masks[own..]);
-}
-
-// The tables, from the words of a content.
+// The tables, from the words of a content: the masks of each variable with those before it, then the rest.
 pub(crate) fn put_tables(words: &[u16], n: usize, d: usize, masks: &mut [u16])
     requires { ⌜ Numbers n d × ((length (now words) ≡ 25553) × (length (now masks) ≡ n * n * d)) ⌝ }
     ensures { λ r. ⌜ now (masks .exit) ≡ tablePart (now (words .entry)) n d n ⌝ }
 {
+    let row = n * d;
     let mut i = 0;
     while i < n {
-        let at = i * (n * d);
-        let end = at + n * d;
-        put_row(words, n, d, i, &mut masks[at..end]);
+        let at = i * row;
+        let own = at + i * d;
+        let end = at + row;
+        put_before(words, n, d, i, &mut masks[at..own]);
+        put_after(words, n, d, i, &mut masks[own..end]);
         i += 1;
     }
 }

@@ -8,49 +8,74 @@ use mathlib.Core.List.{_++_}
 use lib.ListN.{length, drop}
 use borrow.Rule.Slice.PartMut.{mid-len}
 use Rattle.files.specs.Work.Said.{tablePart}
-use Rattle.files.proofs.Filled.{table-none, table-more, table-kept, table-end, table-part, row-width}
+use Rattle.files.proofs.Filled.{table-none, half-long, half-room, table-more, table-kept, table-end, table-row, row-width}
 use Rattle.files.proofs.filling.put_tables.Statement.{statement}
 use Rattle.files.proofs.filling.put_tables.Tie as tie
 
 abbrev Inv-loop : tie.InvT-loop
-Inv-loop words n d masks₀ i₀ masks i = (i ≤ n) × ((length masks ≡ n * n * d) × (masks ≡ tablePart words n d i ++ drop (i * (n * d)) masks₀))
+Inv-loop words n d masks₀ row i₀ masks i = (i ≤ n) × ((length masks ≡ n * n * d) × (masks ≡ tablePart words n d i ++ drop (i * (n * d)) masks₀))
 
 abbrev μ-loop : tie.MeasureT-loop
-μ-loop words n d masks₀ i₀ masks i = n - i
+μ-loop words n d masks₀ row i₀ masks i = n - i
+
+mul-row : tie.Need-mul-row Inv-loop μ-loop
+mul-row c = row-width _ _ (c .before .before .pre .0)
 
 loop-holds : tie.Need-loop-holds Inv-loop μ-loop
 loop-holds c = (omega arith, (omega arith, table-none _ _ _ _))
 
 mul-at : tie.Need-mul-at Inv-loop μ-loop
-mul-at c = row-width _ _ (c .before .before .before .before .pre .0)
+mul-at c = table-row _ _ _ _ (c .before .before .before .before .pre .0) (c .loop-test .taken) (c .before .loop .inv .1 .0) .before .start
 
-mul-at-2 : tie.Need-mul-at-2 Inv-loop μ-loop
-mul-at-2 c = table-part _ _ _ _ (c .before .before .before .before .pre .0) (c .loop-test .taken) (c .before .loop .inv .1 .0) .start
+mul-own : tie.Need-mul-own Inv-loop μ-loop
+mul-own c = table-row _ _ _ _ (c .before .before .before .before .pre .0) (c .loop-test .taken) (c .before .loop .inv .1 .0) .own
 
-mul-end : tie.Need-mul-end Inv-loop μ-loop
-mul-end c = row-width _ _ (c .before .before .before .before .pre .0)
+add-own : tie.Need-add-own Inv-loop μ-loop
+add-own c = table-row _ _ _ _ (c .before .before .before .before .pre .0) (c .loop-test .taken) (c .before .loop .inv .1 .0) .before .end
 
 add-end : tie.Need-add-end Inv-loop μ-loop
-add-end c = table-part _ _ _ _ (c .before .before .before .before .pre .0) (c .loop-test .taken) (c .before .loop .inv .1 .0) .end
+add-end c = table-row _ _ _ _ (c .before .before .before .before .pre .0) (c .loop-test .taken) (c .before .loop .inv .1 .0) .end
 
-mul-put-row : tie.Need-mul-put-row Inv-loop μ-loop
-mul-put-row c = table-part _ _ _ _ (c .before .before .before .before .pre .0) (c .loop-test .taken) (c .before .loop .inv .1 .0) .bytes
+mul-put-before : tie.Need-mul-put-before Inv-loop μ-loop
+mul-put-before c = table-row _ _ _ _ (c .before .before .before .before .pre .0) (c .loop-test .taken) (c .before .loop .inv .1 .0) .before .bytes
 
-sub-put-row : tie.Need-sub-put-row Inv-loop μ-loop
-sub-put-row c = table-part _ _ _ _ (c .before .before .before .before .pre .0) (c .loop-test .taken) (c .before .loop .inv .1 .0) .rises
+sub-put-before : tie.Need-sub-put-before Inv-loop μ-loop
+sub-put-before c = table-row _ _ _ _ (c .before .before .before .before .pre .0) (c .loop-test .taken) (c .before .loop .inv .1 .0) .before .rises
 
-part-put-row-start : tie.Need-part-put-row-start Inv-loop μ-loop
-part-put-row-start c = table-part _ _ _ _ (c .before .before .before .before .pre .0) (c .loop-test .taken) (c .before .loop .inv .1 .0) .rises
+part-put-before-start : tie.Need-part-put-before-start Inv-loop μ-loop
+part-put-before-start c = table-row _ _ _ _ (c .before .before .before .before .pre .0) (c .loop-test .taken) (c .before .loop .inv .1 .0) .before .rises
 
-part-put-row-end : tie.Need-part-put-row-end Inv-loop μ-loop
-part-put-row-end c = table-part _ _ _ _ (c .before .before .before .before .pre .0) (c .loop-test .taken) (c .before .loop .inv .1 .0) .within
+part-put-before-end : tie.Need-part-put-before-end Inv-loop μ-loop
+part-put-before-end c = table-row _ _ _ _ (c .before .before .before .before .pre .0) (c .loop-test .taken) (c .before .loop .inv .1 .0) .before .within
 
-put-row-requires : tie.Need-put-row-requires Inv-loop μ-loop
-put-row-requires c κs =
+put-before-requires : tie.Need-put-before-requires Inv-loop μ-loop
+put-before-requires c κs =
     let a = c .before .before .before .before .before .args in
-    let at = c .before .before .loop .i * (a .n * a .d) in
-    let within = table-part _ _ _ _ (c .before .before .before .before .before .pre .0) (c .before .loop-test .taken) (c .before .before .loop .inv .1 .0) .within in
-    (c .before .before .before .before .before .pre .0, (c .before .loop-test .taken, (c .before .before .before .before .before .pre .1 .0, mid-len at (at + a .n * a .d) (c .before .before .loop .masks) within ∙ omega arith)))
+    let pre = c .before .before .before .before .before .pre in
+    let i = c .before .before .loop .i in
+    let at = i * (a .n * a .d) in
+    let taken = c .before .loop-test .taken in
+    (pre .0, (taken, (pre .1 .0, mid-len at (at + i * a .d) (c .before .before .loop .masks) (table-row _ _ _ _ (c .before .before .before .before .before .pre .0) (c .before .loop-test .taken) (c .before .before .loop .inv .1 .0) .before .within) ∙ omega arith)))
+
+mul-put-after : tie.Need-mul-put-after Inv-loop μ-loop
+mul-put-after c = table-row _ _ _ _ (c .before .before .before .before .before .before .before .before .pre .0) (c .before .before .before .before .loop-test .taken) (c .before .before .before .before .before .loop .inv .1 .0) .bytes
+
+sub-put-after : tie.Need-sub-put-after Inv-loop μ-loop
+sub-put-after c = table-row _ _ _ _ (c .before .before .before .before .before .before .before .before .pre .0) (c .before .before .before .before .loop-test .taken) (c .before .before .before .before .before .loop .inv .1 .0) .rises
+
+part-put-after-start : tie.Need-part-put-after-start Inv-loop μ-loop
+part-put-after-start c = table-row _ _ _ _ (c .before .before .before .before .before .before .before .before .pre .0) (c .before .before .before .before .loop-test .taken) (c .before .before .before .before .before .loop .inv .1 .0) .rises
+
+part-put-after-end : tie.Need-part-put-after-end Inv-loop μ-loop
+part-put-after-end c =
+    let a = c .before .before .before .before .before .before .before .before .args in
+    table-row _ _ _ _ (c .before .before .before .before .before .before .before .before .pre .0) (c .before .before .before .before .loop-test .taken) (half-long (a .words .now) (a .n) (a .d) (a .masks .now) _ _ _ (c .before .before .before .before .before .loop .inv .1 .1) (c .before .before .put-before .ensures) (c .before .before .before .before .loop-test .taken) (c .before .before .before .before .before .before .before .before .pre .1 .1)) .within
+
+put-after-requires : tie.Need-put-after-requires Inv-loop μ-loop
+put-after-requires c κs =
+    let a = c .before .before .before .before .before .before .before .before .before .args in
+    let pre = c .before .before .before .before .before .before .before .before .before .pre in
+    (pre .0, (c .before .before .before .before .before .loop-test .taken, (pre .1 .0, half-room (a .words .now) (a .n) (a .d) (a .masks .now) _ _ _ (c .before .before .before .before .before .before .loop .inv .1 .1) (c .before .before .before .put-before .ensures) (c .before .before .before .before .before .loop-test .taken) (c .before .before .before .before .before .before .before .before .before .pre .1 .1))))
 
 add-i : tie.Need-add-i Inv-loop μ-loop
 add-i c = search needs
@@ -60,10 +85,9 @@ loop-less c = search needs
 
 loop-again : tie.Need-loop-again Inv-loop μ-loop
 loop-again c =
-    let inv = c .before .before .before .before .before .loop .inv in
-    let within = table-part _ _ _ _ (c .before .before .before .before .before .before .before .before .pre .0) (c .before .before .before .before .loop-test .taken) (c .before .before .before .before .before .before .before .before .pre .1 .1) .within in
-    let next = table-more _ _ _ _ _ _ _ (inv .1 .1) (c .before .before .put-row .ensures) within in
-    (omega arith, (table-kept _ _ _ _ _ _ next (omega arith) (c .before .before .before .before .before .before .before .before .pre .1 .1), next))
+    let a = c .before .before .before .before .before .before .before .before .before .before .before .before .args in
+    let next = table-more (a .words .now) (a .n) (a .d) (a .masks .now) _ _ _ (c .before .before .before .before .before .before .before .before .before .loop .inv .1 .1) (c .before .before .before .before .before .before .put-before .ensures) (c .before .before .before .before .before .before .before .before .loop-test .taken) (c .before .before .before .before .before .before .before .before .before .before .before .before .pre .1 .1) _ (c .before .before .put-after .ensures) in
+    (omega arith, (table-kept _ _ _ _ _ _ next (omega arith) (c .before .before .before .before .before .before .before .before .before .before .before .before .pre .1 .1), next))
 
 same-length : tie.Need-same-length Inv-loop μ-loop
 same-length c = search needs
@@ -79,16 +103,22 @@ put-tables-spec =
     (tie.spec
     Inv-loop
     μ-loop
+    mul-row
     loop-holds
     mul-at
-    mul-at-2
-    mul-end
+    mul-own
+    add-own
     add-end
-    mul-put-row
-    sub-put-row
-    part-put-row-start
-    part-put-row-end
-    put-row-requires
+    mul-put-before
+    sub-put-before
+    part-put-before-start
+    part-put-before-end
+    put-before-requires
+    mul-put-after
+    sub-put-after
+    part-put-after-start
+    part-put-after-end
+    put-after-requires
     add-i
     loop-less
     loop-again
