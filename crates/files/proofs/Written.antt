@@ -6,7 +6,7 @@ use mir.Syntax.{w64}
 use mir.Val.{Fits}
 use Prim.Native.Nat.{ℕ, zero, suc, _+_, _-_, _*_, _/_, _%_, _^_, _≤_, _<_}
 use native.Mathlib.Omega.{arith}
-use native.Mathlib.Nat.{le-trans, mul-le-mul, mul-le-mul-right, mul-assoc, add-mul}
+use native.Mathlib.Nat.{le-refl, le-trans, le-add-right, mul-le-mul, mul-le-mul-right, mul-assoc, add-mul}
 use native.Mathlib.Numerals.{add-one}
 use lib.ListN.{length, getD, take, drop, set, replicate, length-append, length-drop, List·getD-append}
 use lib.Seq.{length-take-le, take-suc, drop-cons, append-snoc, set-at, take-all, take-at, drop-length, ext-getD}
@@ -141,6 +141,15 @@ pub header-long : (n d : ℕ) (s : State) (l : List ℕ) → l ≡ header n d s 
 unfolding header
 header-long n d s l e = ap length e
 
+-- A part from one place to another: what is worked out to lend it fits, and it lies within.
+pub record Between (at end long : ℕ) : Type 0 where
+  pub bytes : Fits w64 (at * 2)
+  pub rises : at ≤ end
+  pub within : end ≤ long
+
+between : (at end long : ℕ) → at ≤ end → end ≤ long → long ≤ 65536 → Between at end long
+between at end long h k few = record { bytes = omega arith; rises = h; within = k }
+
 -- The parts of a content, written one after the other into the words l.
 module _ (n d : ℕ) (domains tables agenda : List ℕ) (s : State) (hands : Savable n d domains tables agenda s) where
   -- The masks for i below j, and how many words the used slots are.
@@ -185,7 +194,24 @@ module _ (n d : ℕ) (domains tables agenda : List ℕ) (s : State) (hands : Sav
           part-more (header n d s) domains l (ys ++ drop 9 l) ds 9 n (ap (λ (x : List ℕ). x ++ drop 9 l) y) header-length e (hands .domains-words)
           (omega (arith, few))
 
+      -- There is room for the domains.
+      one-long : length (ys ++ drop 9 l) ≡ 25553
+      one-long = length-append ys (drop 9 l) ∙ omega (arith, ap length y ∙ header-length, length-drop 9 l, long)
+
+      pub domains-within : 9 + n ≤ length (ys ++ drop 9 l)
+      domains-within = rw one-long (le-trans (le-trans (le-add-right (9 + n) (triangleWords n d)) (le-trans (le-add-right (9 + n + triangleWords n d) used) few)) (omega arith))
+
+      pub domains-room : length domains ≡ length (midOf 9 ((9 + n) - 9) (ys ++ drop 9 l))
+      domains-room = hands .domains-words ∙ sym (mid-len 9 (9 + n) (ys ++ drop 9 l) domains-within ∙ omega arith)
+
       -- There is room for the masks.
+      two-long : length (putMid 9 ((9 + n) - 9) (ys ++ drop 9 l) ds) ≡ 25553
+      two-long =
+          ap length second ∙ length-append (header n d s ++ domains) (drop (9 + n) l) ∙ omega (arith, two, length-drop (9 + n) l, few, long)
+
+      pub masks-part : Between (9 + n) from (length (putMid 9 ((9 + n) - 9) (ys ++ drop 9 l) ds))
+      masks-part = rw two-long (between (9 + n) from 25553 (omega (arith, start)) (omega (arith, start, few)) (omega arith))
+
       pub masks-room : length (midOf (9 + n) (from - (9 + n)) (putMid 9 ((9 + n) - 9) (ys ++ drop 9 l) ds)) ≡ triangleWords n d
       masks-room =
           let whole : List ℕ = (header n d s ++ domains) ++ drop (9 + n) l in
@@ -205,6 +231,11 @@ module _ (n d : ℕ) (domains tables agenda : List ℕ) (s : State) (hands : Sav
           ∙ ap (λ (k : ℕ). k - from) long
 
       -- There is room for the used slots.
+      pub slots-part : Between from (length m) (length m)
+      slots-part =
+          let size : length m ≡ 25553 = ap length e ∙ length-append front (drop from l) ∙ omega (arith, three, start, length-drop from l, few, long) in
+          rw size (between from 25553 25553 (omega (arith, start, few)) (le-refl 25553) (omega arith))
+
       pub slots-room : length (take used agenda) ≤ length (midOf from (length m - from) m)
       slots-room = rw (after, used-length) (omega (arith, start, few))
 

@@ -1,17 +1,17 @@
 -- `content::put` meets its contract: its parts are written one after the other.
 -- Assumes nothing.
 use borrow.Author.Needs.{needs}
-use mathlib.Core.Path.{sym, _∙_}
+use mathlib.Core.Path.{refl, sym, _∙_}
 use native.Mathlib.Omega.{arith}
+use native.Mathlib.Nat.{le-add-right}
 use lib.ListN.{length-take}
 use lib.Seq.{length-take-le}
-use Rattle.files.specs.Work.Said.{agendaStart}
-use Rattle.files.proofs.Written.{header-long, masks-room, third, slots-room, slots-made, content-made}
+use Rattle.files.proofs.Written.{header-long, domains-within, domains-room, masks-part, slots-part, masks-room, third, slots-room, slots-made, content-made}
 use Rattle.files.proofs.content.put.Statement.{statement}
 use Rattle.files.proofs.content.put.Tie as tie
 
 header-requires : tie.Need-header-requires
-header-requires c κs = search needs
+header-requires c κs = (c .before .before .before .before .pre .0 .numbers, c .before .before .before .before .pre .0 .few)
 
 add-last : tie.Need-add-last
 add-last c = search needs
@@ -38,30 +38,28 @@ put-words-requires : tie.Need-put-words-requires
 put-words-requires c κs = header-long _ _ _ _ (c .before .before .before .before .header .ensures) ∙ sym (simp length-take (omega arith))
 
 sub-put-words : tie.Need-sub-put-words
-sub-put-words c = search needs
+sub-put-words c = le-add-right _ _
 
 part-put-words-start : tie.Need-part-put-words-start
-part-put-words-start c = search needs
+part-put-words-start c = le-add-right _ _
 
 part-put-words-end : tie.Need-part-put-words-end
-part-put-words-end c = search needs
+part-put-words-end c = domains-within _ _ _ _ _ _ (c .before .before .before .before .before .before .before .before .before .before .before .before .pre .0) (c .before .before .before .before .before .before .before .before .before .before .before .before .args .words .now) (c .before .before .before .before .before .before .before .before .before .before .before .before .pre .1) _ (c .before .before .before .before .before .before .agenda-from .ensures .0) _ (c .before .before .before .before .before .before .before .before .before .before .before .before .args .domains .now) (c .before .before .put-words .ensures ∙ c .before .before .before .before .before .before .before .header .ensures) refl
 
 put-words-requires-2 : tie.Need-put-words-requires-2
-put-words-requires-2 c κs = search needs
+put-words-requires-2 c κs = domains-room _ _ _ _ _ _ (c .before .before .before .before .before .before .before .before .before .before .before .before .before .pre .0) (c .before .before .before .before .before .before .before .before .before .before .before .before .before .args .words .now) (c .before .before .before .before .before .before .before .before .before .before .before .before .before .pre .1) _ (c .before .before .before .before .before .before .before .agenda-from .ensures .0) _ (c .before .before .before .before .before .before .before .before .before .before .before .before .before .args .domains .now) (c .before .before .before .put-words .ensures ∙ c .before .before .before .before .before .before .before .before .header .ensures) refl
 
 mul-put-masks : tie.Need-mul-put-masks
-mul-put-masks c = search needs
+mul-put-masks c = masks-part _ _ _ _ _ _ (c .before .before .before .before .before .before .before .before .before .before .before .before .before .before .before .before .pre .0) (c .before .before .before .before .before .before .before .before .before .before .before .before .before .before .before .before .args .words .now) (c .before .before .before .before .before .before .before .before .before .before .before .before .before .before .before .before .pre .1) _ (c .before .before .before .before .before .before .before .before .before .before .agenda-from .ensures .0) _ _ (c .before .before .before .before .before .before .put-words .ensures ∙ c .before .before .before .before .before .before .before .before .before .before .before .header .ensures) (c .before .before .put-words2 .ensures) .bytes
 
 sub-put-masks : tie.Need-sub-put-masks
-unfolding agendaStart
-sub-put-masks c = let e = c .before .before .before .before .before .before .before .before .before .before .agenda-from .ensures .0 in omega (arith, e)
+sub-put-masks c = masks-part _ _ _ _ _ _ (c .before .before .before .before .before .before .before .before .before .before .before .before .before .before .before .before .pre .0) (c .before .before .before .before .before .before .before .before .before .before .before .before .before .before .before .before .args .words .now) (c .before .before .before .before .before .before .before .before .before .before .before .before .before .before .before .before .pre .1) _ (c .before .before .before .before .before .before .before .before .before .before .agenda-from .ensures .0) _ _ (c .before .before .before .before .before .before .put-words .ensures ∙ c .before .before .before .before .before .before .before .before .before .before .before .header .ensures) (c .before .before .put-words2 .ensures) .rises
 
 part-put-masks-start : tie.Need-part-put-masks-start
-unfolding agendaStart
-part-put-masks-start c = let e = c .before .before .before .before .before .before .before .before .before .before .agenda-from .ensures .0 in omega (arith, e)
+part-put-masks-start c = masks-part _ _ _ _ _ _ (c .before .before .before .before .before .before .before .before .before .before .before .before .before .before .before .before .pre .0) (c .before .before .before .before .before .before .before .before .before .before .before .before .before .before .before .before .args .words .now) (c .before .before .before .before .before .before .before .before .before .before .before .before .before .before .before .before .pre .1) _ (c .before .before .before .before .before .before .before .before .before .before .agenda-from .ensures .0) _ _ (c .before .before .before .before .before .before .put-words .ensures ∙ c .before .before .before .before .before .before .before .before .before .before .before .header .ensures) (c .before .before .put-words2 .ensures) .rises
 
 part-put-masks-end : tie.Need-part-put-masks-end
-part-put-masks-end c = search needs
+part-put-masks-end c = masks-part _ _ _ _ _ _ (c .before .before .before .before .before .before .before .before .before .before .before .before .before .before .before .before .pre .0) (c .before .before .before .before .before .before .before .before .before .before .before .before .before .before .before .before .args .words .now) (c .before .before .before .before .before .before .before .before .before .before .before .before .before .before .before .before .pre .1) _ (c .before .before .before .before .before .before .before .before .before .before .agenda-from .ensures .0) _ _ (c .before .before .before .before .before .before .put-words .ensures ∙ c .before .before .before .before .before .before .before .before .before .before .before .header .ensures) (c .before .before .put-words2 .ensures) .within
 
 put-masks-requires : tie.Need-put-masks-requires
 put-masks-requires c κs = (c .before .before .before .before .before .before .before .before .before .before .before .before .before .before .before .before .before .pre .0 .numbers, (c .before .before .before .before .before .before .before .before .before .before .before .before .before .before .before .before .before .pre .0 .tables-words, masks-room _ _ _ _ _ _ (c .before .before .before .before .before .before .before .before .before .before .before .before .before .before .before .before .before .pre .0) (c .before .before .before .before .before .before .before .before .before .before .before .before .before .before .before .before .before .args .words .now) (c .before .before .before .before .before .before .before .before .before .before .before .before .before .before .before .before .before .pre .1) _ (c .before .before .before .before .before .before .before .before .before .before .before .agenda-from .ensures .0) _ _ (c .before .before .before .before .before .before .before .put-words .ensures ∙ c .before .before .before .before .before .before .before .before .before .before .before .before .header .ensures) (c .before .before .before .put-words2 .ensures)))
@@ -70,16 +68,16 @@ slice-aggregate-put-padded : tie.Need-slice-aggregate-put-padded
 slice-aggregate-put-padded c = sym (length-take-le _ _ (c .before .before .before .before .before .before .before .before .before .before .before .before .before .before .before .before .before .before .before .before .before .pre .0 .agenda-words))
 
 mul-put-padded : tie.Need-mul-put-padded
-mul-put-padded c = search needs
+mul-put-padded c = slots-part _ _ _ _ _ _ (c .before .before .before .before .before .before .before .before .before .before .before .before .before .before .before .before .before .before .before .before .before .pre .0) (c .before .before .before .before .before .before .before .before .before .before .before .before .before .before .before .before .before .before .before .before .before .args .words .now) (c .before .before .before .before .before .before .before .before .before .before .before .before .before .before .before .before .before .before .before .before .before .pre .1) _ (c .before .before .before .before .before .before .before .before .before .before .before .before .before .before .before .agenda-from .ensures .0) _ (third _ _ _ _ _ _ (c .before .before .before .before .before .before .before .before .before .before .before .before .before .before .before .before .before .before .before .before .before .pre .0) (c .before .before .before .before .before .before .before .before .before .before .before .before .before .before .before .before .before .before .before .before .before .args .words .now) (c .before .before .before .before .before .before .before .before .before .before .before .before .before .before .before .before .before .before .before .before .before .pre .1) _ (c .before .before .before .before .before .before .before .before .before .before .before .before .before .before .before .agenda-from .ensures .0) _ _ (c .before .before .before .before .before .before .before .before .before .before .before .put-words .ensures ∙ c .before .before .before .before .before .before .before .before .before .before .before .before .before .before .before .before .header .ensures) (c .before .before .before .before .before .before .before .put-words2 .ensures) _ (c .before .before .before .put-masks .ensures)) .bytes
 
 sub-put-padded : tie.Need-sub-put-padded
-sub-put-padded c = search needs
+sub-put-padded c = slots-part _ _ _ _ _ _ (c .before .before .before .before .before .before .before .before .before .before .before .before .before .before .before .before .before .before .before .before .before .pre .0) (c .before .before .before .before .before .before .before .before .before .before .before .before .before .before .before .before .before .before .before .before .before .args .words .now) (c .before .before .before .before .before .before .before .before .before .before .before .before .before .before .before .before .before .before .before .before .before .pre .1) _ (c .before .before .before .before .before .before .before .before .before .before .before .before .before .before .before .agenda-from .ensures .0) _ (third _ _ _ _ _ _ (c .before .before .before .before .before .before .before .before .before .before .before .before .before .before .before .before .before .before .before .before .before .pre .0) (c .before .before .before .before .before .before .before .before .before .before .before .before .before .before .before .before .before .before .before .before .before .args .words .now) (c .before .before .before .before .before .before .before .before .before .before .before .before .before .before .before .before .before .before .before .before .before .pre .1) _ (c .before .before .before .before .before .before .before .before .before .before .before .before .before .before .before .agenda-from .ensures .0) _ _ (c .before .before .before .before .before .before .before .before .before .before .before .put-words .ensures ∙ c .before .before .before .before .before .before .before .before .before .before .before .before .before .before .before .before .header .ensures) (c .before .before .before .before .before .before .before .put-words2 .ensures) _ (c .before .before .before .put-masks .ensures)) .rises
 
 part-put-padded-start : tie.Need-part-put-padded-start
-part-put-padded-start c = search needs
+part-put-padded-start c = slots-part _ _ _ _ _ _ (c .before .before .before .before .before .before .before .before .before .before .before .before .before .before .before .before .before .before .before .before .before .pre .0) (c .before .before .before .before .before .before .before .before .before .before .before .before .before .before .before .before .before .before .before .before .before .args .words .now) (c .before .before .before .before .before .before .before .before .before .before .before .before .before .before .before .before .before .before .before .before .before .pre .1) _ (c .before .before .before .before .before .before .before .before .before .before .before .before .before .before .before .agenda-from .ensures .0) _ (third _ _ _ _ _ _ (c .before .before .before .before .before .before .before .before .before .before .before .before .before .before .before .before .before .before .before .before .before .pre .0) (c .before .before .before .before .before .before .before .before .before .before .before .before .before .before .before .before .before .before .before .before .before .args .words .now) (c .before .before .before .before .before .before .before .before .before .before .before .before .before .before .before .before .before .before .before .before .before .pre .1) _ (c .before .before .before .before .before .before .before .before .before .before .before .before .before .before .before .agenda-from .ensures .0) _ _ (c .before .before .before .before .before .before .before .before .before .before .before .put-words .ensures ∙ c .before .before .before .before .before .before .before .before .before .before .before .before .before .before .before .before .header .ensures) (c .before .before .before .before .before .before .before .put-words2 .ensures) _ (c .before .before .before .put-masks .ensures)) .rises
 
 part-put-padded-end : tie.Need-part-put-padded-end
-part-put-padded-end c = search needs
+part-put-padded-end c = slots-part _ _ _ _ _ _ (c .before .before .before .before .before .before .before .before .before .before .before .before .before .before .before .before .before .before .before .before .before .pre .0) (c .before .before .before .before .before .before .before .before .before .before .before .before .before .before .before .before .before .before .before .before .before .args .words .now) (c .before .before .before .before .before .before .before .before .before .before .before .before .before .before .before .before .before .before .before .before .before .pre .1) _ (c .before .before .before .before .before .before .before .before .before .before .before .before .before .before .before .agenda-from .ensures .0) _ (third _ _ _ _ _ _ (c .before .before .before .before .before .before .before .before .before .before .before .before .before .before .before .before .before .before .before .before .before .pre .0) (c .before .before .before .before .before .before .before .before .before .before .before .before .before .before .before .before .before .before .before .before .before .args .words .now) (c .before .before .before .before .before .before .before .before .before .before .before .before .before .before .before .before .before .before .before .before .before .pre .1) _ (c .before .before .before .before .before .before .before .before .before .before .before .before .before .before .before .agenda-from .ensures .0) _ _ (c .before .before .before .before .before .before .before .before .before .before .before .put-words .ensures ∙ c .before .before .before .before .before .before .before .before .before .before .before .before .before .before .before .before .header .ensures) (c .before .before .before .before .before .before .before .put-words2 .ensures) _ (c .before .before .before .put-masks .ensures)) .within
 
 put-padded-requires : tie.Need-put-padded-requires
 put-padded-requires c κs = slots-room _ _ _ _ _ _ (c .before .before .before .before .before .before .before .before .before .before .before .before .before .before .before .before .before .before .before .before .before .before .pre .0) (c .before .before .before .before .before .before .before .before .before .before .before .before .before .before .before .before .before .before .before .before .before .before .args .words .now) (c .before .before .before .before .before .before .before .before .before .before .before .before .before .before .before .before .before .before .before .before .before .before .pre .1) _ (c .before .before .before .before .before .before .before .before .before .before .before .before .before .before .before .before .agenda-from .ensures .0) _ (third _ _ _ _ _ _ (c .before .before .before .before .before .before .before .before .before .before .before .before .before .before .before .before .before .before .before .before .before .before .pre .0) (c .before .before .before .before .before .before .before .before .before .before .before .before .before .before .before .before .before .before .before .before .before .before .args .words .now) (c .before .before .before .before .before .before .before .before .before .before .before .before .before .before .before .before .before .before .before .before .before .before .pre .1) _ (c .before .before .before .before .before .before .before .before .before .before .before .before .before .before .before .before .agenda-from .ensures .0) _ _ (c .before .before .before .before .before .before .before .before .before .before .before .before .put-words .ensures ∙ c .before .before .before .before .before .before .before .before .before .before .before .before .before .before .before .before .before .header .ensures) (c .before .before .before .before .before .before .before .before .put-words2 .ensures) _ (c .before .before .before .before .put-masks .ensures))
