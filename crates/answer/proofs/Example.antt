@@ -8,7 +8,7 @@ use borrow.Author.Tests.{eq-eqb}
 use lib.Count.{ones, onesIn, trailingZeros}
 use Rattle.splits.specs.Masks.{bit, minus, smallest, smallerHalf}
 use Rattle.splits.specs.Problem.{tableOf, total}
-use Rattle.splits.specs.Subproblems.{empty, instantiated, some, every}
+use Rattle.splits.specs.Subproblems.{empty, allInstantiated, some, every}
 use Rattle.splits.specs.Splits.{below, keep, changed, instantiate, without, cutBeside, forbids, instantiatedOther, forbidden, precluded, disjunct, forwardChecking, idc, named, pieces, filled}
 use Rattle.splits.specs.Checks.{lookedAt, others, tried, valuesIn, checks}
 use Rattle.splits.specs.Refusals.{refused-7, refused-8, refused-9, bad, someBad, allSame, refused-10, refusalOf}
@@ -37,7 +37,7 @@ fresh = record { stack = opening 2 printed-domains; steps = 0; checks = 0 }
 run-text : (more : ℕ) → textOf 2 (choose (problemOf 2 2 printed-domains printed-tables) 512 (suc (suc (suc more))) fresh) ≡ ascii "solved\nsteps 2 checks 3\n0 0\n1 1\n"
 unfolding textOf verdictLine countsLine planLines planLine decimal decimalOf ascii wordOf verdictOf finished chooseFrom chosen fewestOf opening holding
     refusalOfRequest refusalOfTop refusalOf refused-7 refused-8 refused-9 refused-10 bad someBad allSame step splitTop pieces filled named keep below
-    forwardChecking idc instantiate without cutBeside forbids instantiatedOther forbidden precluded disjunct changed empty some every instantiated
+    forwardChecking idc instantiate without cutBeside forbids instantiatedOther forbidden precluded disjunct changed empty some every allInstantiated
     smallest smallerHalf minus bit ones onesIn trailingZeros checks lookedAt others tried valuesIn total tableOf each
 run-text more = refl
 

@@ -12,7 +12,7 @@ use lib.Dec.{eqb, ltb}
 use borrow.Author.Tests.{eq-eqb, ne-eqb, eqb-true, eqb-false}
 use Rattle.splits.specs.Masks.{bit, _∈_, size, lowest}
 use Rattle.splits.specs.Problem.{Problem, Table, Allow-same}
-use Rattle.splits.specs.Subproblems.{domain, Instantiated, instantiated}
+use Rattle.splits.specs.Subproblems.{domain, Instantiated, allInstantiated}
 use Rattle.splits.specs.Refusals.{Accepted, refusalOf}
 use Rattle.splits.specs.Promises.{Splits}
 use Rattle.splits.specs.declared.subproblem.Subproblem.{Subproblem}
@@ -60,7 +60,7 @@ fewest-so-far n P (suc i) h =
         inr (w .0, λ k l. ⊎-elim (λ (q : k ≡ i). rw q m) (λ (q : k < i). w .1 k q) (last l))
 
 -- Of a running search's top it is a variable that is not instantiated.
-fewest-free : (n : ℕ) (P : Subproblem) → instantiated n P ≡ false → (fewest n P < n) × (bit (P .marked) (fewest n P) ≡ 0)
+fewest-free : (n : ℕ) (P : Subproblem) → allInstantiated n P ≡ false → (fewest n P < n) × (bit (P .marked) (fewest n P) ≡ 0)
 fewest-free n P e = ⊎-elim (λ w. w) (λ w. absurd (true-false (sym (instantiated-all n P (w .1)) ∙ e))) (fewest-so-far n P n (le-refl n))
 
 module _ (p : Problem) (g : Table) (agree : Allow-same (p .n) (p .d) (p .allowed) g) (room : ℕ) where
@@ -127,7 +127,7 @@ module _ (p : Problem) (g : Table) (agree : Allow-same (p .n) (p .d) (p .allowed
     not-10 = λ x. absurd (omega (arith, x .0));
   }
 
-  chosen-same : (P : Subproblem) (S : List Subproblem) (s : Search) → Passes p room s → s .stack ≡ P ∷ S → instantiated (p .n) P ≡ false
+  chosen-same : (P : Subproblem) (S : List Subproblem) (s : Search) → Passes p room s → s .stack ≡ P ∷ S → allInstantiated (p .n) P ≡ false
       → chosen p room (P ∷ S) ≡ chosen other room (P ∷ S)
   unfolding chosen splitTop
   chosen-same P S s h top e =
@@ -160,10 +160,10 @@ module _ (p : Problem) (g : Table) (agree : Allow-same (p .n) (p .d) (p .allowed
           cond (eqb (refusalOfRequest other room r′ s) 0) (chooseFrom other room m (step other r′ s) (k + 1))
           (record { search = s; refusal = refusalOfRequest other room r′ s; taken = k })
 
-      request-is : (P : Subproblem) (S : List Subproblem) → s .stack ≡ P ∷ S → instantiated (p .n) P ≡ false → r ≡ r′
+      request-is : (P : Subproblem) (S : List Subproblem) → s .stack ≡ P ∷ S → allInstantiated (p .n) P ≡ false → r ≡ r′
       request-is P S top e = rw top (chosen-same P S s h top e)
 
-      free : (P : Subproblem) (S : List Subproblem) → s .stack ≡ P ∷ S → finished (p .n) (s .stack) ≡ false → instantiated (p .n) P ≡ false
+      free : (P : Subproblem) (S : List Subproblem) → s .stack ≡ P ∷ S → finished (p .n) (s .stack) ≡ false → allInstantiated (p .n) P ≡ false
       free P S top e = sym (finished-top (p .n) P S) ∙ rw top at e
 
       next : ((t : Search) (j : ℕ) → Passes p room t → chooseFrom p room m t j ≡ chooseFrom other room m t j) → finished (p .n) (s .stack) ≡ false

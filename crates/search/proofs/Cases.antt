@@ -5,7 +5,7 @@ use mathlib.Core.List.{List, List·Memᴰ, [], _∷_}
 use lib.Count.{ones, onesIn, trailingZeros}
 use Rattle.splits.specs.Masks.{bit, minus, smallest, smallerHalf}
 use Rattle.splits.specs.Problem.{possibilities, product, total}
-use Rattle.splits.specs.Subproblems.{empty, instantiated, some, every}
+use Rattle.splits.specs.Subproblems.{empty, allInstantiated, some, every}
 use Rattle.splits.specs.Splits.{below, keep, changed, instantiate, without, cut, cutBeside, atTargets, forbids, instantiatedOther, forbidden, precluded, disjunct, extract, backtracking, forwardChecking, idc, halving, extraction, named, pieces}
 use Rattle.splits.specs.Checks.{lookedAt, others, tried, valuesIn, checks}
 use Rattle.splits.specs.Refusals.{refused-7, refused-8, refused-9, bad, someBad, allSame, refused-10, refusalOf}
@@ -29,7 +29,7 @@ each C (y ∷ l) h = each-more C y l (h .0) (each C l (h .1))
 pub computed : All Ends-so cases
 unfolding cases joins opening holding runFrom finished refusalOfRequest refusalOfTop refusalOf refused-7 refused-8 refused-9 refused-10 bad someBad
     allSame step splitTop pieces named keep below backtracking forwardChecking idc halving extraction instantiate without cut cutBeside atTargets forbids
-    instantiatedOther forbidden precluded disjunct extract changed empty some every instantiated smallest smallerHalf minus bit ones onesIn
+    instantiatedOther forbidden precluded disjunct extract changed empty some every allInstantiated smallest smallerHalf minus bit ones onesIn
     trailingZeros checks lookedAt others tried valuesIn total possibilities product verdictOf
 computed = (
   record { stops = refl; verdict = refl; sizes = refl },

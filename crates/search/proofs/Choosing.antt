@@ -13,7 +13,7 @@ use lib.Dec.{eqb, ltb}
 use borrow.Author.Tests.{eq-eqb, eqb-false}
 use Rattle.splits.specs.Masks.{bit, size, lowest}
 use Rattle.splits.specs.Problem.{tableOf}
-use Rattle.splits.specs.Subproblems.{domain, empty, every, instantiated}
+use Rattle.splits.specs.Subproblems.{domain, empty, every, allInstantiated}
 use Rattle.splits.specs.Splits.{precluded, pieces}
 use Rattle.splits.specs.declared.subproblem.Subproblem.{Subproblem}
 use Rattle.splits.proofs.Masks.{bit-le, lowest-member, member-lt}
@@ -44,8 +44,8 @@ found n P (suc i) h = go (eqb (bit (P .marked) i) 0) refl (found n P i (omega ar
     go false e (inr (q, a)) = inr (rw e q, rw a (eq-eqb (bit (P .marked) i) 1 (omega (arith, bit-le (P .marked) i, eqb-false (bit (P .marked) i) 0 e))))
 
 -- The variable is one of the n, where not all are instantiated.
-pub variable-below : (n : ℕ) (P : Subproblem) → instantiated n P ≡ false → fewest n P < n
-unfolding instantiated
+pub variable-below : (n : ℕ) (P : Subproblem) → allInstantiated n P ≡ false → fewest n P < n
+unfolding allInstantiated
 variable-below n P h = ⊎-elim (λ (l : fewestOf n P n < n). l) (λ r. absurd (true-false (sym (r .1) ∙ h))) (found n P n (le-refl n))
 
 -- The value is one of the d.

@@ -11,7 +11,7 @@ use lib.ListN.{length, getD}
 use lib.Dec.{eqb, leb, ltb}
 use borrow.Author.Tests.{eq-eqb, ne-eqb, eqb-false}
 use Rattle.splits.specs.Problem.{Problem}
-use Rattle.splits.specs.Subproblems.{instantiated}
+use Rattle.splits.specs.Subproblems.{allInstantiated}
 use Rattle.splits.specs.Refusals.{refused-7, refused-8, refused-9, refused-10, refusalOf}
 use Rattle.splits.specs.declared.subproblem.Subproblem.{Subproblem}
 use Rattle.search.specs.Agenda.{problemOf, stackOf, slotsIn}
@@ -117,7 +117,7 @@ request-late p room r s = cond-late (eqb (s .steps) 4294967295) 11 (refusalOfTop
 some-number : (n : ℕ) (S : List Subproblem) → numberOf (verdictOf n S) ≡ 0 → ⊥
 unfolding verdictOf
 some-number n [] e = omega (arith, e)
-some-number n (P ∷ S) e = by (instantiated n P) e
+some-number n (P ∷ S) e = by (allInstantiated n P) e
   where
     by : (b : Bool) → numberOf (cond b Solved Running) ≡ 0 → ⊥
     by true e = omega (arith, e)

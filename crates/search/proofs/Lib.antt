@@ -1,46 +1,46 @@
 pub mod Copies
 pub mod Encoding
 pub mod FirstLoops
-pub mod Obeying
-pub mod Joining
-pub mod Marked
+mod Obeying
+mod Joining
+mod Marked
 mod Alike
-pub mod Turning
-pub mod Exchanging
+mod Turning
+mod Exchanging
 mod Packing
-pub mod Pairs
+mod Pairs
 pub mod FirstParts
 pub mod Decisions
 pub mod Deserved
-pub mod FirstOrder
+mod FirstOrder
 pub mod FirstPassing
 pub mod Apart
 pub mod Verdicts
 pub mod Runs
-pub mod Refusals
+mod Refusals
 pub mod Passing
 pub mod Picking
-pub mod Reaching
-pub mod Cases
-pub mod Planners
-pub mod Candidates
-pub mod Gathering
-pub mod Keeping
-pub mod Accepting
-pub mod Shapes
-pub mod Stepping
-pub mod Choosing
+mod Reaching
+mod Cases
+mod Planners
+mod Candidates
+mod Gathering
+mod Keeping
+mod Accepting
+mod Shapes
+mod Stepping
+mod Choosing
 pub mod AtOnce
-pub mod Halves
-pub mod Beside
-pub mod Lone
-pub mod Running
-pub mod Settling
-pub mod Spreading
-pub mod Dividing
-pub mod Opening
-pub mod Admitting
-pub mod Ending
+mod Halves
+mod Beside
+mod Lone
+mod Running
+mod Settling
+mod Spreading
+mod Dividing
+mod Opening
+mod Admitting
+mod Ending
 pub mod HandedOn
 pub mod Exactly
 pub mod Promises

@@ -13,7 +13,7 @@ use lib.Dec.{eqb, ltb}
 use borrow.Author.Tests.{eq-eqb, ne-eqb, lt-ltb, le-ltb, eqb-true, eqb-false, ltb-true, ltb-false}
 use Rattle.splits.specs.Masks.{bit, _∈_, size, lowest}
 use Rattle.splits.specs.Problem.{Problem}
-use Rattle.splits.specs.Subproblems.{domain, Instantiated, instantiated, empty}
+use Rattle.splits.specs.Subproblems.{domain, Instantiated, allInstantiated, empty}
 use Rattle.splits.specs.Requests.{kindOf, variableOf, valueOf}
 use Rattle.splits.specs.Splits.{precluded, pieces}
 use Rattle.splits.specs.Refusals.{Deserves-7, Deserves-8, Deserves-9, Accepted}
@@ -191,7 +191,7 @@ module _ (n : ℕ) (P : Subproblem) where
       go (suc (suc b)) e q = absurd (omega (arith, bit-le (P .marked) i))
 
   -- Where not all are instantiated, it is the one with the fewest values.
-  pub fewest-is : instantiated n P ≡ false → Fewest n P (fewest n P)
+  pub fewest-is : allInstantiated n P ≡ false → Fewest n P (fewest n P)
   fewest-is h = ⊎-elim (λ a. absurd (true-false (sym (instantiated-all n P (a .1)) ∙ h))) (λ q. q) (so-far n (le-refl n))
 
 -- ---- the request
@@ -217,7 +217,7 @@ accepted n d P r e k new l m =
     not-9 three (inl (_, inr h)) = h m
     not-9 three (inr h) = omega (arith, h .0)
 
-module _ (p : Problem) (room : ℕ) (P : Subproblem) (S : List Subproblem) (held : Held p P) (running : instantiated (p .n) P ≡ false)
+module _ (p : Problem) (room : ℕ) (P : Subproblem) (S : List Subproblem) (held : Held p P) (running : allInstantiated (p .n) P ≡ false)
     (fits : length (P ∷ S) ≤ room) where
   V₁ : ℕ
   V₁ = fewest (p .n) P

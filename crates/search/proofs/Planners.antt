@@ -6,7 +6,7 @@ use Prim.Native.Nat.{ℕ}
 use lib.Count.{ones, onesIn, trailingZeros}
 use Rattle.splits.specs.Masks.{bit, minus, smallest, smallerHalf}
 use Rattle.splits.specs.Problem.{tableOf, total}
-use Rattle.splits.specs.Subproblems.{empty, instantiated, some, every}
+use Rattle.splits.specs.Subproblems.{empty, allInstantiated, some, every}
 use Rattle.splits.specs.Splits.{below, keep, changed, instantiate, without, cut, cutBeside, atTargets, forbids, instantiatedOther, forbidden, precluded, disjunct, extract, backtracking, forwardChecking, idc, halving, extraction, named, pieces}
 use Rattle.splits.specs.Checks.{lookedAt, others, tried, valuesIn, checks}
 use Rattle.splits.specs.Refusals.{refused-7, refused-8, refused-9, bad, someBad, allSame, refused-10, refusalOf}
@@ -33,6 +33,6 @@ unfolding runRefusal refusalOfNumbers refusalOfLengths wholeSlots refusalOfReque
     domainObeys valuesAgree zerosFrom tableOf stackOf subproblemOf slotAt agendaOf stackWords slotWords requestsIn cutInto
     holding runFrom finished refusalOfRequest refusalOfTop refusalOf refused-7 refused-8 refused-9 refused-10 bad someBad allSame
     step splitTop pieces named keep below backtracking forwardChecking idc halving extraction instantiate without cut cutBeside atTargets forbids
-    instantiatedOther forbidden precluded disjunct extract changed empty some every instantiated smallest smallerHalf minus bit ones onesIn trailingZeros
+    instantiatedOther forbidden precluded disjunct extract changed empty some every allInstantiated smallest smallerHalf minus bit ones onesIn trailingZeros
     checks lookedAt others tried valuesIn total verdictOf
 says after r h = record { verdict = h .verdict; refusal = h .refusal; taken = h .taken; steps = h .steps; checks = h .checks; subproblems = h .subproblems; agenda = h .agenda }

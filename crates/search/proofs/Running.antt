@@ -12,7 +12,7 @@ use lib.Seq.{drop-drop}
 use lib.Dec.{eqb}
 use borrow.Author.Tests.{not-true, not-false}
 use Rattle.splits.specs.Problem.{Problem}
-use Rattle.splits.specs.Subproblems.{instantiated}
+use Rattle.splits.specs.Subproblems.{allInstantiated}
 use Rattle.splits.specs.declared.subproblem.Subproblem.{Subproblem}
 use Rattle.search.specs.Agenda.{problemOf, subproblemOf, slotAt, stackOf, slotsIn}
 use Rattle.search.specs.Verdicts.{finished, verdictOf}
@@ -49,7 +49,7 @@ module _ (n : ℕ) (agenda : List ℕ) (m : ℕ) where
   unfolding verdictOf stackOf
   verdict-empty e = rw e refl
 
-  module _ (h : m ≡ 0 → ⊥) (P : Subproblem) (top : P ≡ subproblemOf n (slotAt n agenda (m - 1))) (b : Bool) (tested : b ≡ instantiated n P) where
+  module _ (h : m ≡ 0 → ⊥) (P : Subproblem) (top : P ≡ subproblemOf n (slotAt n agenda (m - 1))) (b : Bool) (tested : b ≡ allInstantiated n P) where
     -- The stack, top first.
     stack-is : stackOf n agenda m ≡ P ∷ stackOf n agenda (m - 1)
     stack-is = stack-more n agenda m P (omega arith) top
@@ -95,7 +95,7 @@ module _ (n d : ℕ) (t agenda : List ℕ) (s : State) (ready : Ready n d t agen
 
   -- A search that runs may take a request.
   pub taking : (P : Subproblem) (b : Bool) → (s .subproblems ≡ 0 → ⊥) → P ≡ subproblemOf n (slotAt n agenda (s .subproblems - 1))
-      → b ≡ instantiated n P → not b ≡ true → Taking n d t agenda P s
+      → b ≡ allInstantiated n P → not b ≡ true → Taking n d t agenda P s
   taking P b h top tested e = record { ready = ready; some = omega arith; top = top; runs = sym tested ∙ not-true b e }
 
 -- The search that a step left is the one that its words hold.

@@ -12,7 +12,7 @@ use lib.Dec.{eqb, ltb}
 use borrow.Author.Tests.{eq-eqb, ne-eqb, eqb-true, eqb-false, not-true, not-false}
 use Rattle.splits.specs.Masks.{_∈_, single, size, lowest}
 use Rattle.splits.specs.Problem.{tableOf, total}
-use Rattle.splits.specs.Subproblems.{domain, empty, instantiated}
+use Rattle.splits.specs.Subproblems.{domain, empty, allInstantiated}
 use Rattle.splits.specs.Splits.{pieces, precluded, without, RowOf, precludedBy}
 use Rattle.splits.specs.Checks.{checks, valuesIn, others}
 use Rattle.splits.specs.Refusals.{refusalOf}
@@ -120,7 +120,7 @@ left-few P c = go (c .lost) (eqb (c .values) 1)
 
 -- ---- what is found
 
-module _ (n d : ℕ) (t : List ℕ) (P : Subproblem) (fit : Sized n d t) (reg : Regular n d P) (runs : instantiated n P ≡ false) where
+module _ (n d : ℕ) (t : List ℕ) (P : Subproblem) (fit : Sized n d t) (reg : Regular n d P) (runs : allInstantiated n P ≡ false) where
   -- The variable is one of the n, and the value is in its domain.
   its-variable : (V′ : ℕ) → V′ ≡ fewest n P → V′ < n
   its-variable V′ e = rw e (variable-below n P runs)

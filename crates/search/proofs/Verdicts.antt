@@ -10,7 +10,7 @@ use lib.Dec.{eqb}
 use borrow.Author.Tests.{eq-eqb, ne-eqb, eqb-true, eqb-false, not-true, not-false}
 use Rattle.splits.specs.Masks.{bit, single, lowest}
 use Rattle.splits.specs.Problem.{Problem, Solution}
-use Rattle.splits.specs.Subproblems.{domain, Instantiated, instantiated}
+use Rattle.splits.specs.Subproblems.{domain, Instantiated, allInstantiated}
 use Rattle.splits.specs.declared.subproblem.Subproblem.{Subproblem}
 use Rattle.splits.proofs.Masks.{single-of}
 use Rattle.splits.proofs.Pieces.{Held}
@@ -35,17 +35,17 @@ pub some-none : (P : Subproblem) (S : List Subproblem) → P ∷ S ≡ [] → �
 some-none P S e = let z : _≡_ {A = ℕ} 0 1 = cc in omega arith
 
 -- The test of the top, and what it says.
-pub all-instantiated : (n : ℕ) (P : Subproblem) → instantiated n P ≡ true → (i : ℕ) → i < n → Instantiated P i
-unfolding instantiated
+pub all-instantiated : (n : ℕ) (P : Subproblem) → allInstantiated n P ≡ true → (i : ℕ) → i < n → Instantiated P i
+unfolding allInstantiated
 all-instantiated n P e i l = eqb-true (bit (P .marked) i) 1 (every-at (λ i. eqb (bit (P .marked) i) 1) n i l e)
 
-pub instantiated-all : (n : ℕ) (P : Subproblem) → ((i : ℕ) → i < n → Instantiated P i) → instantiated n P ≡ true
-unfolding instantiated
+pub instantiated-all : (n : ℕ) (P : Subproblem) → ((i : ℕ) → i < n → Instantiated P i) → allInstantiated n P ≡ true
+unfolding allInstantiated
 instantiated-all n P h = every-all (λ i. eqb (bit (P .marked) i) 1) n (λ i l. eq-eqb (bit (P .marked) i) 1 (h i l))
 
-pub top-solved : (n : ℕ) (P : Subproblem) (S : List Subproblem) → verdictOf n (P ∷ S) ≡ Solved → instantiated n P ≡ true
+pub top-solved : (n : ℕ) (P : Subproblem) (S : List Subproblem) → verdictOf n (P ∷ S) ≡ Solved → allInstantiated n P ≡ true
 unfolding verdictOf
-top-solved n P S e = go (instantiated n P) e
+top-solved n P S e = go (allInstantiated n P) e
   where
     go : (b : Bool) → cond b Solved Running ≡ Solved → b ≡ true
     go true e = refl
@@ -90,9 +90,9 @@ unfolding finished
 is-running n S h = ap not (eq-eqb (numberOf (verdictOf n S)) 1 (ap numberOf h))
 
 -- Where there is a top, its test says it.
-pub finished-top : (n : ℕ) (P : Subproblem) (S : List Subproblem) → finished n (P ∷ S) ≡ instantiated n P
+pub finished-top : (n : ℕ) (P : Subproblem) (S : List Subproblem) → finished n (P ∷ S) ≡ allInstantiated n P
 unfolding finished verdictOf
-finished-top n P S = go (instantiated n P)
+finished-top n P S = go (allInstantiated n P)
   where
     go : (b : Bool) → not (eqb (numberOf (cond b Solved Running)) 1) ≡ b
     go true = refl
@@ -109,7 +109,7 @@ running-top n (P ∷ T) e = (P, T, refl)
 pub unsolvable-if : (n : ℕ) (S : List Subproblem) → (verdictOf n S ≡ Unsolvable) ↔ (S ≡ [])
 unfolding verdictOf
 unsolvable-if n [] = (λ e. refl, λ e. refl)
-unsolvable-if n (P ∷ S) = (λ e. absurd (go (instantiated n P) e), λ e. absurd (some-none P S e))
+unsolvable-if n (P ∷ S) = (λ e. absurd (go (allInstantiated n P) e), λ e. absurd (some-none P S e))
   where
     go : (b : Bool) → cond b Solved Running ≡ Unsolvable → ⊥
     go true e = unsolvable-solved (sym e)
@@ -123,7 +123,7 @@ pub running-if : (n : ℕ) (S : List Subproblem)
     → (verdictOf n S ≡ Running) ↔ ((verdictOf n S ≡ Unsolvable → ⊥) × (verdictOf n S ≡ Solved → ⊥))
 unfolding verdictOf
 running-if n [] = (λ e. absurd (unsolvable-running e), λ h. absurd (h .0 refl))
-running-if n (P ∷ S) = go (instantiated n P)
+running-if n (P ∷ S) = go (allInstantiated n P)
   where
     go : (b : Bool) → (cond b Solved Running ≡ Running) ↔ ((cond b Solved Running ≡ Unsolvable → ⊥) × (cond b Solved Running ≡ Solved → ⊥))
     go true = (λ e. absurd (solved-running e), λ h. absurd (h .1 refl))
@@ -131,7 +131,7 @@ running-if n (P ∷ S) = go (instantiated n P)
 
 -- ---- what "solved" shows
 
-pub solved-top : (n : ℕ) (S : List Subproblem) → verdictOf n S ≡ Solved → (P : Subproblem) × (T : List Subproblem) × (S ≡ P ∷ T) × (instantiated n P ≡ true)
+pub solved-top : (n : ℕ) (S : List Subproblem) → verdictOf n S ≡ Solved → (P : Subproblem) × (T : List Subproblem) × (S ≡ P ∷ T) × (allInstantiated n P ≡ true)
 unfolding verdictOf
 solved-top n [] e = absurd (unsolvable-solved e)
 solved-top n (P ∷ T) e = (P, T, refl, top-solved n P T e)

@@ -5,7 +5,7 @@ use Prim.Native.Nat.{ℕ}
 use Prim.Native.Char.{code}
 use Prim.Native.String.{String, [] as []ᵗ, _∷_ as _∷ᵗ_}
 use lib.Dec.{eqb}
-use Rattle.splits.specs.Subproblems.{instantiated}
+use Rattle.splits.specs.Subproblems.{allInstantiated}
 use Rattle.splits.specs.declared.subproblem.Subproblem.{Subproblem}
 use Rattle.search.specs.declared.state.Verdict.{Verdict}
 use Rattle.search.specs.declared.state.Verdict.the-variants.{None, Running, Solved, Unsolvable}
@@ -32,7 +32,7 @@ wordOf Unsolvable = ascii "unsolvable"
 -- Solved when the top subproblem has every variable instantiated, unsolvable when the agenda is empty, and otherwise running.
 unfoldable pub verdictOf : ℕ → List Subproblem → Verdict
 verdictOf n [] = Unsolvable
-verdictOf n (P ∷ S) = cond (instantiated n P) Solved Running
+verdictOf n (P ∷ S) = cond (allInstantiated n P) Solved Running
 
 -- A search is finished when its verdict is not running.
 unfoldable pub finished : ℕ → List Subproblem → Bool

@@ -15,7 +15,7 @@ ghost use Prim.Native.Nat.{_+_, _-_, _^_, _<_, _≤_};
 ghost use lib.ListN.{length, getD};
 ghost use Rattle.splits.specs.Masks.{size};
 ghost use Rattle.splits.specs.Problem.{tableOf, total};
-ghost use Rattle.splits.specs.Subproblems.{domain, instantiated};
+ghost use Rattle.splits.specs.Subproblems.{domain, allInstantiated};
 ghost use Rattle.splits.specs.Splits.{without, precludedBy, pieces};
 ghost use Rattle.splits.specs.Ranges.{Sized};
 ghost use Rattle.search.specs.Work.Slots.{SlotIn};
@@ -36,7 +36,7 @@ pub(crate) struct Choice {
 
 // Finds it.
 fn look(top: Subproblem, n: usize, d: usize, tables: &[u16], rows: &mut [[u16; 32]]) -> Choice
-    requires { ⌜ Sized n d (now tables) × (Regular n d top × ((instantiated n top ≡ false) × Rows 16 n d (now tables) (now rows))) ⌝ }
+    requires { ⌜ Sized n d (now tables) × (Regular n d top × ((allInstantiated n top ≡ false) × Rows 16 n d (now tables) (now rows))) ⌝ }
     ensures { λ r. ⌜ Found n d (now (tables .entry)) top r × Rows 16 n d (now (tables .entry)) (now (rows .exit)) ⌝ }
 {
     let domains = top.domains;

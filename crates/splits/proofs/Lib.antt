@@ -1,28 +1,28 @@
 pub mod Masks
-pub mod Halves
+mod Halves
 pub mod Tests
 pub mod Ranges
 pub mod Loops
 pub mod Domains
 pub mod Subproblems
-pub mod Rows
+mod Rows
 pub mod Looking
-pub mod Counting
+mod Counting
 pub mod ByKind
 mod Places
 pub mod Refusals
 pub mod Products
 pub mod Lists
-pub mod Weights
+mod Weights
 pub mod Pieces
 pub mod Splitting
-pub mod Valued
-pub mod Divided
-pub mod Placed
-pub mod OneByOne
+mod Valued
+mod Divided
+mod Placed
+mod OneByOne
 pub mod CheckLimit
 pub mod Apart
-pub mod Measures
-pub mod Consequences
-pub mod Shortcuts
+mod Measures
+mod Consequences
+mod Shortcuts
 pub mod Promises

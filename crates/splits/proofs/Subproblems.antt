@@ -12,7 +12,7 @@ use lib.Bits.{bitAnd, bitOr}
 use lib.Dec.{ltb, eqb}
 use borrow.Author.Tests.{lt-ltb, eq-eqb, ne-eqb, eqb-true}
 use Rattle.splits.specs.Masks.{bit, single, minus, common}
-use Rattle.splits.specs.Subproblems.{domain, some, empty, instantiated, every}
+use Rattle.splits.specs.Subproblems.{domain, some, empty, allInstantiated, every}
 use Rattle.splits.specs.Problem.{Table, tableOf}
 use Rattle.splits.specs.Requests.{targetOf}
 use Rattle.splits.specs.Calls.{inside}
@@ -131,13 +131,13 @@ pub shifted : (n : ℕ) → n ≤ 32 → 1 * 2 ^ n % 2 ^ 64 ≡ 2 ^ n
 shifted n h = let small : n < 64 = omega arith in simp one-mul (mod-eq-of-lt (pow-lt small))
 
 -- the test that the code makes of the marks
-pub marks-all : (P : Subproblem) (n : ℕ) → n ≤ 32 → eqb (P .marked % (1 * 2 ^ n % 2 ^ 64)) (1 * 2 ^ n % 2 ^ 64 - 1) ≡ instantiated n P
-unfolding instantiated
+pub marks-all : (P : Subproblem) (n : ℕ) → n ≤ 32 → eqb (P .marked % (1 * 2 ^ n % 2 ^ 64)) (1 * 2 ^ n % 2 ^ 64 - 1) ≡ allInstantiated n P
+unfolding allInstantiated
 marks-all P n h = rw (shifted n h) (low-all (P .marked) n)
 
 -- past 32 variables not all are instantiated
-pub marks-over : (P : Subproblem) (n : ℕ) → P .marked < 2 ^ 32 → 32 < n → false ≡ instantiated n P
-unfolding instantiated
+pub marks-over : (P : Subproblem) (n : ℕ) → P .marked < 2 ^ 32 → 32 < n → false ≡ allInstantiated n P
+unfolding allInstantiated
 marks-over P n h k =
     sym (every-not (λ i. eqb (bit (P .marked) i) 1) n 32 k (simp (bit-above 32 (P .marked) 32 h (le-refl 32))))
 

@@ -7,7 +7,7 @@ use lib.ListN.{length}
 use lib.Dec.{eqb, leb, ltb}
 use Rattle.splits.specs.Masks.{bit, size, lowest, smallerHalf}
 use Rattle.splits.specs.Problem.{tableOf}
-use Rattle.splits.specs.Subproblems.{domain, empty, instantiated}
+use Rattle.splits.specs.Subproblems.{domain, empty, allInstantiated}
 use Rattle.splits.specs.Requests.{kindOf, variableOf, valueOf}
 use Rattle.splits.specs.Splits.{instantiate, without, cut, cutEach, precluded, precludedBy, byKind, candidates, candidate}
 use Rattle.splits.specs.Checks.{checks}
@@ -47,7 +47,7 @@ abbrev pub Is-instantiated : Subproblem → ℕ → Bool → Type 0
 Is-instantiated P variable r = r ≡ eqb (bit (P .marked) variable) 1
 
 abbrev pub All-instantiated : Subproblem → ℕ → Bool → Type 0
-All-instantiated P n r = r ≡ instantiated n P
+All-instantiated P n r = r ≡ allInstantiated n P
 
 abbrev pub Is-empty : Subproblem → ℕ → Bool → Type 0
 Is-empty P n r = r ≡ empty n P

@@ -47,5 +47,5 @@ unfoldable pub empty : ℕ → Subproblem → Bool
 empty n P = some n (λ i. eqb (domain P i) 0)
 
 -- Whether each of the n variables is instantiated.
-unfoldable pub instantiated : ℕ → Subproblem → Bool
-instantiated n P = every n (λ i. eqb (bit (P .marked) i) 1)
+unfoldable pub allInstantiated : ℕ → Subproblem → Bool
+allInstantiated n P = every n (λ i. eqb (bit (P .marked) i) 1)

@@ -7,7 +7,7 @@ use lib.ListN.{length, getD, set}
 use lib.Dec.{eqb, ltb}
 use Rattle.splits.specs.Masks.{size, lowest}
 use Rattle.splits.specs.Problem.{tableOf}
-use Rattle.splits.specs.Subproblems.{domain, empty, instantiated}
+use Rattle.splits.specs.Subproblems.{domain, empty, allInstantiated}
 use Rattle.splits.specs.Splits.{precluded, without, pieces, cutEach, RowOf, precludedBy}
 use Rattle.splits.specs.declared.subproblem.Subproblem.{Subproblem}
 use Rattle.splits.specs.Ranges.{Sized}
@@ -49,7 +49,7 @@ requestBy c kind = request kind (c .variable) (c .value)
 pub record AtTop (n d : ℕ) (tables : List ℕ) (P : Subproblem) (c : Choice) (below words : ℕ) : Type 0 where
   pub fitting : Sized n d tables
   pub regular : Regular n d P
-  pub runs : instantiated n P ≡ false
+  pub runs : allInstantiated n P ≡ false
   pub found : Found n d tables P c
   pub slot : SlotIn n below words
 

@@ -6,7 +6,7 @@ use Prim.Native.Nat.{ℕ, _+_, _-_, _*_, _≤_}
 use lib.ListN.{length, replicate}
 use lib.Dec.{eqb, ltb}
 use Rattle.splits.specs.Problem.{tableOf}
-use Rattle.splits.specs.Subproblems.{instantiated, empty}
+use Rattle.splits.specs.Subproblems.{allInstantiated, empty}
 use Rattle.splits.specs.Splits.{pieces, candidate}
 use Rattle.splits.specs.Refusals.{refusalOf}
 use Rattle.splits.specs.Calls.{readable}
@@ -49,7 +49,7 @@ pub record Taking (n d : ℕ) (tables agenda : List ℕ) (P : Subproblem) (s : S
   pub ready : Ready n d tables agenda (searchOf n agenda s)
   pub some : 1 ≤ s .subproblems
   pub top : P ≡ subproblemOf n (slotAt n agenda (s .subproblems - 1))
-  pub runs : instantiated n P ≡ false
+  pub runs : allInstantiated n P ≡ false
 
 -- What a step or a run leaves that stops so.
 pub record StopsAt (n d : ℕ) (tables before after : List ℕ) (to : Stopped) (r : Stop) : Type 0 where
