@@ -209,11 +209,7 @@ fn runs() {
     one_run(b"kind 0", opened, &[0, 0, 0, 0, 0]);
     one_run(b"kind 6", opened, &[6, 0, 0, 0, 0]);
     one_run(b"V is n", opened, &[1, 2, 0, 0, 0]);
-    one_run(
-        b"V allInstantiated",
-        opened,
-        &[1, 0, 0, 0, 0, 1, 0, 0, 0, 0],
-    );
+    one_run(b"V instantiated", opened, &[1, 0, 0, 0, 0, 1, 0, 0, 0, 0]);
     one_run(b"v is d", opened, &[3, 0, 2, 0, 0]);
     one_run(
         b"v not in the domain",

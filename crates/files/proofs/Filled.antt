@@ -1,4 +1,4 @@
--- Memory that load fills from the front: the words of the content, columns, rows, copies with zeros after them.
+-- Memory that load and save fill from the front: the words of the content, columns, rows, copies with zeros after them.
 -- Assumes nothing.
 use mathlib.Core.Path.{_≡_, refl, sym, ap, ap₂, _∙_}
 use mathlib.Core.List.{List, [], _∷_, _++_, map, map-append, append-assoc, append-nil}
@@ -404,16 +404,17 @@ rows-few n d i s h =
 pub own-few : (n d i : ℕ) → Numbers n d → i < n → (i * d ≤ n * d) × (n * d ≤ 512)
 own-few n d i s h = (mul-le-mul-right d (omega arith), row-few n d s)
 
--- The masks of two variables are such a part of the words of a content; in another order of those of a variable with the ones before it; and
--- these of the tables, of which they are followed by the rest of a row.
+-- Words of a content that lie within it are a part of it.
 pub words-part : (from d words : ℕ) → words ≡ 25553 → from + d ≤ 25553 → Part from d words
 words-part from d words e h = part-fits from d words (omega arith) (omega arith)
 
+-- So are the masks of a variable with one before it, of those with all before it.
 pub own-part : (n d i j words : ℕ) → Numbers n d → i < n → j < i → words ≡ i * d → Part (j * d) d words
 own-part n d i j words s h l e =
     let few = own-few n d i s h in
     part-fits (j * d) d words (rw e (part-within j i d l)) (rw e (le-trans (few .0) (le-trans (few .1) (omega arith))))
 
+-- What a row of the tables asks of numbers: the masks before a variable's own place, then the rest.
 pub record TableRow (n d i words : ℕ) : Type 0 where
   pub own : Fits w64 (i * d)
   pub before : Part (i * (n * d)) (i * d) words
@@ -481,7 +482,7 @@ turned-fits words m from at d e h few within =
     let size : length (take ((from + d) - from) (drop from words)) ≡ d = part-long words from d (omega arith) in
     (omega arith, mid-len at (at + d) m within ∙ omega arith)
 
--- And those of the tables.
+-- The masks of all tables are few.
 pub tables-few : (n d : ℕ) → Numbers n d → (n * n ≤ 1024) × (n * n * d ≤ 16384)
 tables-few n d s =
     let square : n * n ≤ 32 * 32 = mul-le-mul (s .variables) (s .variables) in

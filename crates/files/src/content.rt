@@ -81,11 +81,11 @@ pub(crate) fn put(
     ensures { λ r. ⌜ now (words .exit) ≡ handedContent n d (now (domains .entry)) (now (tables .entry)) (now (agenda .entry)) state ++ replicate (25553 - wordCount n d (state .subproblems)) 0 ⌝ }
 {
     let first = header(n, d, state);
-    let last = 9 + n;
-    let from = agenda_from(n, d);
+    let masks = 9 + n;
+    let slots = agenda_from(n, d);
     let used = state.subproblems * (n + 2);
     copying::put_words(&first[..9], &mut words[..9]);
-    copying::put_words(domains, &mut words[9..last]);
-    put_masks(n, d, tables, &mut words[last..from]);
-    copying::put_padded(&agenda[..used], &mut words[from..]);
+    copying::put_words(domains, &mut words[9..masks]);
+    put_masks(n, d, tables, &mut words[masks..slots]);
+    copying::put_padded(&agenda[..used], &mut words[slots..]);
 }

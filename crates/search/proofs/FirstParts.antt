@@ -211,7 +211,7 @@ else-first r a b e f = e ∙ simp (ne-eqb a 0 (λ z. f (e ∙ z)))
 pub else-rest : (r a b : ℕ) → a ≡ 0 → r ≡ b → r ≡ orElse a b
 else-rest r a b e h = rw e h
 
--- where the first of two passes, both are 0
+-- where neither of two refuses, both are 0
 pub else-pass : (a b : ℕ) → orElse a b ≡ 0 → (a ≡ 0) × (b ≡ 0)
 else-pass a b e = elim (ℕ-discrete a 0) [
   | yes z ↦ (z, rw z at e)

@@ -129,8 +129,8 @@ fn further_piece(further: Further, sides: &[u16], j: usize) -> Subproblem
     further.rest.cut_each(lanes::further(row, sides, j))
 }
 
-// Kind 3's pieces, the last named in the place of the top, the others above; the number of subproblems then. Of `d` and `tables` the contract
-// speaks here and in `put_two`: the code has the choice's row.
+// Kind 3's pieces, the last named in the place of the top, the others above; the number of subproblems then. `d` and `tables` are for
+// the contract alone, here and in `put_two`: the code has the choice's row.
 fn spread(
     top: Subproblem,
     n: usize,
@@ -184,7 +184,7 @@ pub(crate) struct Left {
 }
 
 // The pieces of the rule's request in the place of the top, which stood in slot `below`: one at most, else kind 3's if they have room, else kind 2's
-// if these have.
+// if these have, else none, and 12.
 fn put(
     top: Subproblem,
     n: usize,

@@ -1,4 +1,4 @@
-// Rows: what is allowed beside a value of a variable, for all variables at once; those made are kept.
+// Rows: what is allowed beside a value of a variable, for all variables at once; the last made in each place is kept.
 ghost use mathlib.Core.Path.{_≡_};
 ghost use Prim.Native.Nat.{_≤_};
 ghost use Rattle.splits.specs.Problem.{tableOf};
@@ -32,7 +32,8 @@ fn made(n: usize, d: usize, tables: &[u16], variable: usize, value: usize) -> [u
     row
 }
 
-// The same out of the rows, `width` of them for each variable, made in its place among them unless it is there.
+// The same out of the rows, `width` of them for each variable, made in its place among them unless it is there:
+// then it has the value alone at its own variable.
 pub(crate) fn row(
     n: usize,
     d: usize,

@@ -84,7 +84,7 @@ fn missing(held: [u16; 32], row: [u16; 32]) -> u16
     wrong
 }
 
-// Whether every instantiated variable has one value, and every other what is allowed beside it.
+// Whether every instantiated variable has one value, and every other instantiated one what is allowed beside it.
 fn marks_obey(
     slot: &[u16],
     marked: u32,

@@ -125,7 +125,8 @@ pub fn candidates(n: usize, request: &[u16]) -> usize
     }
 }
 
-// Kinds 1 to 3, which split around a value. The subproblem itself where the words do not fit.
+// Kinds 1 to 3, which split around a value. The subproblem itself where the words do not fit. Each arm returns, here and in `piece`: the prover
+// then has no place where pieces meet.
 fn around_value(
     top: Subproblem,
     n: usize,

@@ -7,12 +7,12 @@ use lib.Bits.{bitOr}
 use lib.ListN.{length, getD}
 use lib.Dec.{eqb, ltb}
 use Rattle.splits.specs.Masks.{bit, single, minus, lowest}
-use Rattle.splits.specs.Problem.{Problem, Table, tableOf}
+use Rattle.splits.specs.Problem.{Table, tableOf}
 use Rattle.splits.specs.Subproblems.{domain, every}
 use Rattle.splits.specs.Ranges.{Sized}
 use Rattle.splits.specs.declared.subproblem.Subproblem.{Subproblem}
 use Rattle.search.specs.Agenda.{problemOf, subproblemOf, slotAt}
-use Rattle.search.specs.FirstChecks.{refusalOfProblem, obeys}
+use Rattle.search.specs.FirstChecks.{refusalOfProblem}
 use Rattle.search.specs.Work.Matrices.{matrixOf, columns, difference}
 
 -- What refusals 1, 2 and 3 leave of the problem's words.

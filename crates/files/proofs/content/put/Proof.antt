@@ -13,8 +13,8 @@ use Rattle.files.proofs.content.put.Tie as tie
 header-requires : tie.Need-header-requires
 header-requires c κs = (c .before .before .before .before .pre .0 .numbers, c .before .before .before .before .pre .0 .few)
 
-add-last : tie.Need-add-last
-add-last c = search needs
+add-masks : tie.Need-add-masks
+add-masks c = search needs
 
 agenda-from-requires : tie.Need-agenda-from-requires
 agenda-from-requires c κs = search needs
@@ -93,7 +93,7 @@ put-spec =
     tie.close
     (tie.spec
     header-requires
-    add-last
+    add-masks
     agenda-from-requires
     add-used
     mul-used
