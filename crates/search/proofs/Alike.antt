@@ -18,7 +18,7 @@ use Rattle.splits.proofs.Tests.{every-at, every-all}
 use Rattle.search.specs.Agenda.{problemOf, holding, subproblemOf, slotAt}
 use Rattle.search.specs.Work.Slots.{SlotIn}
 use Rattle.search.specs.Work.FirstTests.{Mirrored, Next, heldAt, besideAt, markObeys, SameMarks, AsBelow, TellsSame, TellsBelow, MarksKnown}
-use Rattle.search.proofs.Encoding.{slot-part, slot-long}
+use Rattle.search.proofs.Encoding.{slot-long}
 use Rattle.search.proofs.Copies.{slot-below}
 use Rattle.search.proofs.Obeying.{is-marked}
 use Rattle.search.proofs.FirstParts.{slotObeys}
@@ -90,15 +90,12 @@ known-below n d domains tables agenda k fits slot e h =
     (slot-known n d domains tables (slotAt n agenda (k - 1)) (fits .fitting .words) (slot-long n (k - 1) agenda below) (fits .passed) (fits .fitting .sized .small)
     (every-at (slotObeys (problemOf n d domains tables) n agenda) k (k - 1) (omega (arith, h .0)) e))
 
--- As the code lends the slots.
-module _ (n k : ℕ) (agenda : List ℕ) where
-  abbrev part : ℕ → List ℕ
-  part j = take ((j * (n + 2) + (n + 2)) - j * (n + 2)) (drop (j * (n + 2)) agenda)
-
-  pub tells-below : (r : Bool) → (k ≡ 0 → ⊥) → TellsSame n (part k) (part (k - 1)) r → TellsBelow n agenda k r
-  tells-below r h t e =
-      (omega arith, subst (λ (l : List ℕ). SameMarks n l (slotAt n agenda (k - 1))) (slot-part n k agenda) (subst (SameMarks n (part k)) (slot-part n (k - 1) agenda) (t e)))
+-- As the code has the words of the slots.
+module _ (n k : ℕ) (agenda words : List ℕ) (own : words ≡ slotAt n agenda k) where
+  pub tells-below : (lower : List ℕ) (r : Bool) → (k ≡ 0 → ⊥) → lower ≡ slotAt n agenda (k - 1) → TellsSame n words lower r → TellsBelow n agenda k r
+  tells-below lower r h under t e =
+      (omega arith, subst (λ (l : List ℕ). SameMarks n l (slotAt n agenda (k - 1))) own (subst (SameMarks n words) under (t e)))
 
   pub marks-known : (d : ℕ) (domains tables : List ℕ) (r : Bool) → Mirrored n d domains tables → SlotIn n k (length agenda)
-      → every k (slotObeys (problemOf n d domains tables) n agenda) ≡ true → TellsBelow n agenda k r → MarksKnown n d tables (part k) r
-  marks-known d domains tables r fits slot e t h = rw (slot-part n k agenda) (known-below n d domains tables agenda k fits slot e (t h))
+      → every k (slotObeys (problemOf n d domains tables) n agenda) ≡ true → TellsBelow n agenda k r → MarksKnown n d tables words r
+  marks-known d domains tables r fits slot e t h = rw own (known-below n d domains tables agenda k fits slot e (t h))

@@ -38,11 +38,6 @@ pub slot-long : (n k : ℕ) (l : List ℕ) → SlotIn n k (length l) → length 
 unfolding slotAt
 slot-long n k l s = length-take-le (n + 2) (drop (k * (n + 2)) l) (rw length-drop (omega (arith, s .within)))
 
--- Slot k is a part of the agenda.
-pub slot-read : (n k : ℕ) (l : List ℕ) (r : Subproblem) → r ≡ subproblemOf n (take ((k * (n + 2) + (n + 2)) - k * (n + 2)) (drop (k * (n + 2)) l))
-    → r ≡ subproblemOf n (slotAt n l k)
-slot-read n k l r e = e ∙ ap (subproblemOf n) (slot-part n k l)
-
 -- The subproblem of slot k: its masks where they lie, its set in the two words after them.
 pub slot-lies : (n k m : ℕ) (agenda words : List ℕ) → take n words ≡ take n (drop (k * (n + 2)) agenda)
     → m ≡ getD agenda (k * (n + 2) + n) 0 * 65536 + getD agenda (k * (n + 2) + n + 1) 0 → holding n words m ≡ subproblemOf n (slotAt n agenda k)

@@ -182,7 +182,9 @@ not-idle r w = omega (arith, ap (λ (l : List ℕ). getD l 1 0) (Planners.says _
 pub not-solved-at-once : Not-solved-at-once
 not-solved-at-once after r h w =
     ⊎-elim (λ e. let one = ap numberOf (Planners.says after r w .verdict) in omega (arith, e, one))
-    (λ e. let third = ap (λ (l : List ℕ). getD l 3 0) (Planners.says after r w .agenda) in omega (arith, e, third)) h
+    (λ w′. let left = Planners.says after r w .agenda in
+    ⊎-elim (λ e. let third = ap (λ (l : List ℕ). getD l 3 0) left in omega (arith, e, third))
+    (λ e. let seventh = ap (λ (l : List ℕ). getD l 7 0) left in omega (arith, e, seventh)) w′) h
 
 pub not-invented : Not-invented
 not-invented after r h w = ⊎-elim (λ k. k (Planners.says after r w .steps)) (λ k. k (Planners.says after r w .checks)) h

@@ -440,9 +440,9 @@ Not-always-unsolvable = (after : List ℕ) (r : Ran) → numberOf (r .verdict) �
 abbrev pub Not-idle : Type 0
 Not-idle = (r : Ran) → Right (1 ∷ 3 ∷ 0 ∷ 0 ∷ 0 ∷ 0 ∷ 0 ∷ 0 ∷ []) r → ⊥
 
--- One that solves wholly in its first step and then idles: it says solved, or leaves both variables of its top instantiated, whatever it says.
+-- One that solves wholly in its first step and then idles: it says solved, or leaves both variables instantiated in either slot, whatever it says.
 abbrev pub Not-solved-at-once : Type 0
-Not-solved-at-once = (after : List ℕ) (r : Ran) → (numberOf (r .verdict) ≡ 2) ⊎ (getD after 3 0 ≡ 3) → Right after r → ⊥
+Not-solved-at-once = (after : List ℕ) (r : Ran) → (numberOf (r .verdict) ≡ 2) ⊎ (getD after 3 0 ≡ 3) ⊎ (getD after 7 0 ≡ 3) → Right after r → ⊥
 
 -- One with invented counts: other than 2 steps, or other than 1 check.
 abbrev pub Not-invented : Type 0

@@ -31,12 +31,13 @@ step p r s =
     checksOf [] = 0
     checksOf (P ∷ S) = checks (p .n) (p .allowed) P r
 
--- The refusal of a request by a search that runs, in the order 11, 7, 8, 9, 10, 12; 0 for none.
+-- The refusal of a request for the top of a stack, in the order 7, 8, 9, 10, 12; 0 for none.
 unfoldable pub refusalOfTop : Problem → ℕ → List ℕ → List Subproblem → ℕ
 refusalOfTop p room r [] = 0
 refusalOfTop p room r (P ∷ S) =
     cond (eqb (refusalOf (p .n) (p .d) P r) 0) (cond (ltb room (length (splitTop p r (P ∷ S)))) 12 0) (refusalOf (p .n) (p .d) P r)
 
+-- The refusal of a request by a search that runs: 11 before these.
 unfoldable pub refusalOfRequest : Problem → ℕ → List ℕ → Search → ℕ
 refusalOfRequest p room r s = cond (eqb (s .steps) 4294967295) 11 (refusalOfTop p room r (s .stack))
 

@@ -38,6 +38,16 @@ pub(crate) fn marked_at(words: &[u16], at: usize) -> u32
     marked_of(words[at], words[at + 1])
 }
 
+// The words of slot `k`.
+pub(crate) fn slot(n: usize, agenda: &[u16], k: usize) -> &[u16]
+    requires { ⌜ SlotIn n k (length (now agenda)) ⌝ }
+    ensures { λ r. ⌜ (now r ≡ slotAt n (now (agenda .entry)) k) × (length (now r) ≡ n + 2) ⌝ }
+{
+    let at = k * (n + 2);
+    let end = at + (n + 2);
+    &agenda[at..end]
+}
+
 // The subproblem in slot `k`.
 pub(crate) fn read_slot(n: usize, agenda: &[u16], k: usize) -> Subproblem
     requires { ⌜ SlotIn n k (length (now agenda)) ⌝ }

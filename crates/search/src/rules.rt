@@ -135,11 +135,11 @@ fn as_below(n: usize, agenda: &[u16], k: usize) -> bool
     if k == 0 {
         return false;
     }
-    let at = k * (n + 2);
-    let end = at + (n + 2);
-    let below = (k - 1) * (n + 2);
-    let last = below + (n + 2);
-    same_marks(&agenda[at..end], &agenda[below..last], n)
+    same_marks(
+        agenda::slot(n, agenda, k),
+        agenda::slot(n, agenda, k - 1),
+        n,
+    )
 }
 
 // Whether the subproblem in the words of a slot obeys the rules; `known`: its instantiated variables do.
@@ -185,9 +185,8 @@ pub(crate) fn all_obey(
     let mut k = 0;
     while k < count {
         let known = as_below(n, agenda, k);
-        let at = k * (n + 2);
-        let end = at + (n + 2);
-        if !obeys(&agenda[at..end], n, d, domains, tables, &mut rows, known) {
+        let slot = agenda::slot(n, agenda, k);
+        if !obeys(slot, n, d, domains, tables, &mut rows, known) {
             return false;
         }
         k += 1;

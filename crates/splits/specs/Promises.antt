@@ -65,7 +65,7 @@ Apart-at p P kind l =
 abbrev pub Falls-at : Problem → Subproblem → ℕ → List Subproblem → Type 0
 Falls-at p P kind l = sum (measure (p .n)) l + 1 ≤ measure (p .n) P
 
--- The seven promises of an accepted split, and what "solved" promises.
+-- The seven promises of an accepted split.
 abbrev pub Sound : Type 0
 Sound = Always Sound-at
 

@@ -1,4 +1,4 @@
--- What a call that reads the tables needs of its numbers, as propositions.
+-- What a function that reads the tables needs of its numbers: for the private functions of this layer and the next, which ask for it.
 use mathlib.Core.Path.{_≡_}
 use mathlib.Core.List.{List}
 use Prim.Native.Nat.{ℕ, _*_, _≤_, _<_}

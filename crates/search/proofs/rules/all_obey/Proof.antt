@@ -1,13 +1,12 @@
 -- `rules::all_obey` meets its contract: the loop's invariant: the subproblem of every slot passed obeys the rules.
 -- Assumes nothing.
 use mathlib.Core.Bool.{true}
-use mathlib.Core.Path.{_≡_, refl, _∙_}
+use mathlib.Core.Path.{_≡_, ap, _∙_}
 use Prim.Native.Nat.{_-_, _≤_}
 use native.Mathlib.Omega.{arith}
 use Rattle.splits.specs.Subproblems.{every}
-use Rattle.search.specs.Agenda.{problemOf}
+use Rattle.search.specs.Agenda.{problemOf, subproblemOf}
 use Rattle.search.proofs.Copies.{slot-below}
-use Rattle.search.proofs.Encoding.{slot-read}
 use Rattle.search.proofs.FirstLoops.{every-start, every-stop, every-turn, every-end}
 use Rattle.search.proofs.FirstParts.{slotObeys, all-slots, slot-obeys}
 use Rattle.search.specs.Work.Lanes.{Rows}
@@ -29,38 +28,22 @@ loop-holds c = (omega arith, (every-start _, rows-none 1 _ _ _))
 as-below-requires : tie.Need-as-below-requires Inv-loop μ-loop
 as-below-requires c κs = slot-below _ _ _ _ (c .before .before .before .before .before .pre .0 .fitting .sized .few) (c .loop-test .taken) (c .before .before .before .before .before .pre .1)
 
-add-at : tie.Need-add-at Inv-loop μ-loop
-add-at c = omega (arith, slot-below _ _ _ _ (c .before .before .before .before .before .before .pre .0 .fitting .sized .few) (c .before .loop-test .taken) (c .before .before .before .before .before .before .pre .1))
-
-mul-at : tie.Need-mul-at Inv-loop μ-loop
-mul-at c = omega (arith, slot-below _ _ _ _ (c .before .before .before .before .before .before .pre .0 .fitting .sized .few) (c .before .loop-test .taken) (c .before .before .before .before .before .before .pre .1))
-
-add-end : tie.Need-add-end Inv-loop μ-loop
-add-end c = omega (arith, slot-below _ _ _ _ (c .before .before .before .before .before .before .pre .0 .fitting .sized .few) (c .before .loop-test .taken) (c .before .before .before .before .before .before .pre .1))
-
-add-end-2 : tie.Need-add-end-2 Inv-loop μ-loop
-add-end-2 c = omega (arith, slot-below _ _ _ _ (c .before .before .before .before .before .before .pre .0 .fitting .sized .few) (c .before .loop-test .taken) (c .before .before .before .before .before .before .pre .1))
-
-mul-obeys : tie.Need-mul-obeys Inv-loop μ-loop
-mul-obeys c = omega (arith, slot-below _ _ _ _ (c .before .before .before .before .before .before .pre .0 .fitting .sized .few) (c .before .loop-test .taken) (c .before .before .before .before .before .before .pre .1))
-
-sub-obeys : tie.Need-sub-obeys Inv-loop μ-loop
-sub-obeys c = omega (arith, slot-below _ _ _ _ (c .before .before .before .before .before .before .pre .0 .fitting .sized .few) (c .before .loop-test .taken) (c .before .before .before .before .before .before .pre .1))
-
-part-obeys-start : tie.Need-part-obeys-start Inv-loop μ-loop
-part-obeys-start c = omega (arith, slot-below _ _ _ _ (c .before .before .before .before .before .before .pre .0 .fitting .sized .few) (c .before .loop-test .taken) (c .before .before .before .before .before .before .pre .1))
-
-part-obeys-end : tie.Need-part-obeys-end Inv-loop μ-loop
-part-obeys-end c = omega (arith, slot-below _ _ _ _ (c .before .before .before .before .before .before .pre .0 .fitting .sized .few) (c .before .loop-test .taken) (c .before .before .before .before .before .before .pre .1))
+slot-requires : tie.Need-slot-requires Inv-loop μ-loop
+slot-requires c κs = slot-below _ _ _ _ (c .before .before .before .before .before .before .pre .0 .fitting .sized .few) (c .before .loop-test .taken) (c .before .before .before .before .before .before .pre .1)
 
 slice-aggregate-obeys : tie.Need-slice-aggregate-obeys Inv-loop μ-loop
 slice-aggregate-obeys c = omega arith
 
 obeys-requires : tie.Need-obeys-requires Inv-loop μ-loop
-obeys-requires c κs = let p = c .before .before .before .before .before .before .before .before .pre in let inv = c .before .before .before .before .loop .inv .1 in (p .0, (search needs, (marks-known _ _ _ _ (c .before .before .before .before .before .before .before .before .args .domains .now) _ _ (p .0) (slot-below _ _ _ _ (c .before .before .before .before .before .before .before .before .pre .0 .fitting .sized .few) (c .before .before .before .loop-test .taken) (c .before .before .before .before .before .before .before .before .pre .1)) (inv .0) (c .before .before .as-below .ensures), inv .1)))
+obeys-requires c κs =
+    let p = c .before .before .before .before .before .before .before .before .pre in
+    let inv = c .before .before .before .before .loop .inv .1 in
+    let own = c .before .slot .ensures in
+    let lies = slot-below _ _ _ _ (p .0 .fitting .sized .few) (c .before .before .before .loop-test .taken) (p .1) in
+    (p .0, (own .1, (marks-known _ _ _ _ (own .0) _ (c .before .before .before .before .before .before .before .before .args .domains .now) _ _ (p .0) lies (inv .0) (c .before .before .as-below .ensures), inv .1)))
 
 returns : tie.Need-returns Inv-loop μ-loop
-returns c = every-stop _ _ _ _ (c .before .before .before .before .before .before .loop-test .taken) (slot-obeys _ _ _ _ _ _ (slot-read _ _ _ _ refl) (c .before .before .obeys .ensures .0)) (c .if1 .taken) ∙ all-slots _ _ _ _
+returns c = every-stop _ _ _ _ (c .before .before .before .before .before .before .loop-test .taken) (slot-obeys _ _ _ _ _ _ (ap (subproblemOf _) (c .before .before .before .before .slot .ensures .0)) (c .before .before .obeys .ensures .0)) (c .if1 .taken) ∙ all-slots _ _ _ _
 
 add-k : tie.Need-add-k Inv-loop μ-loop
 add-k c = search needs
@@ -69,7 +52,7 @@ loop-less : tie.Need-loop-less Inv-loop μ-loop
 loop-less c = search needs
 
 loop-again : tie.Need-loop-again Inv-loop μ-loop
-loop-again c = (omega arith, (every-turn _ _ _ (c .before .before .before .before .before .before .before .loop .inv .1 .0) (slot-obeys _ _ _ _ _ _ (slot-read _ _ _ _ refl) (c .before .before .obeys .ensures .0)) (c .if1 .left), c .before .before .obeys .ensures .1))
+loop-again c = (omega arith, (every-turn _ _ _ (c .before .before .before .before .before .before .before .loop .inv .1 .0) (slot-obeys _ _ _ _ _ _ (ap (subproblemOf _) (c .before .before .before .before .slot .ensures .0)) (c .before .before .obeys .ensures .0)) (c .if1 .left), c .before .before .obeys .ensures .1))
 
 returns-2 : tie.Need-returns-2 Inv-loop μ-loop
 returns-2 c = every-end _ _ _ (c .before .loop .inv .0) (c .loop-test .left) (c .before .loop .inv .1 .0) ∙ all-slots _ _ _ _
@@ -82,14 +65,7 @@ all-obey-spec =
     μ-loop
     loop-holds
     as-below-requires
-    add-at
-    mul-at
-    add-end
-    add-end-2
-    mul-obeys
-    sub-obeys
-    part-obeys-start
-    part-obeys-end
+    slot-requires
     slice-aggregate-obeys
     obeys-requires
     returns
