@@ -51,10 +51,11 @@ slot-lies n k m agenda words e s =
     let marks : m ≡ getD (take (n + 2) (drop (k * (n + 2)) agenda)) n 0 * 65536 + getD (take (n + 2) (drop (k * (n + 2)) agenda)) (n + 1) 0 = s ∙ rw (one, two) refl in
     λ i. record { domains = front i ++ replicate (32 - n) 0; marked = marks i }
 
--- The same of words that go on past the slot.
-pub slot-from : (n k m w : ℕ) (agenda : List ℕ) (r : Subproblem) → r ≡ holding n (take w (drop (k * (n + 2)) agenda)) m
-    → m ≡ getD agenda (k * (n + 2) + n) 0 * 65536 + getD agenda (k * (n + 2) + n + 1) 0 → n ≤ w → r ≡ subproblemOf n (slotAt n agenda k)
-slot-from n k m w agenda r e s h = e ∙ slot-lies n k m agenda _ (take-take n w (drop (k * (n + 2)) agenda) h) s
+-- The same of the words of the slot alone.
+pub slot-read : (n k m : ℕ) (agenda words : List ℕ) (r : Subproblem) → words ≡ slotAt n agenda k → m ≡ getD words n 0 * 65536 + getD words (n + 1) 0
+    → r ≡ holding n words m → r ≡ subproblemOf n (slotAt n agenda k)
+unfolding subproblemOf
+slot-read n k m agenda words r own marks e = e ∙ ap (holding n words) marks ∙ ap (subproblemOf n) own
 
 -- A slot has n + 2 words.
 pub length-slot : (n : ℕ) (P : Subproblem) → n ≤ length (P .domains) → length (slotWords n P) ≡ n + 2

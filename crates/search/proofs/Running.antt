@@ -23,7 +23,7 @@ use Rattle.search.specs.Work.Slots.{SlotIn}
 use Rattle.search.specs.Work.Kept.{Regular, Ready}
 use Rattle.search.specs.Work.Steps.{Taking, StopsAt}
 use Rattle.search.specs.Work.Choices.{chosenFor}
-use Rattle.search.specs.Work.Ends.{Used}
+use Rattle.search.specs.Work.Ends.{Used, requestAt}
 use Rattle.search.specs.declared.state.State.{State}
 use Rattle.search.specs.declared.state.Verdict.the-variants.{Running, Solved, Unsolvable}
 use Rattle.search.specs.declared.step.Stop.{Stop}
@@ -161,28 +161,22 @@ module _ (n d : ℕ) (t requests before : List ℕ) (start : State) (agenda : Li
         same = g .room;
       })
 
-  module _ (more : taken < length requests / (n + 3)) (after : List ℕ) (stop : Stop)
-      (stepped : StopsAt n d t agenda after (runFrom (problemOf n d [] t) (slotsIn n (length agenda))
-      (take ((taken * (n + 3) + (n + 3)) - taken * (n + 3)) (drop (taken * (n + 3)) requests) ∷ []) (searchOf n agenda s) 0) stop) where
-    -- The request that was taken, and the run from it on.
-    request : List ℕ
-    request = take (n + 3) (drop (taken * (n + 3)) requests)
-
+  module _ (more : taken < length requests / (n + 3)) (after : List ℕ) (stop : Stop) (request : List ℕ) (own : request ≡ requestAt n requests taken)
+      (stepped : StopsAt n d t agenda after (runFrom (problemOf n d [] t) (slotsIn n (length agenda)) (request ∷ []) (searchOf n agenda s) 0) stop) where
+    -- The run of the request alone.
     one : Stopped
     one = runFrom (problemOf n d [] t) (slotsIn n (length before)) (request ∷ []) (searchOf n agenda s) 0
 
     -- The step that was made.
     one-stops : StopsAt n d t agenda after one stop
-    unfolding one request
-    one-stops =
-        let w : (taken * (n + 3) + (n + 3)) - taken * (n + 3) ≡ n + 3 = omega arith in
-        rw (w, g .room) at stepped
+    unfolding one
+    one-stops = rw (g .room) at stepped
 
     -- The run from the request on.
     from-here : run (problemOf n d [] t) (slotsIn n (length before)) (requestsIn n requests) (searchOf n before start)
         ≡ runFrom (problemOf n d [] t) (slotsIn n (length before)) (request ∷ drop (taken + 1) (requestsIn n requests)) (searchOf n agenda s) taken
-    unfolding requestsIn request
-    from-here = g .same ∙ rw (add-one, cut-next taken (length requests / (n + 3)) (n + 3) requests more) refl
+    unfolding requestsIn requestAt
+    from-here = g .same ∙ rw (add-one, own, cut-next taken (length requests / (n + 3)) (n + 3) requests more) refl
 
     -- A request that was taken.
     pub going-on : (stop .taken ≡ 0 → ⊥) → Going n d t requests before start after (stop .state) (taken + 1)
@@ -213,7 +207,11 @@ module _ (n d : ℕ) (t requests before : List ℕ) (start : State) (agenda : Li
           same = one-stops .same ∙ g .room;
         })
 
--- The words of a request lie within the list.
+-- The words of a request are a part of the list, and lie within it.
+pub request-part : (n k : ℕ) (requests : List ℕ) → take ((k * (n + 3) + (n + 3)) - k * (n + 3)) (drop (k * (n + 3)) requests) ≡ requestAt n requests k
+unfolding requestAt
+request-part n k requests = let w : (k * (n + 3) + (n + 3)) - k * (n + 3) ≡ n + 3 = omega arith in rw w refl
+
 pub request-within : (n k words : ℕ) → k < words / (n + 3) → k * (n + 3) + (n + 3) ≤ words
 request-within n k words h =
     let up : (k + 1) * (n + 3) ≤ words / (n + 3) * (n + 3) = mul-le-mul-right (n + 3) (omega arith) in

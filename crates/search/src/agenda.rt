@@ -53,8 +53,8 @@ pub(crate) fn read_slot(n: usize, agenda: &[u16], k: usize) -> Subproblem
     requires { ⌜ SlotIn n k (length (now agenda)) ⌝ }
     ensures { λ r. ⌜ r ≡ subproblemOf n (slotAt n (now (agenda .entry)) k) ⌝ }
 {
-    let at = k * (n + 2);
-    holding(n, &agenda[at..], marked_at(agenda, at + n))
+    let words = slot(n, agenda, k);
+    holding(n, words, marked_at(words, n))
 }
 
 // The first 32 words, each kept by its own lane.

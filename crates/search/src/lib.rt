@@ -19,6 +19,7 @@ use crate::state::Steps;
 use crate::state::Verdict;
 use crate::step::Stop;
 ghost use mathlib.Core.Path.{_≡_};
+ghost use Prim.Native.Nat.{_+_, _/_, _≤_, _<_};
 ghost use lib.ListN.{length};
 ghost use Rattle.search.specs.Agenda.{stackOf, agendaOf};
 ghost use Rattle.search.specs.Verdicts.{verdictOf};
@@ -26,7 +27,7 @@ ghost use Rattle.search.specs.Calls.{opening, searchOf, Opens, Runs, Cho
 ghost use Rattle.search.specs.Work.Kept.{Ready};
 ghost use Rattle.search.specs.Work.Steps.{TakesOne, TakesAll, ChoosesOne, ChoosesAll};
 ghost use Rattle.search.specs.Work.Lanes.{Rows, Below};
-ghost use Rattle.search.specs.Work.Ends.{Openable, Used, endedBy};
+ghost use Rattle.search.specs.Work.Ends.{Openable, Used, requestAt, endedBy};
 
 // Opens a search.
 pub fn open(n: usize, d: usize, domains: &[u16], tables: &[u16], agenda: &mut [u16]) -> Opened
@@ -98,6 +99,16 @@ pub fn run(
     ended(n, agenda, stop)
 }
 
+// The words of request `k` of a list.
+fn request_at(n: usize, requests: &[u16], k: usize) -> &[u16]
+    requires { ⌜ (n ≤ 32) × (k < length (now requests) / (n + 3)) ⌝ }
+    ensures { λ r. ⌜ now r ≡ requestAt n (now (requests .entry)) k ⌝ }
+{
+    let at = k * (n + 3);
+    let end = at + (n + 3);
+    &requests[at..end]
+}
+
 // The requests one by one, until one is not taken.
 fn run_on(
     n: usize,
@@ -114,9 +125,8 @@ fn run_on(
     let mut state = state;
     let mut taken = 0;
     while taken < count {
-        let at = taken * (n + 3);
-        let end = at + (n + 3);
-        let mut stop = step_by(n, d, tables, agenda, &requests[at..end], state);
+        let request = request_at(n, requests, taken);
+        let mut stop = step_by(n, d, tables, agenda, request, state);
         state = stop.state;
         if stop.taken == 0 {
             stop.taken = taken;

@@ -24,29 +24,8 @@ div-count c = omega arith
 loop-holds : tie.Need-loop-holds Inv-loop μ-loop
 loop-holds c = (search needs, going-none _ _ _ _ _ _ (c .before .before .before .pre))
 
-add-at : tie.Need-add-at Inv-loop μ-loop
-add-at c = record { fits = omega (arith, c .before .before .before .before .before .pre .fitting .few) }
-
-mul-at : tie.Need-mul-at Inv-loop μ-loop
-mul-at c = record { fits = omega (arith, request-within (c .before .before .before .before .before .args .n) (c .before .loop .taken) (length (c .before .before .before .before .before .args .requests .now)) (c .loop-test .taken)) }
-
-add-end : tie.Need-add-end Inv-loop μ-loop
-add-end c = record { fits = omega (arith, c .before .before .before .before .before .pre .fitting .few) }
-
-add-end-2 : tie.Need-add-end-2 Inv-loop μ-loop
-add-end-2 c = record { fits = omega (arith, request-within (c .before .before .before .before .before .args .n) (c .before .loop .taken) (length (c .before .before .before .before .before .args .requests .now)) (c .loop-test .taken)) }
-
-mul-step-by : tie.Need-mul-step-by Inv-loop μ-loop
-mul-step-by c = record { fits = omega (arith, request-within (c .before .before .before .before .before .before .args .n) (c .before .before .loop .taken) (length (c .before .before .before .before .before .before .args .requests .now)) (c .before .loop-test .taken)) }
-
-sub-step-by : tie.Need-sub-step-by Inv-loop μ-loop
-sub-step-by c = omega arith
-
-part-step-by-start : tie.Need-part-step-by-start Inv-loop μ-loop
-part-step-by-start c = omega arith
-
-part-step-by-end : tie.Need-part-step-by-end Inv-loop μ-loop
-part-step-by-end c = request-within (c .before .before .before .before .before .before .args .n) (c .before .before .loop .taken) (length (c .before .before .before .before .before .before .args .requests .now)) (c .before .loop-test .taken)
+request-at-requires : tie.Need-request-at-requires Inv-loop μ-loop
+request-at-requires c κs = (c .before .before .before .before .before .pre .fitting .few, c .loop-test .taken)
 
 step-by-requires : tie.Need-step-by-requires Inv-loop μ-loop
 step-by-requires c κs = c .before .before .before .loop .inv .1 .ready
@@ -55,16 +34,16 @@ same-length : tie.Need-same-length Inv-loop μ-loop
 same-length c = c .before .before .before .before .before .step-by .ensures .same ∙ c .before .before .before .before .before .before .before .before .before .loop .inv .1 .room
 
 returns : tie.Need-returns Inv-loop μ-loop
-returns c = going-stops _ _ _ _ _ _ _ _ _ (c .before .before .before .before .before .before .before .before .before .loop .inv .1) (c .before .before .before .before .before .before .before .before .loop-test .taken) _ _ (c .before .before .before .before .before .step-by .ensures) (c .if1 .taken)
+returns c = going-stops _ _ _ _ _ _ _ _ _ (c .before .before .before .before .before .before .before .before .before .loop .inv .1) (c .before .before .before .before .before .before .before .before .loop-test .taken) _ _ _ (c .before .before .before .before .before .before .before .request-at .ensures) (c .before .before .before .before .before .step-by .ensures) (c .if1 .taken)
 
 add-taken : tie.Need-add-taken Inv-loop μ-loop
-add-taken c = record { fits = omega (arith, request-within (c .before .before .before .before .before .before .before .before .before .before .before .before .before .args .n) (c .before .before .before .before .before .before .before .before .before .loop .taken) (length (c .before .before .before .before .before .before .before .before .before .before .before .before .before .args .requests .now)) (c .before .before .before .before .before .before .before .before .loop-test .taken)) }
+add-taken c = record { fits = omega (arith, request-within (c .before .before .before .before .before .before .before .before .before .before .before .before .before .args .n) (c .before .before .before .before .before .before .before .before .before .loop .taken) (length (c .before .before .before .before .before .before .before .before .before .before .before .before .before .args .requests .now)) (c .before .before .before .before .before .before .before .before .loop-test .taken), c .before .before .before .before .before .before .before .before .before .before .before .before .before .good) }
 
 loop-less : tie.Need-loop-less Inv-loop μ-loop
 loop-less c = search needs
 
 loop-again : tie.Need-loop-again Inv-loop μ-loop
-loop-again c = (omega arith, going-on _ _ _ _ _ _ _ _ _ (c .before .before .before .before .before .before .before .before .before .loop .inv .1) (c .before .before .before .before .before .before .before .before .loop-test .taken) _ _ (c .before .before .before .before .before .step-by .ensures) (c .if1 .left))
+loop-again c = (omega arith, going-on _ _ _ _ _ _ _ _ _ (c .before .before .before .before .before .before .before .before .before .loop .inv .1) (c .before .before .before .before .before .before .before .before .loop-test .taken) _ _ _ (c .before .before .before .before .before .before .before .request-at .ensures) (c .before .before .before .before .before .step-by .ensures) (c .if1 .left))
 
 same-length-2 : tie.Need-same-length-2 Inv-loop μ-loop
 same-length-2 c = c .before .loop .inv .1 .room
@@ -81,14 +60,7 @@ run-on-spec =
     add-count
     div-count
     loop-holds
-    add-at
-    mul-at
-    add-end
-    add-end-2
-    mul-step-by
-    sub-step-by
-    part-step-by-start
-    part-step-by-end
+    request-at-requires
     step-by-requires
     same-length
     returns

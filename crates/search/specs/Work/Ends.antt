@@ -1,8 +1,8 @@
--- What opening needs of its memory, and what a call returns that stopped.
+-- What opening needs of its memory, where a request of a run lies, and what a call returns that stopped.
 use mathlib.Core.Path.{_≡_}
 use mathlib.Core.List.{List}
 use Prim.Native.Nat.{ℕ, _+_, _*_, _≤_}
-use lib.ListN.{length}
+use lib.ListN.{length, take, drop}
 use Rattle.search.specs.Agenda.{stackOf, slotsIn}
 use Rattle.search.specs.Verdicts.{verdictOf}
 use Rattle.search.specs.declared.state.Ran.{Ran}
@@ -19,6 +19,10 @@ pub record Openable (n : ℕ) (domains agenda : List ℕ) : Type 0 where
 pub record Used (n m words : ℕ) : Type 0 where
   pub few : n ≤ 32
   pub within : m * (n + 2) ≤ words
+
+-- The words of request k of a list.
+unfoldable pub requestAt : ℕ → List ℕ → ℕ → List ℕ
+requestAt n requests k = take (n + 3) (drop (k * (n + 3)) requests)
 
 -- What is returned where a run stopped so, with the verdict of the memory it left.
 abbrev pub endedBy : ℕ → List ℕ → Stop → Ran
