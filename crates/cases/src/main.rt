@@ -64,7 +64,7 @@ const RING: [u16; 48] = [
 
 const SEVENS: [u16; 4] = [7, 7, 7, 7];
 
-// Two variables, d 2, unequal; and the same with a pair that is allowed one way only.
+// Two variables, d 2, unequal; the same with a pair that is allowed one way only; and with a bit at d.
 const UNEQUAL: [u16; 8] = [0, 0, 2, 1, 2, 1, 0, 0];
 
 const ONE_WAY: [u16; 8] = [0, 0, 3, 1, 2, 1, 0, 0];
@@ -72,6 +72,33 @@ const ONE_WAY: [u16; 8] = [0, 0, 3, 1, 2, 1, 0, 0];
 const OVER: [u16; 8] = [0, 0, 6, 1, 2, 1, 0, 0];
 
 const THREES: [u16; 2] = [3, 3];
+
+// The words of a block that says two subproblems, but for its check.
+const TWO: [u16; 23] = [
+    1,
+    1,
+    2,
+    2,
+    0,
+    1,
+    0,
+    0,
+    0,
+    0,
+    2,
+    1,
+    3,
+    2,
+    1,
+    1,
+    2,
+    0,
+    0,
+    1,
+    1,
+    0,
+    0,
+];
 
 fn counted(steps: u32, checks: u64, subproblems: usize) -> State {
     State {
@@ -146,34 +173,34 @@ fn sizes() {
     opens(b"d 0", 1, 0, &domains[..1], &tables[..0], 3);
 }
 
+// Kind 2 on the ring, opened in an agenda.
+fn ring_run(text: &[u8], agenda: &mut [u16]) {
+    let opened = search::open(4, 3, &SEVENS, &RING, agenda);
+    let request = [2u16, 0, 0, 0, 0, 0, 0];
+    ran_line(
+        text,
+        search::run(4, 3, &SEVENS, &RING, agenda, &request, opened.state),
+    );
+}
+
+// The chooser on it.
+fn ring_choice(text: &[u8], agenda: &mut [u16]) {
+    let opened = search::open(4, 3, &SEVENS, &RING, agenda);
+    ran_line(
+        text,
+        search::choose(4, 3, &SEVENS, &RING, agenda, 1000, opened.state),
+    );
+}
+
 // One slot: kind 2 on the ring is refused 12; two slots suffice.
 fn ring() {
     let mut one = [0u16; 6];
-    let request = [2u16, 0, 0, 0, 0, 0, 0];
-    let opened = search::open(4, 3, &SEVENS, &RING, &mut one);
-    let state = opened.state;
-    ran_line(
-        b"ring, one slot, kind 2",
-        search::run(4, 3, &SEVENS, &RING, &mut one, &request, state),
-    );
-    ran_line(
-        b"ring, one slot, chooser",
-        search::choose(4, 3, &SEVENS, &RING, &mut one, 1000, state),
-    );
+    ring_run(b"ring, one slot, kind 2", &mut one);
+    ring_choice(b"ring, one slot, chooser", &mut one);
     let mut two = [0u16; 12];
-    let opened = search::open(4, 3, &SEVENS, &RING, &mut two);
-    let state = opened.state;
-    ran_line(
-        b"ring, two slots, kind 2",
-        search::run(4, 3, &SEVENS, &RING, &mut two, &request, state),
-    );
+    ring_run(b"ring, two slots, kind 2", &mut two);
     let mut many = [0u16; 3072];
-    let opened = search::open(4, 3, &SEVENS, &RING, &mut many);
-    let state = opened.state;
-    ran_line(
-        b"ring, chooser",
-        search::choose(4, 3, &SEVENS, &RING, &mut many, 1000, state),
-    );
+    ring_choice(b"ring, chooser", &mut many);
 }
 
 // Refusals of opening.
@@ -197,40 +224,44 @@ fn one_run(text: &[u8], state: State, request: &[u16]) {
     );
 }
 
-// Refusals of a run.
-fn runs() {
-    let opened = counted(0, 0, 1);
-    one_run(b"an empty list", opened, &[]);
-    one_run(b"request list not whole", opened, &[1, 0, 0, 0]);
+// What the first checks of a run meet.
+fn first_checks() {
+    one_run(b"an empty list", counted(0, 0, 1), &[]);
+    one_run(b"request list not whole", counted(0, 0, 1), &[1, 0, 0, 0]);
     one_run(b"more subproblems than slots", counted(0, 0, 3), &[]);
     one_run(b"a nonzero unused slot", counted(0, 0, 0), &[]);
     one_run(b"an empty subproblem", counted(0, 0, 2), &[]);
     one_run(b"too many checks", counted(1, 497, 1), &[]);
-    one_run(b"kind 0", opened, &[0, 0, 0, 0, 0]);
-    one_run(b"kind 6", opened, &[6, 0, 0, 0, 0]);
-    one_run(b"V is n", opened, &[1, 2, 0, 0, 0]);
-    one_run(b"V instantiated", opened, &[1, 0, 0, 0, 0, 1, 0, 0, 0, 0]);
-    one_run(b"v is d", opened, &[3, 0, 2, 0, 0]);
-    one_run(
-        b"v not in the domain",
-        opened,
-        &[4, 0, 0, 0, 0, 1, 0, 1, 0, 0],
-    );
-    one_run(b"one value halved", opened, &[4, 0, 0, 0, 0, 4, 0, 0, 0, 0]);
-    one_run(b"a target empty", opened, &[5, 0, 0, 1, 0]);
-    one_run(b"a target over", opened, &[5, 0, 0, 1, 4]);
-    one_run(b"targets the domains", opened, &[5, 0, 0, 3, 3]);
+}
+
+// A run of a list from opening.
+fn opened_run(text: &[u8], requests: &[u16]) {
+    one_run(text, counted(0, 0, 1), requests);
+}
+
+// Requests refused by their kind, V or v.
+fn kinds() {
+    opened_run(b"kind 0", &[0, 0, 0, 0, 0]);
+    opened_run(b"kind 6", &[6, 0, 0, 0, 0]);
+    opened_run(b"V is n", &[1, 2, 0, 0, 0]);
+    opened_run(b"V instantiated", &[1, 0, 0, 0, 0, 1, 0, 0, 0, 0]);
+    opened_run(b"v is d", &[3, 0, 2, 0, 0]);
+    opened_run(b"v not in the domain", &[4, 0, 0, 0, 0, 1, 0, 1, 0, 0]);
+    opened_run(b"one value halved", &[4, 0, 0, 0, 0, 4, 0, 0, 0, 0]);
+}
+
+// By their targets, by the count of steps or for want of room; and a run that solves.
+fn runs() {
+    opened_run(b"a target empty", &[5, 0, 0, 1, 0]);
+    opened_run(b"a target over", &[5, 0, 0, 1, 4]);
+    opened_run(b"targets the domains", &[5, 0, 0, 3, 3]);
     one_run(
         b"steps at their last",
         counted(4294967295, 0, 1),
         &[1, 0, 0, 0, 0],
     );
-    one_run(b"no room", opened, &[5, 0, 0, 1, 1]);
-    one_run(
-        b"solved",
-        opened,
-        &[2, 0, 0, 0, 0, 1, 1, 1, 0, 0, 1, 1, 1, 0, 0],
-    );
+    opened_run(b"no room", &[5, 0, 0, 1, 1]);
+    opened_run(b"solved", &[2, 0, 0, 0, 0, 1, 1, 1, 0, 0, 1, 1, 1, 0, 0]);
 }
 
 fn one_choice(text: &[u8], limit: usize, state: State) {
@@ -372,32 +403,7 @@ fn by_hands() {
     changed(b"a word after the end", 19, 1, 65516);
     loads(b"no file", &[]);
     loads(b"not whole blocks", &[0; 511]);
-    let two = [
-        1u16,
-        1,
-        2,
-        2,
-        0,
-        1,
-        0,
-        0,
-        0,
-        0,
-        2,
-        1,
-        3,
-        2,
-        1,
-        1,
-        2,
-        0,
-        0,
-        1,
-        1,
-        0,
-        0,
-    ];
-    loads_short(&by_hand(&two, 65514));
+    loads_short(&by_hand(&TWO, 65514));
 }
 
 fn saves() {
@@ -432,6 +438,8 @@ fn main() {
     sizes();
     ring();
     openings();
+    first_checks();
+    kinds();
     runs();
     choices();
     checks_of_words();
