@@ -2,10 +2,8 @@
 use crate::agenda;
 use crate::lanes;
 use crate::rows;
-use crate::state::Checks;
-use crate::state::Counts;
 use crate::state::State;
-use crate::state::Steps;
+use crate::step;
 use crate::step::Stop;
 use splits::mask;
 use splits::subproblem::Subproblem;
@@ -25,7 +23,7 @@ ghost use Rattle.search.specs.Work.Lanes.{Rows, Sides};
 ghost use Rattle.search.specs.Work.Found.{Found, AtTop, RoomFor, FurtherOf, FurtherPiece, Puts, requestBy, leftBy, several, TakesChosen};
 
 // What the chooser finds of a top subproblem: the variable and its value, how many values the variable has, what is allowed
-// beside the value, and whether the precluded piece is empty.
+// beside the value, and whether the precluded piece is empty. `value` is for the contracts alone: the row has it.
 pub(crate) struct Choice {
     pub(crate) variable: usize,
     pub(crate) value: usize,
@@ -34,7 +32,7 @@ pub(crate) struct Choice {
     pub(crate) lost: bool,
 }
 
-// Finds it.
+// What the chooser finds of the top.
 fn look(top: Subproblem, n: usize, d: usize, tables: &[u16], rows: &mut [[u16; 32]]) -> Choice
     requires { ⌜ Sized n d (now tables) × (Regular n d top × ((allInstantiated n top ≡ false) × Rows 16 n d (now tables) (now rows))) ⌝ }
     ensures { λ r. ⌜ Found n d (now (tables .entry)) top r × Rows 16 n d (now (tables .entry)) (now (rows .exit)) ⌝ }
@@ -83,21 +81,21 @@ fn rest(top: Subproblem, choice: Choice) -> Subproblem
     top.without(variable, row[variable])
 }
 
-// Where one piece is left at most: it in the place of the top, which stood in slot `below`; the number of subproblems then.
-fn settle(top: Subproblem, n: usize, agenda: &mut [u16], choice: Choice, below: usize) -> usize
-    requires { ⌜ (choice .variable < 32) × SlotIn n below (length (now agenda)) ⌝ }
-    ensures { λ r. ⌜ Replaced n (leftBy top choice) below (now (agenda .entry)) (now (agenda .exit)) r ⌝ }
+// Where one piece is left at most: it in the place of the top, which stood in slot `slot`; the number of subproblems then.
+fn settle(top: Subproblem, n: usize, agenda: &mut [u16], choice: Choice, slot: usize) -> usize
+    requires { ⌜ (choice .variable < 32) × SlotIn n slot (length (now agenda)) ⌝ }
+    ensures { λ r. ⌜ Replaced n (leftBy top choice) slot (now (agenda .entry)) (now (agenda .exit)) r ⌝ }
 {
     if !choice.lost {
-        agenda::write_slot(n, agenda, below, precluded(top, choice));
-        return below + 1;
+        agenda::write_slot(n, agenda, slot, precluded(top, choice));
+        return slot + 1;
     }
     if choice.values == 1 {
-        agenda::clear_slot(n, agenda, below);
-        return below;
+        agenda::clear_slot(n, agenda, slot);
+        return slot;
     }
-    agenda::write_slot(n, agenda, below, rest(top, choice));
-    below + 1
+    agenda::write_slot(n, agenda, slot, rest(top, choice));
+    slot + 1
 }
 
 // What kind 3's further pieces are made of: V without its value, the row with all values for V, and what each domain has outside its mask of it.
@@ -139,14 +137,14 @@ fn spread(
     agenda: &mut [u16],
     choice: Choice,
     further: Further,
-    below: usize,
+    slot: usize,
 ) -> usize
-    requires { ⌜ AtTop n d (now tables) top choice below (length (now agenda)) × (RoomFor n d (now tables) top choice 3 below (length (now agenda)) × ((several choice ≡ true) × FurtherOf top choice further)) ⌝ }
-    ensures { λ r. ⌜ Replaced n (pieces n (tableOf n d (now (tables .entry))) top (requestBy choice 3)) below (now (agenda .entry)) (now (agenda .exit)) r ⌝ }
+    requires { ⌜ AtTop n d (now tables) top choice slot (length (now agenda)) × (RoomFor n d (now tables) top choice 3 slot (length (now agenda)) × ((several choice ≡ true) × FurtherOf top choice further)) ⌝ }
+    ensures { λ r. ⌜ Replaced n (pieces n (tableOf n d (now (tables .entry))) top (requestBy choice 3)) slot (now (agenda .entry)) (now (agenda .exit)) r ⌝ }
 {
     let out = further.out;
     let sides = lanes::sides();
-    let mut at = below;
+    let mut at = slot;
     let mut j = n;
     while 0 < j {
         j -= 1;
@@ -167,14 +165,14 @@ fn put_two(
     tables: &[u16],
     agenda: &mut [u16],
     choice: Choice,
-    below: usize,
+    slot: usize,
 ) -> usize
-    requires { ⌜ AtTop n d (now tables) top choice below (length (now agenda)) × (RoomFor n d (now tables) top choice 2 below (length (now agenda)) × (several choice ≡ true)) ⌝ }
-    ensures { λ r. ⌜ Replaced n (pieces n (tableOf n d (now (tables .entry))) top (requestBy choice 2)) below (now (agenda .entry)) (now (agenda .exit)) r ⌝ }
+    requires { ⌜ AtTop n d (now tables) top choice slot (length (now agenda)) × (RoomFor n d (now tables) top choice 2 slot (length (now agenda)) × (several choice ≡ true)) ⌝ }
+    ensures { λ r. ⌜ Replaced n (pieces n (tableOf n d (now (tables .entry))) top (requestBy choice 2)) slot (now (agenda .entry)) (now (agenda .exit)) r ⌝ }
 {
-    agenda::write_slot(n, agenda, below, rest(top, choice));
-    agenda::write_slot(n, agenda, below + 1, precluded(top, choice));
-    below + 2
+    agenda::write_slot(n, agenda, slot, rest(top, choice));
+    agenda::write_slot(n, agenda, slot + 1, precluded(top, choice));
+    slot + 2
 }
 
 // What came of placing pieces: a refusal, and the number of subproblems.
@@ -183,7 +181,7 @@ pub(crate) struct Left {
     pub(crate) subproblems: usize,
 }
 
-// The pieces of the rule's request in the place of the top, which stood in slot `below`: one at most, else kind 3's if they have room, else kind 2's
+// The pieces of the rule's request in the place of the top, which stood in slot `slot`: one at most, else kind 3's if they have room, else kind 2's
 // if these have, else none, and 12.
 fn put(
     top: Subproblem,
@@ -192,24 +190,24 @@ fn put(
     tables: &[u16],
     agenda: &mut [u16],
     choice: Choice,
-    below: usize,
+    slot: usize,
 ) -> Left
-    requires { ⌜ AtTop n d (now tables) top choice below (length (now agenda)) ⌝ }
-    ensures { λ r. ⌜ Puts n d (now (tables .entry)) top below (now (agenda .entry)) (now (agenda .exit)) r ⌝ }
+    requires { ⌜ AtTop n d (now tables) top choice slot (length (now agenda)) ⌝ }
+    ensures { λ r. ⌜ Puts n d (now (tables .entry)) top slot (now (agenda .entry)) (now (agenda .exit)) r ⌝ }
 {
     if !is_several(choice) {
         return Left {
             refusal: 0,
-            subproblems: settle(top, n, agenda, choice, below),
+            subproblems: settle(top, n, agenda, choice, slot),
         };
     }
-    let free = agenda.len() / (n + 2) - below;
+    let free = agenda.len() / (n + 2) - slot;
     let further = further_of(top, choice);
     let out = further.out;
     if (lanes::filled(out) as usize) < free {
         return Left {
             refusal: 0,
-            subproblems: spread(top, n, d, tables, agenda, choice, further, below),
+            subproblems: spread(top, n, d, tables, agenda, choice, further, slot),
         };
     }
     if free < 2 {
@@ -220,7 +218,7 @@ fn put(
     }
     Left {
         refusal: 0,
-        subproblems: put_two(top, n, d, tables, agenda, choice, below),
+        subproblems: put_two(top, n, d, tables, agenda, choice, slot),
     }
 }
 
@@ -248,31 +246,13 @@ pub(crate) fn take_chosen(
 {
     let steps = state.counts.steps.0;
     if steps == 4294967295 {
-        return Stop {
-            refusal: 11,
-            taken: 0,
-            state,
-        };
+        return step::stopped(11, state);
     }
     let choice = look(top, n, d, tables, rows);
     let checks = with_checks(top, choice, state.counts.checks.0);
     let left = put(top, n, d, tables, agenda, choice, state.subproblems - 1);
     if left.refusal != 0 {
-        return Stop {
-            refusal: left.refusal,
-            taken: 0,
-            state,
-        };
+        return step::stopped(left.refusal, state);
     }
-    Stop {
-        refusal: 0,
-        taken: 1,
-        state: State {
-            counts: Counts {
-                steps: Steps(steps + 1),
-                checks: Checks(checks),
-            },
-            subproblems: left.subproblems,
-        },
-    }
+    step::taken(steps, checks, left.subproblems)
 }

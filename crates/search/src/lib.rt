@@ -160,11 +160,7 @@ fn step_by(
             return step::take(top, n, d, tables, agenda, request, state);
         }
     }
-    Stop {
-        refusal: 0,
-        taken: 0,
-        state,
-    }
+    step::stopped(0, state)
 }
 
 // Runs up to `limit` steps by the house chooser.
@@ -208,9 +204,9 @@ fn choose_on(
     let mut taken = 0;
     let none = [0u16; 32];
     let mut rows = [none; 512];
-    let below = lanes::below(n);
+    let lanes = lanes::below(n);
     while taken < limit {
-        let mut stop = step_chosen(below, n, d, tables, agenda, &mut rows, state);
+        let mut stop = step_chosen(lanes, n, d, tables, agenda, &mut rows, state);
         state = stop.state;
         if stop.taken == 0 {
             stop.taken = taken;
@@ -227,7 +223,7 @@ fn choose_on(
 
 // One step of the chooser, unless the search is finished.
 fn step_chosen(
-    below: [u16; 32],
+    lanes: [u16; 32],
     n: usize,
     d: usize,
     tables: &[u16],
@@ -235,21 +231,17 @@ fn step_chosen(
     rows: &mut [[u16; 32]],
     state: State,
 ) -> Stop
-    requires { ⌜ Ready n d (now tables) (now agenda) (searchOf n (now agenda) state) × (Rows 16 n d (now tables) (now rows) × Below n below) ⌝ }
+    requires { ⌜ Ready n d (now tables) (now agenda) (searchOf n (now agenda) state) × (Rows 16 n d (now tables) (now rows) × Below n lanes) ⌝ }
     ensures { λ r. ⌜ ChoosesOne n d (now (tables .entry)) (now (agenda .entry)) (now (agenda .exit)) state r × Rows 16 n d (now (tables .entry)) (now (rows .exit)) ⌝ }
 {
     let subproblems = state.subproblems;
     if subproblems != 0 {
-        let top = agenda::read_lanes(below, n, agenda, subproblems - 1);
+        let top = agenda::read_lanes(lanes, n, agenda, subproblems - 1);
         if !top.all_instantiated(n) {
             return choice::take_chosen(top, n, d, tables, agenda, rows, state);
         }
     }
-    Stop {
-        refusal: 0,
-        taken: 0,
-        state,
-    }
+    step::stopped(0, state)
 }
 
 // What a call returns that stopped so.

@@ -20,13 +20,42 @@ ghost use Rattle.splits.specs.Splits.{pieces, candidates};
 ghost use Rattle.splits.specs.Checks.{checks};
 ghost use Rattle.splits.specs.Calls.{readable};
 ghost use Rattle.splits.specs.Ranges.{Sized};
-ghost use Rattle.search.specs.Work.Steps.{TellsEmpty, Placing, Placed, Taking, TakesOne, refusalFor};
+ghost use Rattle.search.specs.Work.Steps.{stopped, takenTo, TellsEmpty, Placing, Placed, Taking, TakesOne, refusalFor};
 
 // Where a run stops, or one step ends: the refusal, the requests taken and the state it leaves.
 pub(crate) struct Stop {
     pub(crate) refusal: u32,
     pub(crate) taken: usize,
     pub(crate) state: State,
+}
+
+// A request that is not taken: its refusal, and the state as it was.
+pub(crate) fn stopped(refusal: u32, state: State) -> Stop
+    ensures { λ r. ⌜ r ≡ stopped refusal state ⌝ }
+{
+    Stop {
+        refusal,
+        taken: 0,
+        state,
+    }
+}
+
+// One that is: a step more, and the checks and subproblems that it leaves.
+pub(crate) fn taken(steps: u32, checks: u64, subproblems: usize) -> Stop
+    requires { ⌜ steps + 1 < 2 ^ 32 ⌝ }
+    ensures { λ r. ⌜ r ≡ takenTo (steps + 1) checks subproblems ⌝ }
+{
+    Stop {
+        refusal: 0,
+        taken: 1,
+        state: State {
+            counts: Counts {
+                steps: Steps(steps + 1),
+                checks: Checks(checks),
+            },
+            subproblems,
+        },
+    }
 }
 
 // Whether the pieces of a request that are not empty exceed the free slots. They are looked at only where the candidates of the kind do, and
@@ -168,28 +197,14 @@ pub(crate) fn take(
     ensures { λ r. ⌜ TakesOne n d (now (tables .entry)) (now (agenda .entry)) (now (agenda .exit)) (now (request .entry)) state r ⌝ }
 {
     let steps = state.counts.steps.0;
-    let below = state.subproblems - 1;
-    let free = agenda.len() / (n + 2) - below;
+    let slot = state.subproblems - 1;
+    let free = agenda.len() / (n + 2) - slot;
     let refusal = refusal_of(top, n, d, tables, request, steps, free);
     if refusal != 0 {
-        return Stop {
-            refusal,
-            taken: 0,
-            state,
-        };
+        return stopped(refusal, state);
     }
     let checks = with_checks(top, n, d, tables, request, state.counts.checks.0);
-    agenda::clear_slot(n, agenda, below);
-    let subproblems = place(top, n, d, tables, agenda, request, below);
-    Stop {
-        refusal: 0,
-        taken: 1,
-        state: State {
-            counts: Counts {
-                steps: Steps(steps + 1),
-                checks: Checks(checks),
-            },
-            subproblems,
-        },
-    }
+    agenda::clear_slot(n, agenda, slot);
+    let subproblems = place(top, n, d, tables, agenda, request, slot);
+    taken(steps, checks, subproblems)
 }

@@ -1,5 +1,6 @@
 -- `search::step_by` meets its contract.
 -- Assumes nothing.
+use mathlib.Core.Logic.{⊎-elim}
 use borrow.Author.Needs.{needs}
 use Rattle.search.proofs.Running.{used-slot, ready-used, finished-empty, finished-is, stays, taking}
 use Rattle.search.proofs.step_by.Statement.{statement}
@@ -23,14 +24,14 @@ same-length c = search needs
 returns : tie.Need-returns
 returns c = search needs
 
-same-length-2 : tie.Need-same-length-2
-same-length-2 c = search needs
+stopped-requires : tie.Need-stopped-requires
+stopped-requires c κs = tt
 
 returns-2 : tie.Need-returns-2
-returns-2 c = stays _ _ _ _ _ (c .before .before .before .before .before .before .before .before .pre) _ (finished-is _ _ _ (c .before .before .before .before .if1 .taken) _ (c .before .before .read-slot .ensures) _ (c .before .all-instantiated .ensures) (c .if2 .left))
-
-returns-3 : tie.Need-returns-3
-returns-3 c = stays _ _ _ _ _ (c .before .before .before .before .pre) _ (finished-empty _ _ _ (c .if1 .left))
+returns-2 c =
+    rw (c .stopped .ensures)
+    (stays _ _ _ _ _ (c .before .before .before .before .before .pre) _
+    (⊎-elim (λ w. finished-is _ _ _ (w .0 .taken) _ (w .2 .ensures) _ (w .3 .ensures) (w .4 .left)) (λ w. finished-empty _ _ _ (w .left)) (c .before .if1 .came)))
 
 pub step-by-spec : {M : Type 1} → statement M
 step-by-spec =
@@ -42,6 +43,5 @@ step-by-spec =
     take-requires
     same-length
     returns
-    same-length-2
-    returns-2
-    returns-3)
+    stopped-requires
+    returns-2)

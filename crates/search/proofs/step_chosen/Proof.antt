@@ -2,6 +2,7 @@
 -- Assumes nothing.
 use native.Mathlib.Omega.{arith}
 use mathlib.Core.Path.{refl}
+use mathlib.Core.Logic.{⊎-elim}
 use Rattle.search.proofs.Running.{used-slot, ready-used, finished-empty, finished-is, stays-chosen, taking, chosen-stops}
 use Rattle.search.proofs.step_chosen.Statement.{statement}
 use Rattle.search.proofs.step_chosen.Tie as tie
@@ -27,14 +28,16 @@ same-length-2 c = omega arith
 returns : tie.Need-returns
 returns c = (chosen-stops _ _ _ _ _ (c .before .before .before .before .before .before .before .before .before .before .before .before .before .pre .0) _ (c .before .before .before .before .before .before .before .before .before .before .if1 .taken) (c .before .before .before .before .before .before .before .before .read-lanes .ensures) _ _ _ refl (c .before .before .before .take-chosen .ensures .0), c .before .before .before .take-chosen .ensures .1)
 
-same-length-3 : tie.Need-same-length-3
-same-length-3 c = omega arith
+stopped-requires : tie.Need-stopped-requires
+stopped-requires c κs = tt
 
 returns-2 : tie.Need-returns-2
-returns-2 c = (stays-chosen _ _ _ _ _ (c .before .before .before .before .before .before .before .pre .0) (finished-is _ _ _ (c .before .before .before .before .if1 .taken) _ (c .before .before .read-lanes .ensures) _ (c .before .all-instantiated .ensures) (c .if2 .left)), c .before .before .before .before .before .before .before .pre .1 .0)
-
-returns-3 : tie.Need-returns-3
-returns-3 c = (stays-chosen _ _ _ _ _ (c .before .before .before .pre .0) (finished-empty _ _ _ (c .if1 .left)), c .before .before .before .pre .1 .0)
+returns-2 c = (
+  rw (c .stopped .ensures)
+      (stays-chosen _ _ _ _ _ (c .before .before .before .before .pre .0)
+      (⊎-elim (λ w. finished-is _ _ _ (w .0 .taken) _ (w .2 .ensures) _ (w .3 .ensures) (w .4 .left)) (λ w. finished-empty _ _ _ (w .left)) (c .before .if1 .came))),
+  c .before .before .before .before .pre .1 .0,
+)
 
 pub step-chosen-spec : {M : Type 1} → statement M
 step-chosen-spec =
@@ -47,6 +50,5 @@ step-chosen-spec =
     same-length
     same-length-2
     returns
-    same-length-3
-    returns-2
-    returns-3)
+    stopped-requires
+    returns-2)

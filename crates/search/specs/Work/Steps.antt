@@ -20,6 +20,17 @@ use Rattle.search.specs.Work.Kept.{Ready}
 use Rattle.search.specs.declared.state.State.{State}
 use Rattle.search.specs.declared.step.Stop.{Stop}
 
+-- What a request that is not taken returns, and one that is.
+abbrev pub stopped : ℕ → State → Stop
+stopped refusal state = record { refusal = refusal; taken = 0; state = state }
+
+abbrev pub takenTo : ℕ → ℕ → ℕ → Stop
+takenTo steps checks subproblems = record {
+  refusal = 0;
+  taken = 1;
+  state = record { counts = record { steps = record { 0 = steps }; checks = record { 0 = checks } }; subproblems = subproblems };
+}
+
 -- A request whose words fit, of a top P, is to be placed from a slot on, and there is room.
 pub record Placing (n d : ℕ) (tables : List ℕ) (P : Subproblem) (r : List ℕ) (from words : ℕ) : Type 0 where
   pub reads : readable n d tables r ≡ true

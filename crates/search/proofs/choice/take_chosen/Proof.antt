@@ -5,8 +5,11 @@ use Rattle.search.proofs.Settling.{taking-regular, taking-top, counted,
 use Rattle.search.proofs.choice.take_chosen.Statement.{statement}
 use Rattle.search.proofs.choice.take_chosen.Tie as tie
 
+stopped-requires : tie.Need-stopped-requires
+stopped-requires c κs = tt
+
 returns : tie.Need-returns
-returns c = (chosen-refused _ _ _ _ _ _ (c .before .before .before .pre .0) (c .if1 .taken), c .before .before .before .pre .1)
+returns c = (rw (c .stopped .ensures) (chosen-refused _ _ _ _ _ _ (c .before .before .before .before .pre .0) (c .before .if1 .taken)), c .before .before .before .before .pre .1)
 
 look-requires : tie.Need-look-requires
 look-requires c κs = let k = c .before .before .before .before .pre in (k .0 .ready .fitting, (taking-regular _ _ _ _ _ _ (k .0), (k .0 .runs, k .1)))
@@ -20,6 +23,9 @@ sub-put c = omega arith
 put-requires : tie.Need-put-requires
 put-requires c κs = taking-top _ _ _ _ _ _ (c .before .before .before .before .before .before .before .before .before .pre .0) _ (c .before .before .before .before .look .ensures .0)
 
+stopped-requires-2 : tie.Need-stopped-requires-2
+stopped-requires-2 c κs = tt
+
 same-length : tie.Need-same-length
 same-length c = omega arith
 
@@ -27,10 +33,10 @@ same-length-2 : tie.Need-same-length-2
 same-length-2 c = omega arith
 
 returns-2 : tie.Need-returns-2
-returns-2 c = (chosen-full _ _ _ _ _ _ (c .before .before .before .before .before .before .before .before .before .before .before .before .before .before .pre .0) _ (c .before .before .before .before .before .before .before .before .before .look .ensures .0) (c .before .before .before .before .before .before .before .before .before .before .before .if1 .left) _ _ (c .before .before .before .before .put .ensures) (c .if2 .taken), c .before .before .before .before .before .before .before .before .before .look .ensures .1)
+returns-2 c = (rw (c .stopped2 .ensures) (chosen-full _ _ _ _ _ _ (c .before .before .before .before .before .before .before .before .before .before .before .before .before .before .before .pre .0) _ (c .before .before .before .before .before .before .before .before .before .before .look .ensures .0) (c .before .before .before .before .before .before .before .before .before .before .before .before .if1 .left) _ _ (c .before .before .before .before .before .put .ensures) (c .before .if2 .taken)), c .before .before .before .before .before .before .before .before .before .before .look .ensures .1)
 
-add-t18 : tie.Need-add-t18
-add-t18 c = record { fits = chosen-steps _ _ _ _ _ _ (c .before .before .before .before .before .before .before .before .before .before .before .before .before .before .pre .0) _ (c .before .before .before .before .before .before .before .before .before .look .ensures .0) (c .before .before .before .before .before .before .before .before .before .before .before .if1 .left) _ _ (c .before .before .before .before .put .ensures) (c .if2 .left) }
+taken-requires : tie.Need-taken-requires
+taken-requires c κs = chosen-steps _ _ _ _ _ _ (c .before .before .before .before .before .before .before .before .before .before .before .before .before .before .pre .0) _ (c .before .before .before .before .before .before .before .before .before .look .ensures .0) (c .before .before .before .before .before .before .before .before .before .before .before .if1 .left) _ _ (c .before .before .before .before .put .ensures) (c .if2 .left)
 
 same-length-3 : tie.Need-same-length-3
 same-length-3 c = omega arith
@@ -39,21 +45,23 @@ same-length-4 : tie.Need-same-length-4
 same-length-4 c = omega arith
 
 returns-3 : tie.Need-returns-3
-returns-3 c = (chosen-taken _ _ _ _ _ _ (c .before .before .before .before .before .before .before .before .before .before .before .before .before .before .pre .0) _ (c .before .before .before .before .before .before .before .before .before .look .ensures .0) (c .before .before .before .before .before .before .before .before .before .before .before .if1 .left) _ _ (c .before .before .before .before .put .ensures) (c .if2 .left) _ (c .before .before .before .before .before .before .before .with-checks .ensures), c .before .before .before .before .before .before .before .before .before .look .ensures .1)
+returns-3 c = (rw (c .taken .ensures) (chosen-taken _ _ _ _ _ _ (c .before .before .before .before .before .before .before .before .before .before .before .before .before .before .before .pre .0) _ (c .before .before .before .before .before .before .before .before .before .before .look .ensures .0) (c .before .before .before .before .before .before .before .before .before .before .before .before .if1 .left) _ _ (c .before .before .before .before .before .put .ensures) (c .before .if2 .left) _ (c .before .before .before .before .before .before .before .before .with-checks .ensures)), c .before .before .before .before .before .before .before .before .before .before .look .ensures .1)
 
 pub take-chosen-spec : {M : Type 1} → statement M
 take-chosen-spec =
     tie.close
     (tie.spec
+    stopped-requires
     returns
     look-requires
     with-checks-requires
     sub-put
     put-requires
+    stopped-requires-2
     same-length
     same-length-2
     returns-2
-    add-t18
+    taken-requires
     same-length-3
     same-length-4
     returns-3)

@@ -6,8 +6,8 @@ use Rattle.search.proofs.Stepping.{below-slots, take-refused, take-read
 use Rattle.search.proofs.step.take.Statement.{statement}
 use Rattle.search.proofs.step.take.Tie as tie
 
-sub-below : tie.Need-sub-below
-sub-below c = search needs
+sub-slot : tie.Need-sub-slot
+sub-slot c = search needs
 
 add-free : tie.Need-add-free
 add-free c = let few = c .before .before .before .before .pre .ready .fitting .few in search needs
@@ -21,8 +21,11 @@ sub-free c = let a = c .before .before .before .before .args in below-slots _ _ 
 refusal-of-requires : tie.Need-refusal-of-requires
 refusal-of-requires c κs = c .before .before .before .before .pre .ready .fitting
 
+stopped-requires : tie.Need-stopped-requires
+stopped-requires c κs = tt
+
 returns : tie.Need-returns
-returns c = take-refused _ _ _ _ _ _ _ (c .before .before .before .before .before .before .pre) _ (c .before .refusal-of .ensures) (c .if1 .taken)
+returns c = rw (c .stopped .ensures) (take-refused _ _ _ _ _ _ _ (c .before .before .before .before .before .before .before .pre) _ (c .before .before .refusal-of .ensures) (c .before .if1 .taken))
 
 with-checks-requires : tie.Need-with-checks-requires
 with-checks-requires c κs = let a = c .before .before .before .before .before .before .args in (take-reads _ _ _ (a .agenda .now) (a .top) _ (a .state) (c .before .before .before .before .before .before .pre) _ (c .before .refusal-of .ensures) (c .if1 .left), take-counts _ _ _ (a .agenda .now) (a .top) _ (a .state) (c .before .before .before .before .before .before .pre) _ (c .before .refusal-of .ensures) (c .if1 .left))
@@ -33,28 +36,33 @@ clear-slot-requires c κs = let a = c .before .before .before .before .before .b
 place-requires : tie.Need-place-requires
 place-requires c κs = let a = c .before .before .before .before .before .before .before .before .before .before .before .before .args in let room = take-room _ _ _ (a .agenda .now) (a .top) _ (a .state) (c .before .before .before .before .before .before .before .before .before .before .before .before .pre) _ (c .before .before .before .before .before .before .before .refusal-of .ensures) (c .before .before .before .before .before .before .if1 .left) in record { reads = take-reads _ _ _ (a .agenda .now) (a .top) _ (a .state) (c .before .before .before .before .before .before .before .before .before .before .before .before .pre) _ (c .before .before .before .before .before .before .before .refusal-of .ensures) (c .before .before .before .before .before .before .if1 .left); room = search needs }
 
-add-t23 : tie.Need-add-t23
-add-t23 c = let a = c .before .before .before .before .before .before .before .before .before .before .before .before .before .before .before .args in record { fits = take-steps _ _ _ (a .agenda .now) (a .top) _ (a .state) (c .before .before .before .before .before .before .before .before .before .before .before .before .before .before .before .pre) _ (c .before .before .before .before .before .before .before .before .before .before .refusal-of .ensures) (c .before .before .before .before .before .before .before .before .before .if1 .left) }
+taken-requires : tie.Need-taken-requires
+taken-requires c κs = let a = c .before .before .before .before .before .before .before .before .before .before .before .before .before .before .before .args in take-steps _ _ _ (a .agenda .now) (a .top) _ (a .state) (c .before .before .before .before .before .before .before .before .before .before .before .before .before .before .before .pre) _ (c .before .before .before .before .before .before .before .before .before .before .refusal-of .ensures) (c .before .before .before .before .before .before .before .before .before .if1 .left)
 
 same-length : tie.Need-same-length
 same-length c = search needs
 
 returns-2 : tie.Need-returns-2
-returns-2 c = take-taken _ _ _ _ _ _ _ (c .before .before .before .before .before .before .before .before .before .before .before .before .before .before .before .pre) _ (c .before .before .before .before .before .before .before .before .before .before .refusal-of .ensures) (c .before .before .before .before .before .before .before .before .before .if1 .left) _ _ _ (record { count = c .before .before .place .ensures .count; words = splice-twice _ _ _ _ _ _ (c .before .before .place .ensures .words) (c .before .before .before .before .before .before .clear-slot .ensures) }) (c .before .before .before .before .before .before .before .before .with-checks .ensures)
+returns-2 c =
+    rw (c .taken .ensures)
+    (take-taken _ _ _ _ _ _ _ (c .before .before .before .before .before .before .before .before .before .before .before .before .before .before .before .before .pre) _ (c .before .before .before .before .before .before .before .before .before .before .before .refusal-of .ensures) (c .before .before .before .before .before .before .before .before .before .before .if1 .left) _ _ _
+    (record { count = c .before .before .before .place .ensures .count; words = splice-twice _ _ _ _ _ _ (c .before .before .before .place .ensures .words) (c .before .before .before .before .before .before .before .clear-slot .ensures) })
+    (c .before .before .before .before .before .before .before .before .before .with-checks .ensures))
 
 pub take-spec : {M : Type 1} → statement M
 take-spec =
     tie.close
     (tie.spec
-    sub-below
+    sub-slot
     add-free
     div-free
     sub-free
     refusal-of-requires
+    stopped-requires
     returns
     with-checks-requires
     clear-slot-requires
     place-requires
-    add-t23
+    taken-requires
     same-length
     returns-2)
