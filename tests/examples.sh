@@ -159,6 +159,7 @@ says "./plan, a directory as standard input" 2 "$nothing" 'standard input is a d
 says "./plan, two arguments" 2 "$nothing" 'usage: plan FILE' ./plan examples/printed.search examples/printed.search
 says "./plan, an unknown option" 2 "$nothing" 'usage: plan FILE' ./plan --fast examples/printed.search
 says "./plan -" 2 "$nothing" 'standard input is read by plan < FILE' ./plan - <examples/printed.search
+says "./plan --, no FILE" 2 "$nothing" 'no FILE after --' ./plan --
 says "./plan, no FILE and standard input closed" 2 "$nothing" 'usage: plan FILE' ./plan <&-
 terminal='import os, pty, subprocess, sys; sys.exit(subprocess.run(["./plan"], stdin=pty.openpty()[1]).returncode)'
 says "./plan, no FILE at a terminal" 2 "$nothing" 'usage: plan FILE' python3 -c "$terminal"
