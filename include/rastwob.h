@@ -158,9 +158,9 @@ uint32_t rastwob_save(uint32_t n, uint32_t d,
  * least 8; where it is not, or they are not 1 to 32 and 1 to 16, lend any lengths: the file is then refused 14 or 15
  * before lengths are looked at.
  * The agenda is lent at any number of slots that takes the subproblems, whose number stands in bytes 20 and 21, high
- * byte first (of a file of at least 22); 512 slots take any. With as many slots as before, the search goes on as if it
- * had not been saved; with another number kind 3 may find or lack room (12) where it did not, so that steps, checks,
- * agenda and the plan found may differ.
+ * byte first (read them only where file_bytes is at least 22); 512 slots take any. With as many slots as before, the
+ * search goes on as if it had not been saved; with another number kind 3 may find or lack room (12) where it did not,
+ * so that steps, checks, agenda and the plan found may differ.
  * Leaves: the five numbers; domains, tables (zeros for a path with itself) and agenda (zeros in unused slots), whole.
  * Returns the refusal, looked for in the order 14, 15, 3, 12. Refused: the numbers are 0, the buffers as they were. So
  * do not let load (or open) write its numbers over those of a search that you still want: hand it others, and take
