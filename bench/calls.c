@@ -2,6 +2,9 @@
  *
  *   calls request FILE TIMES   run with one request each, on an agenda that the chooser filled in its first 20,000 steps; the
  *                              five kinds in turn, each on the same search, which is put back after each call
+ *   calls checks FILE TIMES    run with no request on that agenda: the first checks alone
+ *   calls loaded FILE TIMES    the same on the search just loaded
+ *   calls verdict FILE TIMES   choose for no step, on the search just loaded
  *   calls decide FILE TIMES    load, then choose up to the verdict
  *
  * Built with -DRIVAL it calls the rival, else the library. It prints a sum of all that came out, to be compared. */
@@ -136,6 +139,31 @@ static void ask_often(uint32_t times)
         ask(k);
 }
 
+/* So many runs with no request, which leave the search as it is. */
+static void check_often(uint32_t times)
+{
+    uint32_t verdict, taken, k;
+    for (k = 0; k < times; k++) {
+        tell(rastwob_run(N, D, domains, sizeof domains, tables, sizeof tables, agenda, sizeof agenda, (const uint8_t *)requests, 0,
+                         &steps, &checks, &subproblems, &verdict, &taken));
+        tell(verdict);
+        tell(taken);
+        tell(steps);
+        tell(checks);
+        tell(subproblems);
+    }
+    tell_bytes(agenda, sizeof agenda);
+}
+
+/* So many calls of choose that take no step. */
+static void say_often(uint32_t times)
+{
+    uint32_t k;
+    for (k = 0; k < times; k++)
+        choose(0);
+    tell_bytes(agenda, sizeof agenda);
+}
+
 /* So many loads, each with its verdict. */
 static void decide_often(uint32_t times)
 {
@@ -146,19 +174,38 @@ static void decide_often(uint32_t times)
     }
 }
 
+/* Does what the first word says; 0 where it says nothing. */
+static int go(const char *way, uint32_t times)
+{
+    if (strcmp(way, "request") == 0) {
+        ask_often(times);
+    } else if (strcmp(way, "checks") == 0) {
+        load();
+        choose(FILLING_STEPS);
+        check_often(times);
+    } else if (strcmp(way, "loaded") == 0) {
+        load();
+        check_often(times);
+    } else if (strcmp(way, "verdict") == 0) {
+        load();
+        say_often(times);
+    } else if (strcmp(way, "decide") == 0) {
+        decide_often(times);
+    } else {
+        return 0;
+    }
+    return 1;
+}
+
 int main(int argc, char **argv)
 {
     FILE *in = argc == 4 ? fopen(argv[2], "rb") : NULL;
     if (in == NULL)
-        give_up("usage: calls request|decide FILE TIMES");
+        give_up("usage: calls request|checks|loaded|verdict|decide FILE TIMES");
     file_length = fread(file, 1, sizeof file, in);
     fclose(in);
-    if (strcmp(argv[1], "request") == 0)
-        ask_often((uint32_t)strtoul(argv[3], NULL, 10));
-    else if (strcmp(argv[1], "decide") == 0)
-        decide_often((uint32_t)strtoul(argv[3], NULL, 10));
-    else
-        give_up("neither request nor decide");
+    if (!go(argv[1], (uint32_t)strtoul(argv[3], NULL, 10)))
+        give_up("neither request, checks, loaded, verdict nor decide");
     printf("subproblems %lu sum %016llx\n", (unsigned long)subproblems, (unsigned long long)sum);
     return 0;
 }

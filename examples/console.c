@@ -15,7 +15,7 @@
 #include "rastwob.h"
 
 /* The ring: four paths, three windows, and neighbours 0-1, 1-2, 2-3, 3-0 must not share one. */
-enum { PATHS = 4, WINDOWS = 3, SLOTS = 16, SLOT_WORDS = PATHS + 2, REQUEST_WORDS = PATHS + 3, FILE_ROOM = 2 };
+enum { PATHS = 4, WINDOWS = 3, SLOTS = 16, SLOT_WORDS = PATHS + 2, FILE_ROOM = 2 };
 
 /* A problem, and the search on it: the agenda and three numbers. */
 struct search {

@@ -15,8 +15,9 @@ A description says one thing on a line. What stands after a # is a remark. First
   rule north and south only 20:00+20:15 20:15+20:30     these windows together and no others
   rule north and south never 20:00+20:15                any windows together but these
 
-Two paths with several rules may hold what all of them allow, two without a rule anything. Then, if wanted, what is
-done to the search before it is saved, in this order of lines:
+There are 1 to 16 windows and 1 to 32 paths. A name has no + and no comma, and is none of the words any, and, at, before,
+differ, only, never. Two paths with several rules may hold what all of them allow, two without a rule anything. Then, if
+wanted, what is done to the search before it is saved, in the order of the lines, damage last:
 
   chooser 5 steps                         runs the house chooser, for just so many steps
   request backtracking north 20:00        one request; forward-checking and idc are written likewise
@@ -222,6 +223,15 @@ def named_parts(words):
     return [part.split() for part in " ".join(words).split(",")]
 
 
+def paths_of(said, parts):
+    """The numbers of the paths that the parts begin with, none of them twice."""
+    numbers = [said.path(part[0]) for part in parts]
+    for number in numbers:
+        if numbers.count(number) > 1:
+            raise Fault("'%s' stands here twice" % said.paths[number])
+    return numbers
+
+
 def do_chooser(said, search, words):
     """chooser K steps"""
     if len(words) != 2 or words[1] not in ("step", "steps"):
@@ -237,9 +247,9 @@ def do_request(said, search, words):
     elif kind == "halving" and len(rest) == 1:
         search.request(r.HALVING, said.path(rest[0]))
     elif kind == "extraction" and all(len(part) > 1 for part in named_parts(rest)):
-        targets = list(search.top().domains)
-        for part in named_parts(rest):
-            targets[said.path(part[0])] = said.mask(part[1:])
+        targets, parts = list(search.top().domains), named_parts(rest)
+        for path, part in zip(paths_of(said, parts), parts):
+            targets[path] = said.mask(part[1:])
         search.request(r.EXTRACTION, targets=targets)
     else:
         raise Fault("a request is backtracking, forward-checking or idc with a path and a window, "
@@ -251,7 +261,7 @@ def do_place(said, search, words):
     parts = named_parts(words)
     if any(len(part) != 3 or part[1] != "at" for part in parts):
         raise Fault("it is written 'place north at 20:00, south at 20:15'")
-    search.place([(said.path(path), said.window(window)) for path, _, window in parts])
+    search.place([(path, said.window(part[2])) for path, part in zip(paths_of(said, parts), parts)])
 
 
 DOINGS = {"chooser": do_chooser, "request": do_request, "place": do_place}
@@ -274,12 +284,15 @@ def say(said, words, where):
         lines[first](said, rest)
     elif first in DOINGS:
         said.doings.append((where, first, rest))
+    elif first == "like":
+        if len(rest) != 1:
+            raise Fault("it is written 'like NAME'")
     else:
         raise Fault("no line starts with '%s'" % first)
 
 
 def lines_of(file, above=()):
-    """The lines of a description with their places, those of the one that it is like first."""
+    """The lines of a description with their places; after a line 'like NAME', those of that one."""
     if file in above:
         raise Fault("%s is like itself" % file)
     try:
@@ -288,10 +301,10 @@ def lines_of(file, above=()):
     except (OSError, UnicodeDecodeError) as error:
         raise Fault("%s cannot be read: %s" % (file, error))
     for number, words in enumerate(lines, 1):
+        if words:
+            yield "%s line %d" % (os.path.relpath(file), number), words
         if words[:1] == ["like"] and len(words) == 2:
             yield from lines_of(os.path.join(os.path.dirname(file), words[1] + ".txt"), above + (file,))
-        elif words:
-            yield "%s line %d" % (os.path.relpath(file), number), words
 
 
 def made(file):

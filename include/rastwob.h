@@ -21,7 +21,8 @@
  * bytes as its length says, or one number, aligned as its type; and no two of them, buffers or numbers, overlap.
  * Buffers may stand at any address. Lengths are in BYTES. A length or content that the rules do not allow is refused,
  * never undefined.
- * Calls may be made from several threads at once, each on memory of its own.
+ * Calls may be made from several threads at once, each on memory of its own; what none of them writes (domains and
+ * tables of one problem, say) may be shared.
  *
  * Stack: a call keeps its words in local arrays, so it takes up to 200 KB of stack whatever n and d are (on x86-64; no
  * proof covers it), and crashes where there is less. Call from a thread with 256 KB: ./test tries all with just that.
@@ -85,7 +86,8 @@ extern "C" {
 #define RASTWOB_REFUSED_N 1u           /* n not 1 to 32 */
 #define RASTWOB_REFUSED_D 2u           /* d not 1 to 16 */
 #define RASTWOB_REFUSED_LENGTH 3u      /* domains not n words; tables not n * n * d words; agenda not 1 to 512 whole
-                                          slots; request list not whole requests */
+                                          slots; request list not whole requests; or one of these slices is an odd
+                                          number of bytes */
 #define RASTWOB_REFUSED_MASK 4u        /* a domain or read table mask has a bit at d or above */
 #define RASTWOB_REFUSED_ONE_WAY 5u     /* a pair is allowed one way only */
 #define RASTWOB_REFUSED_SEARCH 6u      /* a handed-in search breaks the rules for subproblems, has more of them than
@@ -107,7 +109,7 @@ extern "C" {
  * with nothing instantiated; but nothing where a domain is empty.
  * Leaves: *steps and *checks 0, *subproblems 1 (0 where a domain is empty), the agenda as said.
  * Returns the refusal, looked for in the order 1 to 5. Refused: the three numbers are 0, the agenda is as it was; so
- * over a search that you still want, hand in other numbers, as at rastwob_load. */
+ * where the agenda holds a search that a refusal is to leave intact, hand in other numbers, as at rastwob_load. */
 uint32_t rastwob_open(uint32_t n, uint32_t d,
                       const uint8_t *domains, size_t domains_bytes,
                       const uint8_t *tables, size_t tables_bytes,
@@ -155,9 +157,10 @@ uint32_t rastwob_save(uint32_t n, uint32_t d,
  * own n and d, which stand in its bytes 4 and 5, and 6 and 7, high byte first. Read them only where file_bytes is at
  * least 8; where it is not, or they are not 1 to 32 and 1 to 16, lend any lengths: the file is then refused 14 or 15
  * before lengths are looked at.
- * The agenda is lent at any number of slots that takes the subproblems. With as many as before, the search goes on as
- * if it had not been saved; with another number kind 3 may find or lack room (12) where it did not, so that steps,
- * checks, agenda and the plan found may differ.
+ * The agenda is lent at any number of slots that takes the subproblems, whose number stands in bytes 20 and 21, high
+ * byte first (read them only where file_bytes is at least 22); 512 slots take any. With as many slots as before, the
+ * search goes on as if it had not been saved; with another number kind 3 may find or lack room (12) where it did not,
+ * so that steps, checks, agenda and the plan found may differ.
  * Leaves: the five numbers; domains, tables (zeros for a path with itself) and agenda (zeros in unused slots), whole.
  * Returns the refusal, looked for in the order 14, 15, 3, 12. Refused: the numbers are 0, the buffers as they were. So
  * do not let load (or open) write its numbers over those of a search that you still want: hand it others, and take

@@ -45,4 +45,4 @@ def step_limit(n, domains):
 
 def steps_left(n, domains, marked_bits):
     """The most steps that a subproblem can still cost: size × (unmarked + 1) − 1."""
-    return size(domains) * (n - marked_bits.bit_count() + 1) - 1
+    return size(domains) * (n - bin(marked_bits).count("1") + 1) - 1

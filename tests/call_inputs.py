@@ -6,6 +6,7 @@ caller draws again. The calls with two or three faults at once show the order of
 
 import itertools
 
+import file_inputs
 import inputs
 import reference as r
 import wire
@@ -456,3 +457,50 @@ def mixed_calls(rng, number):
         faults = rng.sample(possible, rng.choice((0, 0, 1, 2, 2, 3)))
         ending = rng.choice(ENDINGS) if name in (wire.RUN, wire.CHOOSE) else None
         yield call_with(rng, name, faults, ending)
+
+
+# ---- Full size ------------------------------------------------------------------------------------
+
+def full_search(rng, number):
+    """The largest size, n 32 and d 16 in 512 slots, with so many subproblems."""
+    problem = inputs.random_problem(rng, 32, 16, 4)
+    some = inputs.random_agenda(rng, problem, 3)
+    return r.Search(problem, 512, [rng.choice(some) for _ in range(number)], 1000, 400000)
+
+
+def full_run(rng, search, number):
+    """A run of about so many requests that it takes, and one more for which there may be no room."""
+    after, requests = inputs.walked(rng, search, number)
+    if inputs.is_running(after):
+        requests.append(inputs.any_good_request(rng, search.problem, after.agenda[-1]))
+    call = call_on(rng, wire.RUN, search)
+    call.requests[:] = low_first(inputs.words_of_requests(requests))
+    return call
+
+
+def full_calls(rng, times):
+    """Each call on more than half of the largest agenda, up to all of it."""
+    for number in (257, 400, 511, 512) * times:
+        search = full_search(rng, number)
+        yield open_call(rng, search)
+        yield full_run(rng, search, 0)
+        yield full_run(rng, search, 24)
+        call = call_on(rng, wire.CHOOSE, search)
+        call.limit = 3
+        yield call
+        yield save_call(rng, search)
+        yield load_call(rng, search)
+
+
+def long_runs(rng):
+    """Lists of about 200 requests and of more, by the chooser's own choices, all taken or the last refused 7."""
+    search = inputs.opened(file_inputs.pigeons(7, 6), 512)
+    after, requests = search, []
+    for _ in range(450):
+        requests.append(r.chosen_request(after))
+        after = r.step(after, requests[-1])[1]
+    for number in (200, 201, 400, 401, 450):
+        for last in (requests[number - 1], requests[number - 1]._replace(kind=9)):
+            call = call_on(rng, wire.RUN, search)
+            call.requests[:] = low_first(inputs.words_of_requests(requests[:number - 1] + [last]))
+            yield call

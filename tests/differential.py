@@ -343,6 +343,10 @@ class Comparison:
             self.call(call)
         for call in call_inputs.mixed_calls(rng, 2000 * times):
             self.call(call)
+        for call in call_inputs.full_calls(rng, times):
+            self.call(call)
+        for call in call_inputs.long_runs(rng):
+            self.call(call)
 
     def part_c(self, seed, times):
         """Small searches by brute force."""

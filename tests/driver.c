@@ -9,7 +9,7 @@
  *   then the five buffers' bytes at exit, and 1 byte: 1 if every guard is intact, else 0.
  *
  * Each buffer and each number behind a pointer is lent at exactly its length, with guard bytes before and after;
- * shift moves the buffers (not the numbers) to odd places. Before the call the numbers hold what was read, and
+ * shift moves the buffers (not the numbers) to places of any alignment. Before the call the numbers hold what was read, and
  * verdict, taken and blocks a mark, so that a number which the call leaves unwritten is seen. */
 
 #include <stdint.h>

@@ -96,6 +96,18 @@ for name in mine --fast; do
     [ $? -eq 2 ] && head -n 1 "$room/log" | grep -qF -- "'$name'"
     judge $? "make.py $name: its first line says what is wrong"
 done
+# A description that make.py refuses: its last line, and what is said of it.
+wrongly() { # LINE MESSAGE
+    printf 'windows a b\npath x any\npath y any\n%s\n' "$1" >"$room/wrong.txt"
+    python3 -B examples/make.py "$room/wrong.txt" >"$room/log" 2>&1
+    [ $? -eq 1 ] && [ "$(wc -l <"$room/log")" -eq 1 ] && grep -qF -- "wrong.txt line 4: $2" "$room/log"
+    judge $? "make.py on '$1': $2"
+}
+wrongly 'like x y' "it is written 'like NAME'"
+wrongly 'like wrong' "$room/wrong.txt is like itself"
+wrongly 'place x at a, x at b' "'x' stands here twice"
+wrongly 'request extraction x a, y b, x b' "'x' stands here twice"
+wrongly 'request halving z' "no path is called 'z'"
 
 # ---- ./plan on them
 # Runs a command on the present standard input, and holds its status, output and messages to what is told.
@@ -159,6 +171,7 @@ says "./plan, a directory as standard input" 2 "$nothing" 'standard input is a d
 says "./plan, two arguments" 2 "$nothing" 'usage: plan FILE' ./plan examples/printed.search examples/printed.search
 says "./plan, an unknown option" 2 "$nothing" 'usage: plan FILE' ./plan --fast examples/printed.search
 says "./plan -" 2 "$nothing" 'standard input is read by plan < FILE' ./plan - <examples/printed.search
+says "./plan --, no FILE" 2 "$nothing" 'no FILE after --' ./plan --
 says "./plan, no FILE and standard input closed" 2 "$nothing" 'usage: plan FILE' ./plan <&-
 terminal='import os, pty, subprocess, sys; sys.exit(subprocess.run(["./plan"], stdin=pty.openpty()[1]).returncode)'
 says "./plan, no FILE at a terminal" 2 "$nothing" 'usage: plan FILE' python3 -c "$terminal"
@@ -217,6 +230,9 @@ says "a missing program without rt" 2 "$nothing" 'rt (the Rattle kit) is not on 
 mkdir -p "$tree/target/bin"
 cp "$room/bin/uname" "$tree/target/bin/planner"
 says "a program that was not built here, without rt" 2 "$nothing" 'to run it as it is' in_tree "$tree/plan" "$room/solved"
+says "the same on Arm" 2 "$nothing" 'was not built here' in_tree MACHINE=aarch64 "$tree/plan" "$room/solved"
+! grep -q 'to run it as it is' "$room/err"
+judge $? "on Arm it does not say to run the program as it is"
 rm -r "$tree/target"
 ln -s ../kit/bin/rt "$room/bin/rt"
 says "a missing program is built, and a line says so" 0 "$room/solved" 'building the planner' in_tree "$tree/plan" "$room/solved"

@@ -10,6 +10,7 @@ sides, so that the two agree and only part (c), brute force, can find them.
 """
 
 import os
+import shlex
 import shutil
 import subprocess
 import sys
@@ -118,7 +119,7 @@ def edited(text, fault):
 
 def command(folder, part, module):
     """The stand-in's command line."""
-    return "%s %s %s %s" % (sys.executable, os.path.join(folder, "standin.py"), part, os.path.join(folder, module))
+    return shlex.join([sys.executable, os.path.join(folder, "standin.py"), part, os.path.join(folder, module)])
 
 
 def outcome(fault, both):

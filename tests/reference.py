@@ -49,7 +49,7 @@ def values(mask):
 
 def count(mask):
     """How many values a mask has."""
-    return mask.bit_count()
+    return bin(mask).count("1")
 
 
 def without(mask, other):
