@@ -27,7 +27,7 @@ ghost use Rattle.search.specs.Calls.{opening, searchOf, Opens, Runs, Cho
 ghost use Rattle.search.specs.Work.Kept.{Ready};
 ghost use Rattle.search.specs.Work.Steps.{TakesOne, TakesAll, ChoosesOne, ChoosesAll};
 ghost use Rattle.search.specs.Work.Lanes.{Rows, Below};
-ghost use Rattle.search.specs.Work.Ends.{Openable, Used, requestAt, endedBy};
+ghost use Rattle.search.specs.Work.Ends.{Openable, Used, requestAt, refusedBy, endedBy};
 
 // Opens a search.
 pub fn open(n: usize, d: usize, domains: &[u16], tables: &[u16], agenda: &mut [u16]) -> Opened
@@ -88,12 +88,7 @@ pub fn run(
 {
     let refusal = first::run_refusal(n, d, domains, tables, agenda, requests, state);
     if refusal != 0 {
-        return Ran {
-            verdict: Verdict::None,
-            refusal,
-            taken: 0,
-            state,
-        };
+        return refused(refusal, state);
     }
     let stop = run_on(n, d, tables, agenda, requests, state);
     ended(n, agenda, stop)
@@ -177,12 +172,7 @@ pub fn choose(
 {
     let refusal = first::search_refusal(n, d, domains, tables, agenda, state);
     if refusal != 0 {
-        return Ran {
-            verdict: Verdict::None,
-            refusal,
-            taken: 0,
-            state,
-        };
+        return refused(refusal, state);
     }
     let stop = choose_on(n, d, tables, agenda, limit, state);
     ended(n, agenda, stop)
@@ -242,6 +232,18 @@ fn step_chosen(
         }
     }
     step::stopped(0, state)
+}
+
+// What a call returns that its first checks refuse.
+fn refused(refusal: u32, state: State) -> Ran
+    ensures { λ r. ⌜ r ≡ refusedBy refusal state ⌝ }
+{
+    Ran {
+        verdict: Verdict::None,
+        refusal,
+        taken: 0,
+        state,
+    }
 }
 
 // What a call returns that stopped so.

@@ -14,11 +14,14 @@ use Rattle.search.proofs.choose.Tie as tie
 search-refusal-requires : tie.Need-search-refusal-requires
 search-refusal-requires c κs = search needs
 
+refused-requires : tie.Need-refused-requires
+refused-requires c κs = tt
+
 same-length : tie.Need-same-length
 same-length c = search needs
 
 returns : tie.Need-returns
-returns c = ends-refused _ _ _ _ _ _ (c .before .search-refusal .ensures) (c .if1 .taken)
+returns c = rw (c .refused .ensures) (ends-refused _ _ _ _ _ _ (c .before .before .search-refusal .ensures) (c .before .if1 .taken))
 
 choose-on-requires : tie.Need-choose-on-requires
 choose-on-requires c κs =
@@ -41,6 +44,7 @@ choose-spec =
     tie.close
     (tie.spec
     search-refusal-requires
+    refused-requires
     same-length
     returns
     choose-on-requires

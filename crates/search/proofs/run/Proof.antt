@@ -14,11 +14,14 @@ use Rattle.search.proofs.run.Tie as tie
 run-refusal-requires : tie.Need-run-refusal-requires
 run-refusal-requires c κs = search needs
 
+refused-requires : tie.Need-refused-requires
+refused-requires c κs = tt
+
 same-length : tie.Need-same-length
 same-length c = search needs
 
 returns : tie.Need-returns
-returns c = ends-refused _ _ _ _ _ _ (c .before .run-refusal .ensures) (c .if1 .taken)
+returns c = rw (c .refused .ensures) (ends-refused _ _ _ _ _ _ (c .before .before .run-refusal .ensures) (c .before .if1 .taken))
 
 run-on-requires : tie.Need-run-on-requires
 run-on-requires c κs =
@@ -41,6 +44,7 @@ run-spec =
     tie.close
     (tie.spec
     run-refusal-requires
+    refused-requires
     same-length
     returns
     run-on-requires

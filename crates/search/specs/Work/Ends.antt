@@ -5,6 +5,8 @@ use Prim.Native.Nat.{ℕ, _+_, _*_, _≤_}
 use lib.ListN.{length, take, drop}
 use Rattle.search.specs.Agenda.{stackOf, slotsIn}
 use Rattle.search.specs.Verdicts.{verdictOf}
+use Rattle.search.specs.declared.state.State.{State}
+use Rattle.search.specs.declared.state.Verdict.the-variants.{None}
 use Rattle.search.specs.declared.state.Ran.{Ran}
 use Rattle.search.specs.declared.step.Stop.{Stop}
 
@@ -23,6 +25,10 @@ pub record Used (n m words : ℕ) : Type 0 where
 -- The words of request k of a list.
 unfoldable pub requestAt : ℕ → List ℕ → ℕ → List ℕ
 requestAt n requests k = take (n + 3) (drop (k * (n + 3)) requests)
+
+-- What is returned where the first checks refuse.
+abbrev pub refusedBy : ℕ → State → Ran
+refusedBy refusal state = record { verdict = None; refusal = refusal; taken = 0; state = state }
 
 -- What is returned where a run stopped so, with the verdict of the memory it left.
 abbrev pub endedBy : ℕ → List ℕ → Stop → Ran
