@@ -251,8 +251,9 @@ Diagonal-save =
 
 -- ---- searches begun by opening, saved and loaded
 
--- What opening and any number of calls lead to, each handed what the one before it left, loads of the blocks that save wrote among them. tables₀ are
--- the tables that were opened; load writes zeros at a variable with itself, so that those in memory may differ from them there.
+-- What opening and any number of calls lead to, each handed what the one before it left, loads of the blocks that save wrote among them, and moved
+-- in memory to an agenda of another length that takes it, zeros after. tables₀ are the tables that were opened; load writes zeros at a variable with
+-- itself, so that those in memory may differ from them there.
 pub data Lived (n d : ℕ) (domains tables₀ : List ℕ) : List ℕ → List ℕ → State → Type 0 where
   opened : {before after : List ℕ} {r : Opened} → Opens n d domains tables₀ before after r → r .refusal ≡ 0
       → Lived n d domains tables₀ tables₀ after (r .state)
@@ -264,6 +265,8 @@ pub data Lived (n d : ℕ) (domains tables₀ : List ℕ) : List ℕ → List �
       → Lived n d domains tables₀ tables agenda s → Saves n d domains tables agenda s before after saved → saved .refusal ≡ 0
       → Loads (take (512 * saved .blocks) after) domains₁ domains′ tables₁ tables′ agenda₁ agenda′ r → r .refusal ≡ 0
       → Lived n d domains tables₀ tables′ agenda′ (r .state)
+  moved : {tables agenda : List ℕ} {s : State} → Lived n d domains tables₀ tables agenda s → (words : ℕ) → WholeSlots n words
+      → s .subproblems ≤ slotsIn n words → Lived n d domains tables₀ tables (agendaOf n words (stackOf n agenda (s .subproblems))) s
 
 -- It passes when handed on, and it is a reached search of the problem that was opened.
 abbrev pub Lived-reached : Type 0
@@ -385,7 +388,7 @@ pub record Same-end {n d : ℕ} {domains tables : List ℕ} (w : Two-ways n d do
   pub taken : w .first .taken + w .second .taken ≡ w .whole .taken
 
 -- Any list of requests, cut anywhere, saved, loaded into an agenda of equal length, gone on with: the same verdict, agenda and counts as uncut. Of
--- every search begun by opening and saved and loaded any number of times since.
+-- every search begun by opening, saved, loaded and moved any number of times since.
 abbrev pub Cut-lived : Type 0
 Cut-lived =
     (n d : ℕ) (domains tables₀ tables agenda : List ℕ) (s : State) (requests more : List ℕ) → Lived n d domains tables₀ tables agenda s
