@@ -24,10 +24,10 @@ use Rattle.files.specs.Promises.{Bytes, Says}
 use Rattle.files.proofs.Whole.{Whole, rebuilt}
 use Rattle.files.proofs.Triangle.{triangle-from}
 use Rattle.files.proofs.Blocks.{file-blocks, file-content, file-passes}
-use Rattle.files.proofs.Accepted.{Accepts, accept-words}
+use Rattle.files.proofs.Accepted.{Accepts, agenda-length, accept-words}
 use Rattle.files.proofs.Contents.{content-words, content-length, says-n, says-d, says-steps, says-checks, says-subproblems, says-domains, says-words, says-search, says-stack, says-below, says-above}
 use Rattle.files.proofs.Words.{word-small}
-use Rattle.files.proofs.Lists.{map-length, map-at, seq, seq-join, seq-length, seq-at}
+use Rattle.files.proofs.Lists.{map-at, seq, seq-join, seq-length, seq-at}
 use Rattle.files.proofs.Stacks.{stack-most, of-shape}
 use Rattle.files.proofs.Tables.{with-table, rules-agree, agree-back}
 
@@ -158,17 +158,13 @@ module _ (file : List ℕ) (bytes : Bytes file) where
   unfolding contentWord blockWord
   content-word k = word-small file bytes (256 * (k / 253) + (2 + k % 253))
 
-  agenda-length : length (saidAgenda file) ≡ saidSubproblems file * (saidN file + 2)
-  unfolding saidAgenda contentFrom
-  agenda-length = map-length (λ k. contentWord file (agendaFrom file + k)) (saidSubproblems file * (saidN file + 2))
-
   agenda-small : (k : ℕ) → getD (saidAgenda file) k 0 < 65536
   unfolding saidAgenda contentFrom
   agenda-small k = elim (decLt k (saidSubproblems file * (saidN file + 2))) [
     | yes l ↦
         rw (map-at (λ k. contentWord file (agendaFrom file + k)) (saidSubproblems file * (saidN file + 2)) k 0 l) (content-word (agendaFrom file + k))
     | no l ↦
-        rw (List·getD-eq-default (map (λ k. contentWord file (agendaFrom file + k)) (below (saidSubproblems file * (saidN file + 2)))) 0 {n = k} (omega (arith, agenda-length)))
+        rw (List·getD-eq-default (map (λ k. contentWord file (agendaFrom file + k)) (below (saidSubproblems file * (saidN file + 2)))) 0 {n = k} (omega (arith, agenda-length file)))
         (omega arith)
   ]
 
@@ -176,7 +172,7 @@ module _ (file : List ℕ) (bytes : Bytes file) where
     -- Each subproblem that it says is as memory holds it.
     pub said-shape : (P : Subproblem) → List·Memᴰ P (saidSearch file .stack) → Shape (saidN file) 16 P
     said-shape P m =
-        of-shape (saidN file) few (saidAgenda file) agenda-small (saidSubproblems file) (omega (arith, agenda-length)) P m
+        of-shape (saidN file) few (saidAgenda file) agenda-small (saidSubproblems file) (omega (arith, agenda-length file)) P m
 
     -- They are as many as it says.
     pub said-length : length (saidSearch file .stack) ≡ saidSubproblems file
@@ -192,8 +188,8 @@ module _ (file : List ℕ) (bytes : Bytes file) where
         ≡ seq (contentWord file) (9 + saidN file + triangleWords (saidN file) (saidD file)) (saidSubproblems file * (saidN file + 2))
     unfolding saidAgenda contentFrom seq
     agenda-from =
-        stack-of-words (saidN file) (saidAgenda file) (saidSubproblems file) (omega (arith, agenda-length)) agenda-small
-        ∙ take-all (saidSubproblems file * (saidN file + 2)) (saidAgenda file) (omega (arith, agenda-length))
+        stack-of-words (saidN file) (saidAgenda file) (saidSubproblems file) (omega (arith, agenda-length file)) agenda-small
+        ∙ take-all (saidSubproblems file * (saidN file + 2)) (saidAgenda file) (omega (arith, agenda-length file))
 
     -- All of it.
     pub said-content : contentOf (saidN file) (saidD file) (saidDomains file) (saidAllowed file) (saidSearch file) ≡ seq (contentWord file) 0 (saidWords file)
