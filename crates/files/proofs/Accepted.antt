@@ -286,7 +286,7 @@ module _ (file : List ℕ) where
   -- Its agenda has no slot that is not used.
   pub agenda-length : length (saidAgenda file) ≡ saidSubproblems file * (saidN file + 2)
   unfolding saidAgenda contentFrom
-  agenda-length = map-length (λ k. contentWord file (agendaFrom file + k)) (saidSubproblems file * (saidN file + 2))
+  agenda-length = map-length (λ k. contentWord file (agendaFrom (saidN file) (saidD file) + k)) (saidSubproblems file * (saidN file + 2))
 
   -- An accepted file breaks none.
   pub accepts-deserves-not : Accepts file → Deserves-15 file → ⊥

@@ -162,9 +162,9 @@ module _ (file : List ℕ) (bytes : Bytes file) where
   unfolding saidAgenda contentFrom
   agenda-small k = elim (decLt k (saidSubproblems file * (saidN file + 2))) [
     | yes l ↦
-        rw (map-at (λ k. contentWord file (agendaFrom file + k)) (saidSubproblems file * (saidN file + 2)) k 0 l) (content-word (agendaFrom file + k))
+        rw (map-at (λ k. contentWord file (agendaFrom (saidN file) (saidD file) + k)) (saidSubproblems file * (saidN file + 2)) k 0 l) (content-word (agendaFrom (saidN file) (saidD file) + k))
     | no l ↦
-        rw (List·getD-eq-default (map (λ k. contentWord file (agendaFrom file + k)) (below (saidSubproblems file * (saidN file + 2)))) 0 {n = k} (omega (arith, agenda-length file)))
+        rw (List·getD-eq-default (map (λ k. contentWord file (agendaFrom (saidN file) (saidD file) + k)) (below (saidSubproblems file * (saidN file + 2)))) 0 {n = k} (omega (arith, agenda-length file)))
         (omega arith)
   ]
 

@@ -88,12 +88,16 @@ abbrev pub saidProblem : List ℕ → Problem
 saidProblem file =
     record { n = saidN file; d = saidD file; domain = λ i. getD (saidDomains file) i 0; allowed = saidAllowed file }
 
--- Its agenda's words, bottom first, and its stack.
-abbrev pub agendaFrom : List ℕ → ℕ
-agendaFrom file = 9 + saidN file + triangleWords (saidN file) (saidD file)
+-- Where the agenda begins in a content of n variables and d values, and how many words a content has.
+abbrev pub agendaFrom : ℕ → ℕ → ℕ
+agendaFrom n d = 9 + n + triangleWords n d
 
+abbrev pub wordCount : ℕ → ℕ → ℕ → ℕ
+wordCount n d subproblems = agendaFrom n d + subproblems * (n + 2)
+
+-- A file's agenda's words, bottom first, and its stack.
 unfoldable pub saidAgenda : List ℕ → List ℕ
-saidAgenda file = contentFrom file (agendaFrom file) (saidSubproblems file * (saidN file + 2))
+saidAgenda file = contentFrom file (agendaFrom (saidN file) (saidD file)) (saidSubproblems file * (saidN file + 2))
 
 abbrev pub saidSearch : List ℕ → Search
 saidSearch file =
@@ -105,7 +109,7 @@ saidSearch file =
 
 -- How many words the content of a file is to have.
 abbrev pub saidWords : List ℕ → ℕ
-saidWords file = agendaFrom file + saidSubproblems file * (saidN file + 2)
+saidWords file = wordCount (saidN file) (saidD file) (saidSubproblems file)
 
 -- 15: the file's words break a rule above (its own count of subproblems being 0 to 512), or do not fill exactly that many blocks with zeros
 -- after. The rules are 1, 2, 4 and 6; 5 no file can break, as it says each pair once.
