@@ -4,12 +4,10 @@ use mathlib.Core.Path.{_≡_, refl, sym, ap, _∙_}
 use mathlib.Core.Logic.{_⊎_, inl, inr, _↔_}
 use mathlib.Core.Bool.{Bool, true, false, not, cond, _&&_, _||_, or-true}
 use mathlib.Core.List.{List, List·Memᴰ}
-use Prim.Native.Nat.{ℕ, zero, _+_, _-_, _*_, _/_, _%_, _^_, _≤_, _<_}
+use Prim.Native.Nat.{ℕ, zero, _+_, _-_, _*_, _^_, _≤_, _<_}
 use native.Mathlib.Omega.{arith}
-use native.Mathlib.Nat.{div-add-mod', mod-lt}
 use native.Mathlib.Decide.{decLt}
 use lib.Arith.{lt-of-le-ne}
-use lib.Pow.{pow-pos, shr-shr}
 use lib.ListN.{length}
 use lib.Dec.{eqb, leb, ltb}
 use borrow.Author.Tests.{eq-eqb, le-leb, lt-ltb, le-ltb, eqb-true, eqb-false, leb-true, leb-false, ltb-true, ltb-false, not-false}
@@ -17,13 +15,13 @@ use Rattle.splits.specs.Masks.{bit}
 use Rattle.splits.specs.Problem.{Proper}
 use Rattle.splits.specs.Subproblems.{Rules, every}
 use Rattle.splits.specs.declared.subproblem.Subproblem.{Subproblem}
-use Rattle.splits.proofs.Masks.{bit-le, bit-above, some-member}
+use Rattle.splits.proofs.Masks.{bit-le, bit-above}
 use Rattle.splits.proofs.Tests.{true-false, and-left, and-right, or-left, or-right, every-at, every-all}
 use Rattle.search.specs.Agenda.{slotsIn}
 use Rattle.search.specs.FirstChecks.{Over, Deserves-4, allObey}
 use Rattle.search.proofs.Decisions.{Refutes, every-fails}
 use Rattle.search.proofs.FirstParts.{given-if}
-use Rattle.search.proofs.Deserved.{refutes-rules, all-rules, all-obey}
+use Rattle.search.proofs.Deserved.{over-of, refutes-rules, all-rules, all-obey}
 use Rattle.search.proofs.FirstPassing.{gives-none}
 use Rattle.files.specs.Blocks.{blocksFor}
 use Rattle.files.specs.Reading.{blocksIn, contentWord, contentFrom, saidN, saidD, saidSteps, saidChecks, saidSubproblems, saidAllowed, saidProblem, saidAgenda, saidSearch, saidWords, agendaFrom, gathered, Deserves-15, masksBelowTriangle, refusalOfWords}
@@ -32,17 +30,9 @@ use Rattle.files.proofs.Lists.{map-length}
 use Rattle.files.proofs.Stacks.{slots-in}
 use Rattle.files.proofs.Gathered.{gathered-lt, gathered-bit}
 
--- A mask has a bit at d or above exactly if it is 2 ^ d or more.
+-- A mask below 2 ^ d has no bit at d or above.
 pub over-not : (d m : ℕ) → m < 2 ^ d → Over d m → ⊥
 over-not d m h (v, l, e) = omega (arith, bit-above d m v h l)
-
--- A mask of 2 ^ d or more has such a bit.
-pub over-found : (d m : ℕ) → 2 ^ d ≤ m → Over d m
-unfolding bit
-over-found d m h =
-    let some : m / 2 ^ d ≡ 0 → ⊥ = λ e. let whole : 0 * 2 ^ d + m % 2 ^ d ≡ m = rw e at (div-add-mod' m (2 ^ d)) in omega (arith, mod-lt m (pow-pos d)) in
-    let (v, e) = some-member (m / 2 ^ d) some in
-    (d + v, omega arith, rw (← shr-shr m d v) e)
 
 -- What an accepted file says.
 pub record Accepts (file : List ℕ) : Type 0 where
@@ -168,7 +158,7 @@ module _ (file : List ℕ) where
       let (j, k, y) = every-fails (pair i) (saidN file) x in
       let (a, m, z) = every-fails (test i j) (saidD file) (or-right (not (ltb i j)) (every (saidD file) (test i j)) y) in
       let h : i < j = ltb-true i j (not-false (ltb i j) (or-left (not (ltb i j)) (every (saidD file) (test i j)) y)) in
-      inr (i, j, a, l, k, (λ e. absurd (omega arith)), m, over-found (saidD file) (saidAllowed file i j a) (ltb-false (saidAllowed file i j a) (2 ^ saidD file) z))
+      inr (i, j, a, l, k, (λ e. absurd (omega arith)), m, over-of (saidD file) (saidAllowed file i j a) (ltb-false (saidAllowed file i j a) (2 ^ saidD file) z))
 
   -- What the tests say.
   tests-accept : tests ≡ true → Accepts file
@@ -260,7 +250,7 @@ module _ (file : List ℕ) where
       doms a b c d f g h (inl x) = masks a b c d f g h x (either t-masks)
       doms a b c d f g h (inr x) =
           let (i, l, z) = every-fails (λ i. ltb (saidProblem file .domain i) (2 ^ saidD file)) (saidN file) x in
-          inr (inr (inr (inr (inr (inl (inl (i, l, over-found (saidD file) (saidProblem file .domain i) (ltb-false (saidProblem file .domain i) (2 ^ saidD file) z))))))))
+          inr (inr (inr (inr (inr (inl (inl (i, l, over-of (saidD file) (saidProblem file .domain i) (ltb-false (saidProblem file .domain i) (2 ^ saidD file) z))))))))
 
       zeros : t-one ≡ true → t-vars ≡ true → t-val ≡ true → t-vals ≡ true → t-few ≡ true → t-fills ≡ true → Way t-zero → Deserves-15 file
       zeros a b c d f g (inl x) = doms a b c d f g x (either t-doms)

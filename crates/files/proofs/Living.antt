@@ -16,7 +16,7 @@ use Rattle.search.specs.Runs.{requestsIn}
 use Rattle.search.specs.FirstChecks.{WholeSlots, runRefusal}
 use Rattle.search.specs.Verdicts.{numberOf, verdictOf}
 use Rattle.search.specs.Calls.{searchOf, Runs}
-use Rattle.search.specs.Promises.{Passed, Handed, Leaves, Reached, Has-solution}
+use Rattle.search.specs.Promises.{Shown, Passed, Handed, Leaves, Reached, Has-solution}
 use Rattle.search.specs.declared.state.State.{State}
 use Rattle.search.specs.declared.state.Ran.{Ran}
 use Rattle.search.specs.declared.state.Verdict.{Verdict}
@@ -27,7 +27,7 @@ use Rattle.search.proofs.Promises.{open-leaves, run-leaves, chooser-leaves, run
 use Rattle.files.specs.Blocks.{fileOf}
 use Rattle.files.specs.Reading.{saidAllowed, tableWords}
 use Rattle.files.specs.Calls.{handedContent, saveRefusal, Saves, Loads}
-use Rattle.files.specs.Promises.{Says, Shown, Lived, opened, ran, chose, loaded, moved}
+use Rattle.files.specs.Promises.{Says, Lived, opened, ran, chose, loaded, moved}
 use Rattle.files.specs.declared.saved.Saved.{Saved}
 use Rattle.files.specs.declared.saved.Loaded.{Loaded}
 use Rattle.files.proofs.Triangle.{table-length}
@@ -167,7 +167,8 @@ module _ {n d : ℕ} {domains tables₀ tables agenda : List ℕ} {s : State} (l
   says-unsolvable v e h =
       reached-unsolvable n d domains tables₀ (slotsIn n (length agenda)) (searchOf n agenda s) proper₀ reached₀ (ap numberOf (sym e) ∙ h)
 
-  pub says-solved : (v : Verdict) → v ≡ verdictOf n (stackOf n agenda (s .subproblems)) → numberOf v ≡ 2 → Shown n d domains tables₀ agenda s
+  pub says-solved : (v : Verdict) → v ≡ verdictOf n (stackOf n agenda (s .subproblems)) → numberOf v ≡ 2
+      → Shown (problemOf n d domains tables₀) (stackOf n agenda (s .subproblems))
   says-solved v e h =
       solved-shows (problemOf n d domains tables₀) (slotsIn n (length agenda)) (searchOf n agenda s)
       (reached-passes n d domains tables₀ (slotsIn n (length agenda)) (searchOf n agenda s) proper₀ reached₀) (ap numberOf (sym e) ∙ h)

@@ -5,8 +5,6 @@ use mathlib.Core.List.{List, List·Memᴰ, [], _∷_, _++_}
 use Prim.Native.Nat.{ℕ, _+_, _*_, _/_, _%_, _^_, _≤_, _<_}
 use lib.ListN.{length, getD, take, drop}
 use Rattle.splits.specs.Problem.{Problem, Proper, Table, Allow-same, Solution, tableOf}
-use Rattle.splits.specs.Masks.{lowest, single}
-use Rattle.splits.specs.Subproblems.{domain}
 use Rattle.splits.specs.Measure.{sum}
 use Rattle.splits.specs.Promises.{Solvable, AgreeApart, One}
 use Rattle.splits.specs.declared.subproblem.Subproblem.{Subproblem}
@@ -14,7 +12,7 @@ use Rattle.search.specs.Agenda.{Words, problemOf, stackOf, slotsIn, agendaOf}
 use Rattle.search.specs.FirstChecks.{WholeSlots, WholeRequests, Deserves-3, searchRefusal}
 use Rattle.search.specs.Runs.{Search}
 use Rattle.search.specs.Calls.{searchOf, Opens, Runs, Chooses}
-use Rattle.search.specs.Promises.{Limited, Handed, Reached, Has-solution}
+use Rattle.search.specs.Promises.{Shown, Limited, Handed, Reached, Has-solution}
 use Rattle.search.specs.Verdicts.{numberOf}
 use Rattle.search.specs.declared.state.State.{State}
 use Rattle.search.specs.declared.state.Opened.{Opened}
@@ -304,22 +302,18 @@ Unsolvable-choose =
     (n d : ℕ) (domains tables₀ tables before after : List ℕ) (limit : ℕ) (s : State) (r : Ran) → Lived n d domains tables₀ tables before s
     → Chooses n d domains tables before after limit s r → numberOf (r .verdict) ≡ 3 → Has-solution (problemOf n d domains tables₀) → ⊥
 
--- One that says solved: the top slot shows a solution of the problem that was opened, one value for each variable.
-abbrev pub Shown : ℕ → ℕ → List ℕ → List ℕ → List ℕ → State → Type 0
-Shown n d domains tables₀ after s =
-    (P : Subproblem) × (S : List Subproblem) × (stackOf n after (s .subproblems) ≡ P ∷ S)
-    × ((i : ℕ) → i < n → domain P i ≡ single (lowest (domain P i)))
-    × Solution n (tableOf n d tables₀) (λ i. getD domains i 0) (λ i. lowest (domain P i))
-
+-- One that says solved: the top slot shows a solution of the problem that was opened.
 abbrev pub Solved-run : Type 0
 Solved-run =
     (n d : ℕ) (domains tables₀ tables before after requests : List ℕ) (s : State) (r : Ran) → Lived n d domains tables₀ tables before s
-    → Runs n d domains tables before after requests s r → numberOf (r .verdict) ≡ 2 → Shown n d domains tables₀ after (r .state)
+    → Runs n d domains tables before after requests s r → numberOf (r .verdict) ≡ 2
+    → Shown (problemOf n d domains tables₀) (stackOf n after (r .state .subproblems))
 
 abbrev pub Solved-choose : Type 0
 Solved-choose =
     (n d : ℕ) (domains tables₀ tables before after : List ℕ) (limit : ℕ) (s : State) (r : Ran) → Lived n d domains tables₀ tables before s
-    → Chooses n d domains tables before after limit s r → numberOf (r .verdict) ≡ 2 → Shown n d domains tables₀ after (r .state)
+    → Chooses n d domains tables before after limit s r → numberOf (r .verdict) ≡ 2
+    → Shown (problemOf n d domains tables₀) (stackOf n after (r .state .subproblems))
 
 -- And the problem that a file says has the solutions of the one saved.
 abbrev pub Same-solutions : Type 0
