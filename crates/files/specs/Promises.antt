@@ -2,7 +2,7 @@
 use mathlib.Core.Path.{_≡_}
 use mathlib.Core.Logic.{_↔_}
 use mathlib.Core.List.{List, List·Memᴰ, [], _∷_, _++_}
-use Prim.Native.Nat.{ℕ, _+_, _*_, _/_, _%_, _^_, _≤_, _<_}
+use Prim.Native.Nat.{ℕ, _+_, _*_, _/_, _%_, _≤_, _<_}
 use lib.ListN.{length, getD, take, drop}
 use Rattle.splits.specs.Problem.{Problem, Proper, Table, Allow-same, Solution, tableOf}
 use Rattle.splits.specs.Measure.{sum}
@@ -105,8 +105,8 @@ Load-leaves =
     (file domains domains′ tables tables′ agenda agenda′ : List ℕ) (r : Loaded) → Bytes file → Loads file domains domains′ tables tables′ agenda agenda′ r
     → r .refusal ≡ 0 → Left-by-load file agenda domains′ tables′ agenda′ r
 
--- The same of the calls. What load gives back of a search saved: nothing is refused, n, d, the domains, what two different variables allow, and the
--- search in memory are as they were handed to save.
+-- Load after save, of the calls: what load gives back of a search saved. Nothing is refused, n, d, the domains, what two different variables allow,
+-- and the search in memory are as they were handed to save.
 pub record Given-back (n d : ℕ) (domains tables : List ℕ) (s : Search) (r : Loaded) (domains′ tables′ agenda′ : List ℕ) : Type 0 where
   pub refusal : r .refusal ≡ 0
   pub its-n : r .n ≡ n
@@ -124,7 +124,7 @@ Loads-back =
     → length tables₀ ≡ n * n * d → WholeSlots n (length agenda₀) → s .subproblems ≤ slotsIn n (length agenda₀)
     → Given-back n d domains tables (searchOf n agenda s) r domains′ tables′ agenda′
 
--- Save of what load accepted, into a buffer that takes it, is not refused and writes the file again.
+-- Save after load, of the calls: save of what load accepted, into a buffer that takes it, is not refused and writes the file again.
 abbrev pub Saves-back : Type 0
 Saves-back =
     (file domains₀ domains tables₀ tables agenda₀ agenda : List ℕ) (r : Loaded) (before after : List ℕ) (saved : Saved) → Bytes file
@@ -226,7 +226,7 @@ Load-one =
 -- ---- a variable with itself
 
 -- No result of opening, run, chooser or save depends on what stands at i with itself: whatever satisfies the statement with one list of tables
--- satisfies it with the other. The steps are a word of 32 bits.
+-- satisfies it with the other. The steps fit their counter.
 abbrev pub Diagonal-open : Type 0
 Diagonal-open =
     (n d : ℕ) (domains tables tables′ before after : List ℕ) (r : Opened) → AgreeApart n d tables tables′ → Opens n d domains tables before after r
@@ -235,12 +235,12 @@ Diagonal-open =
 abbrev pub Diagonal-run : Type 0
 Diagonal-run =
     (n d : ℕ) (domains tables tables′ before after requests : List ℕ) (s : State) (r : Ran) → AgreeApart n d tables tables′
-    → s .counts .steps .0 < 2 ^ 32 → Runs n d domains tables before after requests s r → Runs n d domains tables′ before after requests s r
+    → s .counts .steps .0 ≤ 4294967295 → Runs n d domains tables before after requests s r → Runs n d domains tables′ before after requests s r
 
 abbrev pub Diagonal-choose : Type 0
 Diagonal-choose =
     (n d : ℕ) (domains tables tables′ before after : List ℕ) (limit : ℕ) (s : State) (r : Ran) → AgreeApart n d tables tables′
-    → s .counts .steps .0 < 2 ^ 32 → Chooses n d domains tables before after limit s r → Chooses n d domains tables′ before after limit s r
+    → s .counts .steps .0 ≤ 4294967295 → Chooses n d domains tables before after limit s r → Chooses n d domains tables′ before after limit s r
 
 abbrev pub Diagonal-save : Type 0
 Diagonal-save =
@@ -392,8 +392,7 @@ Cut-lived =
 -- So of any search that passes the first checks, reached or not, in memory of words.
 abbrev pub Cut-any : Type 0
 Cut-any =
-    (n d : ℕ) (domains tables agenda : List ℕ) (s : State) (requests more : List ℕ) → Words agenda → s .counts .steps .0 < 2 ^ 32
-    → searchRefusal n d domains tables agenda (s .counts .steps .0) (s .counts .checks .0) (s .subproblems) ≡ 0
+    (n d : ℕ) (domains tables agenda : List ℕ) (s : State) (requests more : List ℕ) → Handed n d domains tables agenda s
     → WholeRequests n (length requests) → WholeRequests n (length more)
     → (t : Trip n d domains tables agenda s requests more) → Same-end (t .ways)
 
@@ -403,8 +402,7 @@ Cut-any =
 -- to have met none.
 abbrev pub Cut-choose : Type 0
 Cut-choose =
-    (n d : ℕ) (domains tables agenda : List ℕ) (s : State) (m k : ℕ) → Words agenda → s .counts .steps .0 < 2 ^ 32
-    → searchRefusal n d domains tables agenda (s .counts .steps .0) (s .counts .checks .0) (s .subproblems) ≡ 0
+    (n d : ℕ) (domains tables agenda : List ℕ) (s : State) (m k : ℕ) → Handed n d domains tables agenda s
     → (t : Chooser-trip n d domains tables agenda s m k) → (k ≡ 0 → t .ways .first .refusal ≡ 0) → Same-end (t .ways)
 
 -- The number of variables that a file says is one number, and that of values.
