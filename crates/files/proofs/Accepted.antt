@@ -24,9 +24,9 @@ use Rattle.search.proofs.FirstParts.{given-if}
 use Rattle.search.proofs.Deserved.{over-of, refutes-rules, all-rules, all-obey}
 use Rattle.search.proofs.FirstPassing.{gives-none}
 use Rattle.files.specs.Blocks.{blocksFor}
-use Rattle.files.specs.Reading.{blocksIn, contentWord, contentFrom, saidN, saidD, saidSteps, saidChecks, saidSubproblems, saidAllowed, saidProblem, saidAgenda, saidSearch, saidWords, agendaFrom, gathered, Deserves-15, masksBelowTriangle, refusalOfWords}
+use Rattle.files.specs.Reading.{blocksIn, contentWord, saidN, saidD, saidSteps, saidChecks, saidSubproblems, saidAllowed, saidProblem, saidAgenda, saidSearch, saidWords, agendaFrom, gathered, Deserves-15, masksBelowTriangle, refusalOfWords}
 use Rattle.files.proofs.Tests.{either, one-of, given-exactly}
-use Rattle.files.proofs.Lists.{map-length}
+use Rattle.files.proofs.Places.{length-from}
 use Rattle.files.proofs.Stacks.{slots-in}
 use Rattle.files.proofs.Gathered.{gathered-lt, gathered-bit}
 
@@ -275,8 +275,8 @@ module _ (file : List ℕ) where
 
   -- Its agenda has no slot that is not used.
   pub agenda-length : length (saidAgenda file) ≡ saidSubproblems file * (saidN file + 2)
-  unfolding saidAgenda contentFrom
-  agenda-length = map-length (λ k. contentWord file (agendaFrom (saidN file) (saidD file) + k)) (saidSubproblems file * (saidN file + 2))
+  unfolding saidAgenda
+  agenda-length = length-from file (agendaFrom (saidN file) (saidD file)) (saidSubproblems file * (saidN file + 2))
 
   -- An accepted file breaks none.
   pub accepts-deserves-not : Accepts file → Deserves-15 file → ⊥

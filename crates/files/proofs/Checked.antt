@@ -4,11 +4,11 @@ use mathlib.Core.Path.{_≡_, refl, sym, ap, _∙_}
 use mathlib.Core.Logic.{⊎-elim}
 use mathlib.Core.Bool.{Bool, true, _&&_}
 use mathlib.Core.List.{List, _++_}
-use Prim.Native.Nat.{ℕ, _+_, _-_, _*_, _^_, _≤_, _<_}
+use Prim.Native.Nat.{ℕ, _+_, _-_, _*_, _≤_}
 use native.Mathlib.Omega.{arith}
 use native.Mathlib.Nat.{mul-le-mul-right}
 use native.Mathlib.Decide.{decLt}
-use lib.ListN.{length, getD, take, drop, replicate, length-replicate, List·getD-eq-default}
+use lib.ListN.{length, getD, take, drop, replicate, length-replicate}
 use lib.Seq.{take-all}
 use lib.Dec.{eqb}
 use borrow.Author.Tests.{eqb-true}
@@ -33,7 +33,7 @@ use Rattle.files.proofs.Accepted.{Accepts, words-accept, accept-words, 
 use Rattle.files.proofs.Tables.{rules-agree}
 use Rattle.files.proofs.RoundTrip.{said-shape, said-length}
 use Rattle.files.proofs.Loading.{said-passing}
-use Rattle.files.proofs.Places.{content-from, length-from, content-word-small}
+use Rattle.files.proofs.Places.{length-from, from-small}
 use Rattle.files.proofs.Mirrors.{part-at, part-long, triangle-few}
 use Rattle.files.proofs.Filled.{content-past}
 use Rattle.files.proofs.Refused.{sized-numbers}
@@ -48,15 +48,6 @@ part-read file words read from w h =
     (λ k l. sym (read .says (from + k)) ∙ sym (part-at words from w k l)))
 
 -- ---- the agenda
-
--- Words of the content are words.
-from-small : (file : List ℕ) (from words : ℕ) → Bytes file → (i : ℕ) → getD (contentFrom file from words) i 0 < 2 ^ 16
-from-small file from words small i = elim (decLt i words) [
-  | yes h ↦ rw (content-from file from words i h) (content-word-small file small (from + i))
-  | no h ↦
-      let past : length (contentFrom file from words) ≤ i = omega (arith, length-from file from words) in
-      rw (List·getD-eq-default (contentFrom file from words) 0 past) (omega arith)
-]
 
 -- The words of the stack that they say are these words.
 words-said : (file : List ℕ) (n from m : ℕ) → Bytes file
