@@ -6,9 +6,9 @@ use native.Mathlib.Decide.{ℕ-discrete}
 use mathlib.Core.Path.{_≡_, refl, sym, ap, _∙_}
 use mathlib.Core.Logic.{inl, inr}
 use mathlib.Core.Bool.{true}
-use mathlib.Core.List.{List}
-use Prim.Native.Nat.{ℕ, _+_, _*_, _/_, _^_, _≤_, _<_}
-use lib.ListN.{length}
+use mathlib.Core.List.{List, _++_}
+use Prim.Native.Nat.{ℕ, _+_, _-_, _*_, _/_, _^_, _≤_, _<_}
+use lib.ListN.{length, replicate, length-append}
 use lib.Dec.{eqb}
 use borrow.Author.Tests.{eq-eqb, ne-eqb}
 use Rattle.splits.specs.Problem.{Problem}
@@ -29,9 +29,9 @@ use Rattle.files.specs.Promises.{Bytes, Left-by-load}
 use Rattle.files.specs.declared.saved.Loaded.{Loaded}
 use Rattle.files.proofs.Accepted.{words-accept}
 use Rattle.files.proofs.Promises.{load-leaves}
-use Rattle.answer.specs.Text.{refusedLine, textOf}
+use Rattle.answer.specs.Text.{refusedLine, textOf, textFrom}
 use Rattle.answer.specs.Calls.{refusalOfLoad, loadedProblem, ranOf, answer, Answers}
-use Rattle.answer.specs.Work.Writing.{Holds, Shows, textFrom}
+use Rattle.answer.specs.Work.Writing.{Holds, Shows}
 use Rattle.answer.specs.Work.Lending.{Lends}
 use Rattle.answer.specs.declared.text.Text.{Text}
 
@@ -55,6 +55,14 @@ held-answers file r text e holds =
       bytes = rw e at (holds .bytes);
       its-length = rw e at (holds .its-length);
     }
+
+-- An answer lies within its buffer.
+pub answer-within : (file : List ℕ) (r : Text) → Answers file r → r .length ≤ length (r .bytes)
+answer-within file r h =
+    let long = length-append (answer file) (replicate (512 - length (answer file)) 0) in
+    let bytes : length (r .bytes) ≡ length (answer file ++ replicate (512 - length (answer file)) 0) = ap length (h .bytes) in
+    let its-length = h .its-length in
+    omega (arith, long, bytes, its-length)
 
 -- A refused load.
 pub answer-refused : (file : List ℕ) (k : ℕ) → k ≡ refusalOfLoad file → (k ≡ 0 → ⊥) → refusedLine k ≡ answer file

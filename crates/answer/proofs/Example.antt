@@ -25,7 +25,7 @@ use Rattle.files.specs.Calls.{loadRefusal}
 use Rattle.files.specs.Promises.{Says}
 use Rattle.files.proofs.Back.{written-blocks}
 use Rattle.files.proofs.Promises.{load-after-save}
-use Rattle.answer.specs.Text.{decimalOf, decimal, verdictLine, countsLine, planLine, planLines, textOf}
+use Rattle.answer.specs.Text.{decimalOf, decimal, verdictLine, countsLine, planLine, planLines, wholeText, textOf}
 use Rattle.answer.specs.Calls.{refusalOfLoad, loadedProblem, ranOf, answer}
 use Rattle.answer.specs.Promises.{printed-domains, printed-tables, Printed}
 
@@ -35,7 +35,7 @@ fresh = record { stack = opening 2 printed-domains; steps = 0; checks = 0 }
 
 -- What the chooser makes of it, of any limit that is enough, and its text.
 run-text : (more : ℕ) → textOf 2 (choose (problemOf 2 2 printed-domains printed-tables) 512 (suc (suc (suc more))) fresh) ≡ ascii "solved\nsteps 2 checks 3\n0 0\n1 1\n"
-unfolding textOf verdictLine countsLine planLines planLine decimal decimalOf ascii wordOf verdictOf finished chooseFrom chosen fewestOf opening holding
+unfolding textOf wholeText verdictLine countsLine planLines planLine decimal decimalOf ascii wordOf verdictOf finished chooseFrom chosen fewestOf opening holding
     refusalOfRequest refusalOfTop refusalOf refused-7 refused-8 refused-9 refused-10 bad someBad allSame step splitTop pieces filled named keep below
     forwardChecking idc instantiate without cutBeside forbids instantiatedOther forbidden precluded disjunct changed empty some every allInstantiated
     smallest smallerHalf minus bit ones onesIn trailingZeros checks lookedAt others tried valuesIn total tableOf each

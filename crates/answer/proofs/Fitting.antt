@@ -9,21 +9,21 @@ use mathlib.Core.List.{List, [], _∷_, _++_}
 use Prim.Native.Nat.{ℕ, _≤_}
 use lib.ListN.{length}
 use lib.Dec.{eqb}
-use Rattle.splits.specs.Splits.{below}
+use Rattle.splits.specs.Masks.{lowest}
+use Rattle.splits.specs.Subproblems.{domain}
 use Rattle.splits.specs.declared.subproblem.Subproblem.{Subproblem}
 use Rattle.search.specs.Agenda.{stackOf}
 use Rattle.search.specs.Verdicts.{ascii, numberOf, verdictOf}
-use Rattle.files.specs.Content.{each}
 use Rattle.files.specs.Reading.{saidN, refusalOfFile, refusalOfWords}
 use Rattle.files.specs.Promises.{Bytes}
 use Rattle.files.proofs.Whole.{file-either, refusal-14, refusal-not-14}
 use Rattle.files.proofs.Accepted.{words-accept, words-either, refusal-15, refusal-not-15}
-use Rattle.answer.specs.Text.{verdictLine, countsLine, planLine, planLines, refusedLine}
+use Rattle.answer.specs.Text.{verdictLine, countsLine, planOf, planLines, refusedLine}
 use Rattle.answer.specs.Calls.{answer}
 use Rattle.answer.specs.Promises.{Calls}
-use Rattle.answer.proofs.Short.{both-short, verdict-short, counts-short, refused-short, plan-room}
+use Rattle.answer.proofs.Short.{both-short, verdict-short, counts-short, refused-short, plan-room, lowest-small}
 use Rattle.answer.proofs.Answering.{chosen-counts, chosen-refusal}
-use Rattle.answer.proofs.Saying.{says-14, says-15, load-takes, calls-of, lends, of-calls}
+use Rattle.answer.proofs.Saying.{says-14, says-15, load-takes, calls-of, lends, of-refusal, of-lines}
 
 refused-14-short : length (ascii "refused 14\n") ≤ 512
 unfolding ascii
@@ -39,8 +39,8 @@ unfolding planLines
 lines-short n [] few = omega arith
 lines-short n (P ∷ S) few = by (eqb (numberOf (verdictOf n (P ∷ S))) 2)
   where
-    by : (b : Bool) → length (cond b (each (planLine P) (below n)) []) ≤ 400
-    by true = plan-room P n few
+    by : (b : Bool) → length (cond b (planOf n (λ i. lowest (domain P i))) []) ≤ 400
+    by true = plan-room (λ i. lowest (domain P i)) n (λ i. lowest-small (domain P i)) few
     by false = omega arith
 
 -- A file that load takes.
@@ -66,12 +66,12 @@ module _ (file : List ℕ) (bytes : Bytes file) (whole : refusalOfFile file ≡ 
   taken-short : length (answer file) ≤ 512
   taken-short = elim (ℕ-discrete (c .ran .refusal) 0) [
     | yes e ↦
-        let is = ap length (of-calls file bytes c .2 accepted e) in
+        let is = ap length (of-lines file bytes c accepted e) in
         let top = stackOf (saidN file) (c .after) (c .ran .state .subproblems) in
         let short = both-short two (planLines (saidN file) top) 66 400 counts (lines-short (saidN file) top (words-accept file words .variables)) in
         omega (arith, is, short)
     | no h ↦
-        let is = ap length (of-calls file bytes c .1 accepted h) in
+        let is = ap length (of-refusal file bytes c accepted h) in
         let small = chosen-refusal file (c .domains) (c .domains′) (c .tables) (c .tables′) (c .agenda) (c .agenda′) (c .loaded) (c .after) (c .ran) bytes (lends file c)
         (c .loads) accepted (c .chooses) in
         let short = both-short two (refusedLine (c .ran .refusal)) 66 29 counts (refused-short (c .ran .refusal) small) in

@@ -9,6 +9,7 @@ use lib.ListN.{length, getD, take, drop, replicate, length-drop, List·getD-appe
 use lib.Dec.{eqb}
 use borrow.Author.Tests.{eqb-true}
 use lib.Seq.{getD-take, length-take-le}
+use Rattle.splits.specs.Masks.{lowest}
 use Rattle.splits.specs.Subproblems.{domain}
 use Rattle.splits.specs.Splits.{below}
 use Rattle.search.specs.Agenda.{holding, subproblemOf, slotAt, stackOf}
@@ -16,15 +17,15 @@ use Rattle.search.specs.Verdicts.{numberOf, verdictOf}
 use Rattle.search.specs.declared.state.Verdict.{Verdict}
 use Rattle.files.specs.Content.{each}
 use Rattle.files.proofs.Lists.{each-more, each-none, each-same}
-use Rattle.answer.specs.Text.{planLine, planLines}
-use Rattle.answer.specs.Work.Writing.{valueLine, valueLines}
+use Rattle.answer.specs.Text.{planLine, planOf, planLines}
+use Rattle.answer.specs.Work.Writing.{valueLines}
 
 -- The lines of masks, as lines of numbers.
-lines-each : (n : ℕ) (masks : List ℕ) → valueLines n masks ≡ each (λ i. valueLine i (getD masks i 0)) (below n)
+lines-each : (n : ℕ) (masks : List ℕ) → valueLines n masks ≡ each (λ i. planLine i (lowest (getD masks i 0))) (below n)
 unfolding valueLines
-lines-each zero masks = sym (each-none (λ i. valueLine i (getD masks i 0)))
+lines-each zero masks = sym (each-none (λ i. planLine i (lowest (getD masks i 0))))
 lines-each (suc n) masks =
-    ap (λ l. l ++ valueLine n (getD masks n 0)) (lines-each n masks) ∙ sym (each-more (λ i. valueLine i (getD masks i 0)) n)
+    ap (λ l. l ++ planLine n (lowest (getD masks n 0))) (lines-each n masks) ∙ sym (each-more (λ i. planLine i (lowest (getD masks i 0))) n)
 
 -- A domain of the subproblem that a slot's words hold.
 slot-domain : (n : ℕ) (words : List ℕ) (i : ℕ) → n ≤ length words → i < n → domain (subproblemOf n words) i ≡ getD words i 0
@@ -35,8 +36,8 @@ slot-domain n words i long h =
 
 -- The lines of the top slot's masks are those of the top.
 pub top-lines : (n k : ℕ) (agenda masks : List ℕ) → masks ≡ take ((k * (n + 2) + n) - k * (n + 2)) (drop (k * (n + 2)) agenda) → k * (n + 2) + (n + 2) ≤ length agenda
-    → valueLines (length masks) masks ≡ each (planLine (subproblemOf n (slotAt n agenda k))) (below n)
-unfolding slotAt planLine valueLine
+    → valueLines (length masks) masks ≡ planOf n (λ i. lowest (domain (subproblemOf n (slotAt n agenda k)) i))
+unfolding slotAt
 top-lines n k agenda masks made within =
     let is : masks ≡ take n (drop (k * (n + 2)) agenda) =
     made ∙ ap (λ w. take w (drop (k * (n + 2)) agenda)) (let e : (k * (n + 2) + n) - k * (n + 2) ≡ n = omega arith in e) in
@@ -44,15 +45,15 @@ top-lines n k agenda masks made within =
     let long : length masks ≡ n = ap length is ∙ length-take-le n (drop (k * (n + 2)) agenda) (omega (arith, rest, within)) in
     let slot : length (take (n + 2) (drop (k * (n + 2)) agenda)) ≡ n + 2 = length-take-le (n + 2) (drop (k * (n + 2)) agenda) (omega (arith, rest, within)) in
     ap (λ m. valueLines m masks) long ∙ lines-each n masks
-    ∙ each-same (λ i. valueLine i (getD masks i 0)) (planLine (subproblemOf n (slotAt n agenda k))) n
-    (λ i h. ap (valueLine i)
+    ∙ each-same (λ i. planLine i (lowest (getD masks i 0))) (λ i. planLine i (lowest (domain (subproblemOf n (slotAt n agenda k)) i))) n
+    (λ i h. ap (λ m. planLine i (lowest m))
     (ap (λ l. getD l i 0) is ∙ getD-take n (drop (k * (n + 2)) agenda) i 0 h
     ∙ sym (getD-take (n + 2) (drop (k * (n + 2)) agenda) i 0 (omega (arith, h)))
     ∙ sym (slot-domain n (take (n + 2) (drop (k * (n + 2)) agenda)) i (omega (arith, slot)) h)))
 
 -- Solved: there is a top, and the plan's lines are its.
 pub solved-lines : (n : ℕ) (agenda : List ℕ) (m : ℕ) (v : Verdict) → v ≡ verdictOf n (stackOf n agenda m) → true ≡ eqb (numberOf v) 2
-    → (1 ≤ m) × (planLines n (stackOf n agenda m) ≡ each (planLine (subproblemOf n (slotAt n agenda (m - 1)))) (below n))
+    → (1 ≤ m) × (planLines n (stackOf n agenda m) ≡ planOf n (λ i. lowest (domain (subproblemOf n (slotAt n agenda (m - 1))) i)))
 unfolding stackOf verdictOf planLines
 solved-lines n agenda zero v e h = absurd (omega (arith, eqb-true (numberOf v) 2 (sym h), ap numberOf e))
 solved-lines n agenda (suc k) v e h = let same : k ≡ suc k - 1 = omega arith in (omega arith, rw (← e, ← h, ← same) refl)

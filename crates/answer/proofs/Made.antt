@@ -9,8 +9,8 @@ use borrow.Author.Tests.{eq-eqb, ne-eqb}
 use Rattle.search.specs.Agenda.{stackOf}
 use Rattle.search.specs.declared.state.Verdict.{Verdict}
 use Rattle.search.specs.declared.state.Ran.{Ran}
-use Rattle.answer.specs.Text.{verdictLine, countsLine, planLines, refusedLine}
-use Rattle.answer.specs.Work.Writing.{Holds, Adds, textFrom}
+use Rattle.answer.specs.Text.{verdictLine, countsLine, planLines, refusedLine, wholeText, textFrom}
+use Rattle.answer.specs.Work.Writing.{Holds, Adds}
 use Rattle.answer.specs.declared.text.Text.{Text}
 use Rattle.answer.proofs.Writing.{adds-both}
 use Rattle.answer.proofs.Short.{both-short, verdict-short}
@@ -33,12 +33,12 @@ line-made t₀ r line start added h = added [] start (omega (arith, h))
 pub from-refused : (n : ℕ) (agenda : List ℕ) (ran : Ran) (r : Text) → (ran .refusal ≡ 0 → ⊥)
     → Holds r (verdictLine (ran .verdict) ++ countsLine (ran .state .counts .steps .0) (ran .state .counts .checks .0) ++ refusedLine (ran .refusal))
     → Holds r (textFrom n agenda ran)
-unfolding textFrom
+unfolding textFrom wholeText
 from-refused n agenda ran r h holds = rw (ne-eqb (ran .refusal) 0 h) holds
 
 pub from-lines : (n : ℕ) (agenda : List ℕ) (ran : Ran) (r : Text) (lines : List ℕ) → ran .refusal ≡ 0
     → planLines n (stackOf n agenda (ran .state .subproblems)) ≡ lines
     → Holds r (verdictLine (ran .verdict) ++ countsLine (ran .state .counts .steps .0) (ran .state .counts .checks .0) ++ lines)
     → Holds r (textFrom n agenda ran)
-unfolding textFrom
+unfolding textFrom wholeText
 from-lines n agenda ran r lines e is holds = rw (eq-eqb (ran .refusal) 0 e, is) holds

@@ -14,7 +14,6 @@ use borrow.Author.Tests.{eq-eqb, ne-eqb}
 use Rattle.splits.specs.Masks.{lowest}
 use Rattle.splits.specs.Problem.{Solution, tableOf}
 use Rattle.splits.specs.Subproblems.{domain}
-use Rattle.splits.specs.Splits.{below}
 use Rattle.splits.specs.declared.subproblem.Subproblem.{Subproblem}
 use Rattle.search.specs.Agenda.{problemOf, stackOf, slotsIn, agendaOf}
 use Rattle.search.specs.FirstChecks.{searchRefusal}
@@ -26,8 +25,8 @@ use Rattle.search.specs.Promises.{Verdict-says}
 use Rattle.search.specs.declared.state.Ran.{Ran}
 use Rattle.search.specs.declared.state.Verdict.{Verdict}
 use Rattle.search.specs.declared.state.Verdict.the-variants.{None, Running, Solved, Unsolvable}
+use Rattle.search.proofs.FirstPassing.{search-is-passed}
 use Rattle.search.proofs.Promises.{chooser-says}
-use Rattle.files.specs.Content.{each}
 use Rattle.files.specs.Reading.{saidN, saidD, saidSteps, saidChecks, saidSubproblems, saidDomains, saidAllowed, saidSearch, tableWords, Deserves-14, Deserves-15}
 use Rattle.files.specs.Calls.{loadRefusal}
 use Rattle.files.specs.Promises.{Bytes, Says, Left-by-load, Lived}
@@ -36,12 +35,12 @@ use Rattle.files.proofs.Accepted.{Accepts}
 use Rattle.files.proofs.Solutions.{solution-agree}
 use Rattle.files.proofs.Tables.{agree-back}
 use Rattle.files.proofs.Back.{written-blocks}
+use Rattle.files.proofs.Saving.{saved-bytes}
 use Rattle.files.proofs.Loading.{load-taken, said-agree}
 use Rattle.files.proofs.Promises.{load-14, load-15, load-none, load-leaves, load-after-save, lived-reached, unsolvable-choose}
-use Rattle.answer.specs.Text.{decimal, decimalOf, verdictLine, countsLine, planLine, planLines, refusedLine, textOf}
+use Rattle.answer.specs.Text.{decimal, decimalOf, verdictLine, countsLine, planOf, planLines, refusedLine, wholeText, textOf, textFrom}
 use Rattle.answer.specs.Calls.{refusalOfLoad, ranOf, answer}
 use Rattle.answer.specs.Promises.{Calls, Of-the-calls, Says-no-plan}
-use Rattle.answer.specs.Work.Writing.{textFrom}
 use Rattle.answer.specs.Work.Lending.{Lends}
 use Rattle.answer.proofs.Answering.{same-refusal, chosen-text, chosen-steps, chosen-checks, solved-taken}
 
@@ -112,35 +111,42 @@ of-refused : (file : List ℕ) (c : Calls file) → (c .loaded .refusal ≡ 0 �
 of-refused file c h =
     refused-text file (c .loaded .refusal) (sym (same-refusal file _ _ _ (lends file c)) ∙ sym (c .loads .refusal)) h
 
-of-run : (file : List ℕ) → Bytes file → (c : Calls file) → c .loaded .refusal ≡ 0 → textFrom (c .loaded .n) (c .after) (c .ran) ≡ answer file
+of-run : (file : List ℕ) → Bytes file → (c : Calls file) → c .loaded .refusal ≡ 0 → answer file ≡ textFrom (saidN file) (c .after) (c .ran)
 of-run file bytes c accepted =
-    chosen-text file (c .domains) (c .domains′) (c .tables) (c .tables′) (c .agenda) (c .agenda′) (c .loaded) (c .after) (c .ran) bytes (lends file c) (c .loads)
-    accepted (c .chooses)
+    sym (chosen-text file (c .domains) (c .domains′) (c .tables) (c .tables′) (c .agenda) (c .agenda′) (c .loaded) (c .after) (c .ran) bytes (lends file c) (c .loads)
+    accepted (c .chooses))
+    ∙ ap (λ n. textFrom n (c .after) (c .ran))
+    (load-leaves file (c .domains) (c .domains′) (c .tables) (c .tables′) (c .agenda) (c .agenda′) (c .loaded) bytes (c .loads) accepted .its-n)
 
 -- The text of what is returned, refused or not.
 from-refusal : (n : ℕ) (after : List ℕ) (ran : Ran) → (ran .refusal ≡ 0 → ⊥)
     → textFrom n after ran
     ≡ verdictLine (ran .verdict) ++ countsLine (ran .state .counts .steps .0) (ran .state .counts .checks .0) ++ refusedLine (ran .refusal)
-unfolding textFrom
+unfolding textFrom wholeText
 from-refusal n after ran h = rw (ne-eqb (ran .refusal) 0 h) refl
 
 from-none : (n : ℕ) (after : List ℕ) (ran : Ran) → ran .refusal ≡ 0
     → textFrom n after ran
     ≡ verdictLine (ran .verdict) ++ countsLine (ran .state .counts .steps .0) (ran .state .counts .checks .0)
     ++ planLines n (stackOf n after (ran .state .subproblems))
-unfolding textFrom
+unfolding textFrom wholeText
 from-none n after ran h = rw (eq-eqb (ran .refusal) 0 h) refl
 
 pub of-calls : Of-the-calls
-of-calls file bytes c = (
-  of-refused file c,
-  λ accepted refused. sym (of-run file bytes c accepted) ∙ from-refusal (c .loaded .n) (c .after) (c .ran) refused,
-  λ accepted none.
-      sym (of-run file bytes c accepted) ∙ from-none (c .loaded .n) (c .after) (c .ran) none
-      ∙ ap (λ n. verdictLine (c .ran .verdict) ++ countsLine (c .ran .state .counts .steps .0) (c .ran .state .counts .checks .0)
-      ++ planLines n (stackOf n (c .after) (c .ran .state .subproblems)))
-      (load-leaves file (c .domains) (c .domains′) (c .tables) (c .tables′) (c .agenda) (c .agenda′) (c .loaded) bytes (c .loads) accepted .its-n),
-)
+of-calls file bytes c = (of-refused file c, of-run file bytes c)
+
+-- The same, line by line: a refusal's line; the plan's lines.
+module _ (file : List ℕ) (bytes : Bytes file) (c : Calls file) (accepted : c .loaded .refusal ≡ 0) where
+  pub of-refusal : (c .ran .refusal ≡ 0 → ⊥)
+      → answer file
+      ≡ verdictLine (c .ran .verdict) ++ countsLine (c .ran .state .counts .steps .0) (c .ran .state .counts .checks .0) ++ refusedLine (c .ran .refusal)
+  of-refusal refused = of-run file bytes c accepted ∙ from-refusal (saidN file) (c .after) (c .ran) refused
+
+  pub of-lines : c .ran .refusal ≡ 0
+      → answer file
+      ≡ verdictLine (c .ran .verdict) ++ countsLine (c .ran .state .counts .steps .0) (c .ran .state .counts .checks .0)
+      ++ planLines (saidN file) (stackOf (saidN file) (c .after) (c .ran .state .subproblems))
+  of-lines none = of-run file bytes c accepted ∙ from-none (saidN file) (c .after) (c .ran) none
 
 -- There are such calls, of any file.
 pub calls-of : (file : List ℕ) → Calls file
@@ -234,8 +240,8 @@ module _ (file : List ℕ) (bytes : Bytes file) (c : Calls file) (k : ℕ) (firs
 
   pub its-verdict : (k ≡ 115 → c .ran .verdict ≡ Solved) × (k ≡ 117 → c .ran .verdict ≡ Unsolvable)
   its-verdict = elim (ℕ-discrete (c .ran .refusal) 0) [
-    | yes e ↦ verdict-first (c .ran .verdict) (answer file) _ _ k (of-calls file bytes c .2 taken-in e) first
-    | no h ↦ verdict-first (c .ran .verdict) (answer file) _ _ k (of-calls file bytes c .1 taken-in h) first
+    | yes e ↦ verdict-first (c .ran .verdict) (answer file) _ _ k (of-lines file bytes c taken-in e) first
+    | no h ↦ verdict-first (c .ran .verdict) (answer file) _ _ k (of-refusal file bytes c taken-in h) first
   ]
 
 -- ---- a plan, and none
@@ -282,7 +288,7 @@ module _ (file : List ℕ) (bytes : Bytes file) (rest : List ℕ) (solved : answ
 
   -- The lines are those of the top.
   top-lines : (P : Subproblem) (S : List Subproblem) → stackOf (c .loaded .n) (c .after) (c .ran .state .subproblems) ≡ P ∷ S
-      → planLines (saidN file) (stackOf (saidN file) (c .after) (c .ran .state .subproblems)) ≡ each (planLine P) (below (saidN file))
+      → planLines (saidN file) (stackOf (saidN file) (c .after) (c .ran .state .subproblems)) ≡ planOf (saidN file) (λ i. lowest (domain P i))
   unfolding planLines
   top-lines P S e =
       let stack : stackOf (saidN file) (c .after) (c .ran .state .subproblems) ≡ P ∷ S = ap (λ n. stackOf n (c .after) (c .ran .state .subproblems)) (sym (left .its-n)) ∙ e in
@@ -293,34 +299,35 @@ module _ (file : List ℕ) (bytes : Bytes file) (rest : List ℕ) (solved : answ
   pub a-plan : (f : ℕ → ℕ)
       × (answer file
       ≡ ascii "solved\n" ++ countsLine (ranOf file .search .steps) (ranOf file .search .checks)
-      ++ each (λ i. decimal i ++ ascii " " ++ decimal (f i) ++ ascii "\n") (below (saidN file)))
+      ++ planOf (saidN file) f)
       × Solution (saidN file) (saidAllowed file) (λ i. getD (saidDomains file) i 0) f
-  unfolding planLine
   a-plan =
       let (P, S, stack, values, solution) = says .solved (ap numberOf verdict) in
       let a = load-taken file (length (c .domains)) (length (c .tables)) (length (c .agenda)) (sym (c .loads .refusal) ∙ accepted) .accepts in
       let steps = chosen-steps file (c .domains) (c .domains′) (c .tables) (c .tables′) (c .agenda) (c .agenda′) (c .loaded) (c .after) (c .ran) bytes (lends file c) (c .loads) accepted (c .chooses) in
       let checks = chosen-checks file (c .domains) (c .domains′) (c .tables) (c .tables′) (c .agenda) (c .agenda′) (c .loaded) (c .after) (c .ran) bytes (lends file c) (c .loads) accepted (c .chooses) in (
         λ i. lowest (domain P i),
-        of-calls file bytes c .2 accepted none ∙ ap (λ l. verdictLine (c .ran .verdict) ++ countsLine (c .ran .state .counts .steps .0) (c .ran .state .counts .checks .0) ++ l) (top-lines P S stack)
-            ∙ ap (λ v. verdictLine v ++ countsLine (c .ran .state .counts .steps .0) (c .ran .state .counts .checks .0) ++ each (planLine P) (below (saidN file))) verdict
-            ∙ ap (λ k. verdictLine Solved ++ countsLine k (c .ran .state .counts .checks .0) ++ each (planLine P) (below (saidN file))) steps
-            ∙ ap (λ k. verdictLine Solved ++ countsLine (ranOf file .search .steps) k ++ each (planLine P) (below (saidN file))) checks
-            ∙ ap (λ l. l ++ countsLine (ranOf file .search .steps) (ranOf file .search .checks) ++ each (planLine P) (below (saidN file))) solved-line,
+        of-lines file bytes c accepted none ∙ ap (λ l. verdictLine (c .ran .verdict) ++ countsLine (c .ran .state .counts .steps .0) (c .ran .state .counts .checks .0) ++ l) (top-lines P S stack)
+            ∙ ap (λ v. verdictLine v ++ countsLine (c .ran .state .counts .steps .0) (c .ran .state .counts .checks .0) ++ planOf (saidN file) (λ i. lowest (domain P i))) verdict
+            ∙ ap (λ k. verdictLine Solved ++ countsLine k (c .ran .state .counts .checks .0) ++ planOf (saidN file) (λ i. lowest (domain P i))) steps
+            ∙ ap (λ k. verdictLine Solved ++ countsLine (ranOf file .search .steps) k ++ planOf (saidN file) (λ i. lowest (domain P i))) checks
+            ∙ ap (λ l. l ++ countsLine (ranOf file .search .steps) (ranOf file .search .checks) ++ planOf (saidN file) (λ i. lowest (domain P i))) solved-line,
         in-words (c .loaded .n) (c .loaded .d) (c .domains′) (c .tables′) (λ i. lowest (domain P i)) (left .its-n) (left .its-d) (left .its-domains) (left .its-tables) a solution,
       )
 
 -- Unsolvable, of a file that save wrote of a search begun by opening.
 pub no-plan : Says-no-plan
 unfolding ascii
-no-plan n d domains tables₀ tables agenda s before after saved rest h saves none bytes unsolvable =
+no-plan n d domains tables₀ tables agenda s before after saved rest h saves none unsolvable =
     let file : List ℕ = take (512 * saved .blocks) after in
     let c : Calls file = calls-of file in
     let first : getD (answer file) 0 0 ≡ 117 = ap (λ l. getD l 0 0) unsolvable in
-    let accepted = taken-in file bytes c 117 first (λ e. omega (arith, e)) in
-    let verdict = its-verdict file bytes c 117 first (λ e. omega (arith, e)) .1 refl in
     let handed = lived-reached n d domains tables₀ tables agenda s h .0 in
     let blocks = written-blocks n d domains tables agenda s before after saved saves (sym (saves .refusal) ∙ none) in
+    let passed = search-is-passed n d domains tables agenda (s .counts .steps .0) (s .counts .checks .0) (s .subproblems) .0 (handed .passes) in
+    let bytes : Bytes file = rw blocks (saved-bytes n d domains tables agenda s (handed .words) passed (handed .stepped)) in
+    let accepted = taken-in file bytes c 117 first (λ e. omega (arith, e)) in
+    let verdict = its-verdict file bytes c 117 first (λ e. omega (arith, e)) .1 refl in
     let says : Says file n d domains (tableOf n d tables) (searchOf n agenda s) =
     rw blocks (load-after-save n d domains tables agenda s (handed .words) (handed .passes)) in
     let left = load-leaves file (c .domains) (c .domains′) (c .tables) (c .tables′) (c .agenda) (c .agenda′) (c .loaded) bytes (c .loads) accepted in

@@ -6,15 +6,11 @@ use Prim.Native.Nat.{ℕ, zero, suc, _+_, _*_, _^_, _≤_, _<_}
 use lib.ListN.{length, length-append}
 use lib.Count.{trailing-le}
 use Rattle.splits.specs.Masks.{lowest}
-use Rattle.splits.specs.Subproblems.{domain}
-use Rattle.splits.specs.Splits.{below}
-use Rattle.splits.specs.declared.subproblem.Subproblem.{Subproblem}
 use Rattle.search.specs.Verdicts.{ascii, wordOf}
 use Rattle.search.specs.declared.state.Verdict.{Verdict}
 use Rattle.search.specs.declared.state.Verdict.the-variants.{None, Running, Solved, Unsolvable}
-use Rattle.files.specs.Content.{each}
 use Rattle.files.proofs.Lists.{each-more, each-none}
-use Rattle.answer.specs.Text.{decimal, verdictLine, countsLine, planLine, refusedLine}
+use Rattle.answer.specs.Text.{decimal, verdictLine, countsLine, planLine, planOf, refusedLine}
 use Rattle.answer.proofs.Decimals.{two-digits, twenty-digits}
 
 pub both-short : (a b : List ℕ) (x y : ℕ) → length a ≤ x → length b ≤ y → length (a ++ b) ≤ x + y
@@ -45,20 +41,22 @@ refused-short refusal h =
     both-short (ascii "refused " ++ decimal refusal) (ascii "\n") 28 1
     (both-short (ascii "refused ") (decimal refusal) 8 20 (omega arith) (twenty-digits refusal h)) line-end
 
-line-short : (P : Subproblem) (i : ℕ) → i < 100 → length (planLine P i) ≤ 6
+line-short : (i value : ℕ) → i < 100 → value < 100 → length (planLine i value) ≤ 6
 unfolding planLine ascii
-line-short P i h =
-    let value : lowest (domain P i) ≤ 16 = trailing-le 16 (domain P i) in
+line-short i value h k =
     let first = both-short (decimal i) (ascii " ") 2 1 (two-digits i h) (omega arith) in
-    let second = both-short (decimal i ++ ascii " ") (decimal (lowest (domain P i))) 3 2 first (two-digits (lowest (domain P i)) (omega (arith, value))) in
-    both-short (decimal i ++ ascii " " ++ decimal (lowest (domain P i))) (ascii "\n") 5 1 second line-end
+    let second = both-short (decimal i ++ ascii " ") (decimal value) 3 2 first (two-digits value k) in
+    both-short (decimal i ++ ascii " " ++ decimal value) (ascii "\n") 5 1 second line-end
 
-plan-short : (P : Subproblem) (n : ℕ) → n ≤ 32 → length (each (planLine P) (below n)) ≤ n * 6
-plan-short P zero h = rw (each-none (planLine P)) (omega arith)
-plan-short P (suc n) h =
-    rw (each-more (planLine P) n)
-    (let both = both-short (each (planLine P) (below n)) (planLine P n) (n * 6) 6 (plan-short P n (omega (arith, h))) (line-short P n (omega (arith, h))) in
+plan-short : (value : ℕ → ℕ) (n : ℕ) → ((i : ℕ) → value i < 100) → n ≤ 32 → length (planOf n value) ≤ n * 6
+plan-short value zero k h = rw (each-none (λ i. planLine i (value i))) (omega arith)
+plan-short value (suc n) k h =
+    rw (each-more (λ i. planLine i (value i)) n)
+    (let both = both-short (planOf n value) (planLine n (value n)) (n * 6) 6 (plan-short value n k (omega (arith, h))) (line-short n (value n) (omega (arith, h)) (k n)) in
     omega (arith, both))
 
-pub plan-room : (P : Subproblem) (n : ℕ) → n ≤ 32 → length (each (planLine P) (below n)) ≤ 400
-plan-room P n h = let short = plan-short P n h in omega (arith, short, h)
+pub plan-room : (value : ℕ → ℕ) (n : ℕ) → ((i : ℕ) → value i < 100) → n ≤ 32 → length (planOf n value) ≤ 400
+plan-room value n k h = let short = plan-short value n k h in omega (arith, short, h)
+
+pub lowest-small : (m : ℕ) → lowest m < 100
+lowest-small m = omega (arith, trailing-le 16 m)

@@ -6,7 +6,9 @@ use mathlib.Core.List.{List, [], _∷_, _++_, append-assoc, append-nil}
 use Prim.Native.Nat.{ℕ, suc, _+_, _-_, _≤_, _<_}
 use lib.ListN.{length, replicate, set, getD, take, length-append}
 use lib.Seq.{set-at, append-snoc, take-suc, take-length}
-use Rattle.answer.specs.Work.Writing.{Holds, Adds, valueLine, valueLines}
+use Rattle.splits.specs.Masks.{lowest}
+use Rattle.answer.specs.Text.{planLine}
+use Rattle.answer.specs.Work.Writing.{Holds, Adds, valueLines}
 use Rattle.answer.specs.declared.text.Text.{Text}
 
 -- Parts added one after the other are added together.
@@ -57,10 +59,10 @@ pub adds-word : (a b : Text) (word : List ℕ) (i : ℕ) → i ≡ length word �
 adds-word a b word i e h = adds-same a b (take i word) word (ap (λ k. take k word) e ∙ take-length word) h
 
 -- The next line.
-pub adds-line : (a b c : Text) (masks : List ℕ) (i mask : ℕ) → mask ≡ getD masks i 0 → Adds a (valueLines i masks) b → Adds b (valueLine i mask) c
+pub adds-line : (a b c : Text) (masks : List ℕ) (i mask : ℕ) → mask ≡ getD masks i 0 → Adds a (valueLines i masks) b → Adds b (planLine i (lowest mask)) c
     → Adds a (valueLines (i + 1) masks) c
 unfolding valueLines
 adds-line a b c masks i mask is before next =
-    adds-same a c (valueLines i masks ++ valueLine i mask) (valueLines (i + 1) masks)
-    (ap (λ m. valueLines i masks ++ valueLine i m) is ∙ ap (λ k. valueLines k masks) (let e : suc i ≡ i + 1 = omega arith in e))
-    (adds-both a b c (valueLines i masks) (valueLine i mask) before next)
+    adds-same a c (valueLines i masks ++ planLine i (lowest mask)) (valueLines (i + 1) masks)
+    (ap (λ m. valueLines i masks ++ planLine i (lowest m)) is ∙ ap (λ k. valueLines k masks) (let e : suc i ≡ i + 1 = omega arith in e))
+    (adds-both a b c (valueLines i masks) (planLine i (lowest mask)) before next)

@@ -4,34 +4,27 @@ use mathlib.Core.List.{List, [], _∷_, _++_}
 use Prim.Native.Nat.{ℕ, _*_, _+_, _≤_}
 use lib.ListN.{length, getD, take}
 use Rattle.splits.specs.Problem.{Solution}
-use Rattle.splits.specs.Splits.{below}
 use Rattle.splits.specs.Promises.{One}
-use Rattle.search.specs.Agenda.{problemOf, stackOf}
+use Rattle.search.specs.Agenda.{problemOf}
 use Rattle.search.specs.Verdicts.{ascii}
 use Rattle.search.specs.Calls.{Opens, Chooses}
 use Rattle.search.specs.Promises.{Has-solution}
 use Rattle.search.specs.declared.state.State.{State}
 use Rattle.search.specs.declared.state.Opened.{Opened}
 use Rattle.search.specs.declared.state.Ran.{Ran}
-use Rattle.files.specs.Content.{each}
 use Rattle.files.specs.Reading.{saidN, saidD, saidDomains, saidAllowed, Deserves-14, Deserves-15}
 use Rattle.files.specs.Calls.{Saves, Loads}
 use Rattle.files.specs.Promises.{Bytes, Lived}
 use Rattle.files.specs.declared.saved.Saved.{Saved}
 use Rattle.files.specs.declared.saved.Loaded.{Loaded}
-use Rattle.answer.specs.Text.{decimal, verdictLine, countsLine, planLines, refusedLine, textOf}
+use Rattle.answer.specs.Text.{countsLine, planOf, refusedLine, textOf, textFrom}
 use Rattle.answer.specs.Calls.{ranOf, answer, Answers}
-use Rattle.answer.specs.declared.text.Text.{Text}
 
 -- The answer to a file is one.
 abbrev pub Answer-to-one : Type 0
 Answer-to-one = (file : List ℕ) → One (Answers file)
 
--- The text lies within the buffer.
-abbrev pub Within : Type 0
-Within = (file : List ℕ) (r : Text) → Answers file r → r .length ≤ length (r .bytes)
-
--- It has at most 512 bytes.
+-- The text has at most 512 bytes.
 abbrev pub At-most-512 : Type 0
 At-most-512 = (file : List ℕ) → Bytes file → length (answer file) ≤ 512
 
@@ -68,19 +61,12 @@ pub record Calls (file : List ℕ) : Type 0 where
   pub agenda-words : length agenda ≡ 512 * (saidN file + 2)
   pub chooses : Chooses (loaded .n) (loaded .d) domains′ tables′ agenda′ after 1000000 (loaded .state) ran
 
--- A refused load: its number. Else line 1 is the verdict returned, line 2 the counts returned; solved and not refused, each variable's line is its
--- value in the top subproblem that the agenda's words hold; a refusal adds its line.
+-- A refused load: its number. Else the text of what the chooser returns, and of the subproblems that the words it leaves hold.
 abbrev pub Of-the-calls : Type 0
 Of-the-calls =
     (file : List ℕ) → Bytes file → (c : Calls file)
     → ((c .loaded .refusal ≡ 0 → ⊥) → answer file ≡ refusedLine (c .loaded .refusal))
-    × (c .loaded .refusal ≡ 0 → (c .ran .refusal ≡ 0 → ⊥)
-    → answer file
-    ≡ verdictLine (c .ran .verdict) ++ countsLine (c .ran .state .counts .steps .0) (c .ran .state .counts .checks .0) ++ refusedLine (c .ran .refusal))
-    × (c .loaded .refusal ≡ 0 → c .ran .refusal ≡ 0
-    → answer file
-    ≡ verdictLine (c .ran .verdict) ++ countsLine (c .ran .state .counts .steps .0) (c .ran .state .counts .checks .0)
-    ++ planLines (saidN file) (stackOf (saidN file) (c .after) (c .ran .state .subproblems)))
+    × (c .loaded .refusal ≡ 0 → answer file ≡ textFrom (saidN file) (c .after) (c .ran))
 
 -- ---- what the lines say
 
@@ -90,8 +76,7 @@ Says-a-plan =
     (file : List ℕ) → Bytes file → (rest : List ℕ) → answer file ≡ ascii "solved\n" ++ rest
     → (f : ℕ → ℕ)
     × (answer file
-    ≡ ascii "solved\n" ++ countsLine (ranOf file .search .steps) (ranOf file .search .checks)
-    ++ each (λ i. decimal i ++ ascii " " ++ decimal (f i) ++ ascii "\n") (below (saidN file)))
+    ≡ ascii "solved\n" ++ countsLine (ranOf file .search .steps) (ranOf file .search .checks) ++ planOf (saidN file) f)
     × Solution (saidN file) (saidAllowed file) (λ i. getD (saidDomains file) i 0) f
 
 -- Where line 1 is "unsolvable" and the file is what save wrote of a search begun by opening, the problem that was opened has no solution.
@@ -99,7 +84,7 @@ abbrev pub Says-no-plan : Type 0
 Says-no-plan =
     (n d : ℕ) (domains tables₀ tables agenda : List ℕ) (s : State) (before after : List ℕ) (saved : Saved) (rest : List ℕ)
     → Lived n d domains tables₀ tables agenda s → Saves n d domains tables agenda s before after saved → saved .refusal ≡ 0
-    → Bytes (take (512 * saved .blocks) after) → answer (take (512 * saved .blocks) after) ≡ ascii "unsolvable\n" ++ rest
+    → answer (take (512 * saved .blocks) after) ≡ ascii "unsolvable\n" ++ rest
     → Has-solution (problemOf n d domains tables₀) → ⊥
 
 -- ---- document 01's printed example

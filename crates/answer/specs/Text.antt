@@ -7,8 +7,10 @@ use Rattle.splits.specs.Masks.{lowest}
 use Rattle.splits.specs.Subproblems.{domain}
 use Rattle.splits.specs.Splits.{below}
 use Rattle.splits.specs.declared.subproblem.Subproblem.{Subproblem}
+use Rattle.search.specs.Agenda.{stackOf}
 use Rattle.search.specs.Verdicts.{numberOf, ascii, wordOf, verdictOf}
 use Rattle.search.specs.Runs.{Stopped}
+use Rattle.search.specs.declared.state.Ran.{Ran}
 use Rattle.search.specs.declared.state.Verdict.{Verdict}
 use Rattle.files.specs.Content.{each}
 
@@ -29,20 +31,34 @@ verdictLine verdict = wordOf verdict ++ ascii "\n"
 unfoldable pub countsLine : ℕ → ℕ → List ℕ
 countsLine steps checks = ascii "steps " ++ decimal steps ++ ascii " checks " ++ decimal checks ++ ascii "\n"
 
--- If solved, a line for each variable: number, value. The top has one value for each.
-unfoldable pub planLine : Subproblem → ℕ → List ℕ
-planLine top i = decimal i ++ ascii " " ++ decimal (lowest (domain top i)) ++ ascii "\n"
+-- A line of a plan: number, value.
+unfoldable pub planLine : ℕ → ℕ → List ℕ
+planLine variable value = decimal variable ++ ascii " " ++ decimal value ++ ascii "\n"
 
+-- A line for each of n variables.
+abbrev pub planOf : ℕ → (ℕ → ℕ) → List ℕ
+planOf n value = each (λ i. planLine i (value i)) (below n)
+
+-- If solved, a line for each variable; the top has one value for each.
 unfoldable pub planLines : ℕ → List Subproblem → List ℕ
 planLines n [] = []
-planLines n (top ∷ below-it) = cond (eqb (numberOf (verdictOf n (top ∷ below-it))) 2) (each (planLine top) (below n)) []
+planLines n (top ∷ below-it) = cond (eqb (numberOf (verdictOf n (top ∷ below-it))) 2) (planOf n (λ i. lowest (domain top i))) []
 
 -- The line of a refusal: "refused" and the number.
 unfoldable pub refusedLine : ℕ → List ℕ
 refusedLine refusal = ascii "refused " ++ decimal refusal ++ ascii "\n"
 
--- The text of a run that stops so: a refusal adds its line after line 2; what is solved was not refused.
+-- The whole text of a run: a refusal adds its line after line 2; what is solved was not refused.
+unfoldable pub wholeText : ℕ → Verdict → (steps checks refusal : ℕ) → List Subproblem → List ℕ
+wholeText n verdict steps checks refusal stack =
+    verdictLine verdict ++ countsLine steps checks ++ cond (eqb refusal 0) (planLines n stack) (refusedLine refusal)
+
+-- Of one that stops so.
 unfoldable pub textOf : ℕ → Stopped → List ℕ
 textOf n stopped =
-    verdictLine (verdictOf n (stopped .search .stack)) ++ countsLine (stopped .search .steps) (stopped .search .checks)
-    ++ cond (eqb (stopped .refusal) 0) (planLines n (stopped .search .stack)) (refusedLine (stopped .refusal))
+    wholeText n (verdictOf n (stopped .search .stack)) (stopped .search .steps) (stopped .search .checks) (stopped .refusal) (stopped .search .stack)
+
+-- Of one that returns this and leaves these words in the agenda.
+unfoldable pub textFrom : ℕ → List ℕ → Ran → List ℕ
+textFrom n agenda ran =
+    wholeText n (ran .verdict) (ran .state .counts .steps .0) (ran .state .counts .checks .0) (ran .refusal) (stackOf n agenda (ran .state .subproblems))

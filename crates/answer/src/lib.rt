@@ -8,13 +8,13 @@ ghost use mathlib.Core.Path.{_≡_};
 ghost use Prim.Native.Nat.{_+_, _-_, _*_, _≤_};
 ghost use lib.ListN.{length};
 ghost use lib.Dec.{eqb};
-ghost use Rattle.splits.specs.Splits.{below};
+ghost use Rattle.splits.specs.Masks.{lowest};
+ghost use Rattle.splits.specs.Subproblems.{domain};
 ghost use Rattle.search.specs.Agenda.{subproblemOf, slotAt};
 ghost use Rattle.search.specs.Verdicts.{numberOf};
-ghost use Rattle.files.specs.Content.{each};
-ghost use Rattle.answer.specs.Text.{planLine};
+ghost use Rattle.answer.specs.Text.{planOf, textFrom};
 ghost use Rattle.answer.specs.Calls.{Answers};
-ghost use Rattle.answer.specs.Work.Writing.{Holds, Adds, Shows, textFrom};
+ghost use Rattle.answer.specs.Work.Writing.{Holds, Adds, Shows};
 ghost use Rattle.answer.specs.Work.Lending.{Lends};
 
 // A number that is at most so much, else 0.
@@ -114,7 +114,7 @@ fn is_solved(verdict: Verdict) -> bool
 // The lines of the top of so many subproblems.
 fn with_top(text: Text, n: usize, agenda: &[u16], subproblems: usize) -> Text
     requires { ⌜ (n ≤ 32) × ((1 ≤ subproblems) × (subproblems * (n + 2) ≤ length (now agenda))) ⌝ }
-    ensures { λ r. ⌜ Adds text (each (planLine (subproblemOf n (slotAt n (now (agenda .entry)) (subproblems - 1)))) (below n)) r ⌝ }
+    ensures { λ r. ⌜ Adds text (planOf n (λ i. lowest (domain (subproblemOf n (slotAt n (now (agenda .entry)) (subproblems - 1))) i))) r ⌝ }
 {
     let at = (subproblems - 1) * (n + 2);
     let end = at + n;

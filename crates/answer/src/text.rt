@@ -5,8 +5,9 @@ ghost use mathlib.Core.Path.{_≡_};
 ghost use mathlib.Core.List.{[], _∷_};
 ghost use Prim.Native.Nat.{_+_, _-_, _<_, _≤_};
 ghost use lib.ListN.{length};
-ghost use Rattle.answer.specs.Text.{decimal, verdictLine, countsLine, refusedLine};
-ghost use Rattle.answer.specs.Work.Writing.{Holds, Adds, valueLine, valueLines};
+ghost use Rattle.splits.specs.Masks.{lowest};
+ghost use Rattle.answer.specs.Text.{decimal, verdictLine, countsLine, planLine, refusedLine};
+ghost use Rattle.answer.specs.Work.Writing.{Holds, Adds, valueLines};
 
 // So many bytes of text, zeros after it.
 pub struct Text {
@@ -102,7 +103,7 @@ impl Text {
 
     // The line of a variable: number, the lowest value of its domain.
     fn with_value(self, variable: usize, domain: u16) -> Text
-        ensures { λ r. ⌜ Adds self (valueLine variable domain) r ⌝ }
+        ensures { λ r. ⌜ Adds self (planLine variable (lowest domain)) r ⌝ }
     {
         let text = self.with_number(variable as u64).with_byte(32);
         text.with_number(mask::lowest(domain) as u64).with_byte(10)

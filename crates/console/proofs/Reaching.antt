@@ -28,7 +28,7 @@ use Rattle.search.proofs.Runs.{after, stop, run-finished, run-taken, run-refuse
 use Rattle.search.proofs.Encoding.{length-stackOf}
 use Rattle.search.proofs.Deserved.{slots-is}
 use Rattle.search.proofs.Copies.{zeros-at}
-use Rattle.files.proofs.Lists.{padded-at}
+use Rattle.files.proofs.Lists.{below-length, padded-at}
 use Rattle.files.proofs.Stacks.{slots-in}
 
 -- ---- a request makes n + 2 pieces at most
@@ -41,11 +41,6 @@ keep-few f (x ∷ l) = go (f x) (keep-few f l)
     go : (b : Bool) → length (keep f l) ≤ length l → length (cond b (x ∷ keep f l) (keep f l)) ≤ suc (length l)
     go true h = omega arith
     go false h = omega arith
-
-below-length : (n : ℕ) → length (below n) ≡ n
-unfolding below
-below-length zero = refl
-below-length (suc n) = rw (length-append, below-length n) (omega arith)
 
 either-few : {A : Type 0} (b : Bool) (x y : List A) (m : ℕ) → length x ≤ m → length y ≤ m → length (cond b x y) ≤ m
 either-few true x y m h k = h

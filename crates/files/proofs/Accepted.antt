@@ -4,41 +4,35 @@ use mathlib.Core.Path.{_≡_, refl, sym, ap, _∙_}
 use mathlib.Core.Logic.{_⊎_, inl, inr, _↔_}
 use mathlib.Core.Bool.{Bool, true, false, not, cond, _&&_, _||_, or-true}
 use mathlib.Core.List.{List, List·Memᴰ}
-use Prim.Native.Nat.{ℕ, zero, _+_, _-_, _*_, _/_, _%_, _^_, _≤_, _<_}
+use Prim.Native.Nat.{ℕ, zero, _+_, _-_, _*_, _^_, _≤_, _<_}
 use native.Mathlib.Omega.{arith}
-use native.Mathlib.Nat.{div-add-mod', mod-lt}
 use native.Mathlib.Decide.{decLt}
 use lib.Arith.{lt-of-le-ne}
-use lib.Pow.{pow-pos, shr-shr}
+use lib.ListN.{length}
 use lib.Dec.{eqb, leb, ltb}
 use borrow.Author.Tests.{eq-eqb, le-leb, lt-ltb, le-ltb, eqb-true, eqb-false, leb-true, leb-false, ltb-true, ltb-false, not-false}
 use Rattle.splits.specs.Masks.{bit}
 use Rattle.splits.specs.Problem.{Proper}
 use Rattle.splits.specs.Subproblems.{Rules, every}
 use Rattle.splits.specs.declared.subproblem.Subproblem.{Subproblem}
-use Rattle.splits.proofs.Masks.{bit-le, bit-above, some-member}
+use Rattle.splits.proofs.Masks.{bit-le, bit-above}
 use Rattle.splits.proofs.Tests.{true-false, and-left, and-right, or-left, or-right, every-at, every-all}
-use Rattle.search.specs.FirstChecks.{Over, allObey}
+use Rattle.search.specs.Agenda.{slotsIn}
+use Rattle.search.specs.FirstChecks.{Over, Deserves-4, allObey}
 use Rattle.search.proofs.Decisions.{Refutes, every-fails}
 use Rattle.search.proofs.FirstParts.{given-if}
-use Rattle.search.proofs.Deserved.{refutes-rules, all-rules, all-obey}
+use Rattle.search.proofs.Deserved.{over-of, refutes-rules, all-rules, all-obey}
 use Rattle.search.proofs.FirstPassing.{gives-none}
 use Rattle.files.specs.Blocks.{blocksFor}
-use Rattle.files.specs.Reading.{blocksIn, contentWord, saidN, saidD, saidSteps, saidChecks, saidSubproblems, saidAllowed, saidProblem, saidSearch, saidWords, gathered, Deserves-15, masksBelowTriangle, refusalOfWords}
+use Rattle.files.specs.Reading.{blocksIn, contentWord, saidN, saidD, saidSteps, saidChecks, saidSubproblems, saidAllowed, saidProblem, saidAgenda, saidSearch, saidWords, agendaFrom, gathered, Deserves-15, masksBelowTriangle, refusalOfWords}
 use Rattle.files.proofs.Tests.{either, one-of, given-exactly}
+use Rattle.files.proofs.Places.{length-from}
+use Rattle.files.proofs.Stacks.{slots-in}
 use Rattle.files.proofs.Gathered.{gathered-lt, gathered-bit}
 
--- A mask has a bit at d or above exactly if it is 2 ^ d or more.
+-- A mask below 2 ^ d has no bit at d or above.
 pub over-not : (d m : ℕ) → m < 2 ^ d → Over d m → ⊥
 over-not d m h (v, l, e) = omega (arith, bit-above d m v h l)
-
--- A mask of 2 ^ d or more has such a bit.
-pub over-found : (d m : ℕ) → 2 ^ d ≤ m → Over d m
-unfolding bit
-over-found d m h =
-    let some : m / 2 ^ d ≡ 0 → ⊥ = λ e. let whole : 0 * 2 ^ d + m % 2 ^ d ≡ m = rw e at (div-add-mod' m (2 ^ d)) in omega (arith, mod-lt m (pow-pos d)) in
-    let (v, e) = some-member (m / 2 ^ d) some in
-    (d + v, omega arith, rw (← shr-shr m d v) e)
 
 -- What an accepted file says.
 pub record Accepts (file : List ℕ) : Type 0 where
@@ -155,23 +149,16 @@ module _ (file : List ℕ) where
         | no q ↦ simp (le-ltb i j (omega arith))
       ]))
 
-  masks-fail : t-masks ≡ false
-      → (i : ℕ) × (j : ℕ) × (a : ℕ) × (i < j) × (j < saidN file) × (a < saidD file) × Over (saidD file) (saidAllowed file i j a)
+  masks-fail : t-masks ≡ false → Deserves-4 (saidProblem file)
   unfolding t-masks masksBelowTriangle
   masks-fail e =
       let test : ℕ → ℕ → ℕ → Bool = λ i j a. ltb (saidAllowed file i j a) (2 ^ saidD file) in
       let pair : ℕ → ℕ → Bool = λ i j. not (ltb i j) || every (saidD file) (test i j) in
       let (i, l, x) = every-fails (λ i. every (saidN file) (pair i)) (saidN file) e in
       let (j, k, y) = every-fails (pair i) (saidN file) x in
-      let (a, m, z) = every-fails (test i j) (saidD file) (or-right (not (ltb i j)) (every (saidD file) (test i j)) y) in (
-        i,
-        j,
-        a,
-        ltb-true i j (not-false (ltb i j) (or-left (not (ltb i j)) (every (saidD file) (test i j)) y)),
-        k,
-        m,
-        over-found (saidD file) (saidAllowed file i j a) (ltb-false (saidAllowed file i j a) (2 ^ saidD file) z),
-      )
+      let (a, m, z) = every-fails (test i j) (saidD file) (or-right (not (ltb i j)) (every (saidD file) (test i j)) y) in
+      let h : i < j = ltb-true i j (not-false (ltb i j) (or-left (not (ltb i j)) (every (saidD file) (test i j)) y)) in
+      inr (i, j, a, l, k, (λ e. absurd (omega arith)), m, over-of (saidD file) (saidAllowed file i j a) (ltb-false (saidAllowed file i j a) (2 ^ saidD file) z))
 
   -- What the tests say.
   tests-accept : tests ≡ true → Accepts file
@@ -243,7 +230,7 @@ module _ (file : List ℕ) where
           → t-masks ≡ true → t-rules ≡ true → Way t-count → Deserves-15 file
       counts a b c d f g h i j k (inl x) = absurd (true-false (sym (rw (a, b, c, d, f, g, h, i, j, k) x) ∙ e))
       counts a b c d f g h i j k (inr x) =
-          inr (inr (inr (inr (inr (inr (inr (inr (leb-false (saidChecks file) (496 * saidSteps file) x))))))))
+          inr (inr (inr (inr (inr (inr (inr (inr (inr (leb-false (saidChecks file) (496 * saidSteps file) x)))))))))
 
       rules : t-one ≡ true → t-vars ≡ true → t-val ≡ true → t-vals ≡ true → t-few ≡ true → t-fills ≡ true → t-zero ≡ true → t-doms ≡ true
           → t-masks ≡ true → Way t-rules → Deserves-15 file
@@ -251,19 +238,19 @@ module _ (file : List ℕ) where
       rules a b c d f g h i j (inr x) =
           let proper = proper-said (leb-true 1 (saidN file) a) (leb-true (saidN file) 32 b) (leb-true 1 (saidD file) c) (leb-true (saidD file) 16 d)
           (domains-say i) (masks-say j) in
-          inr (inr (inr (inr (inr (inr (inr (inl (refutes-rules (saidProblem file) (saidSearch file .stack) proper .holds x))))))))
+          inr (inr (inr (inr (inr (inr (inl (refutes-rules (saidProblem file) (saidSearch file .stack) proper .holds x)))))))
 
       masks : t-one ≡ true → t-vars ≡ true → t-val ≡ true → t-vals ≡ true → t-few ≡ true → t-fills ≡ true → t-zero ≡ true → t-doms ≡ true
           → Way t-masks → Deserves-15 file
       masks a b c d f g h i (inl x) = rules a b c d f g h i x (either t-rules)
-      masks a b c d f g h i (inr x) = inr (inr (inr (inr (inr (inr (inl (masks-fail x)))))))
+      masks a b c d f g h i (inr x) = inr (inr (inr (inr (inr (inl (masks-fail x))))))
 
       doms : t-one ≡ true → t-vars ≡ true → t-val ≡ true → t-vals ≡ true → t-few ≡ true → t-fills ≡ true → t-zero ≡ true → Way t-doms
           → Deserves-15 file
       doms a b c d f g h (inl x) = masks a b c d f g h x (either t-masks)
       doms a b c d f g h (inr x) =
           let (i, l, z) = every-fails (λ i. ltb (saidProblem file .domain i) (2 ^ saidD file)) (saidN file) x in
-          inr (inr (inr (inr (inr (inl (i, l, over-found (saidD file) (saidProblem file .domain i) (ltb-false (saidProblem file .domain i) (2 ^ saidD file) z)))))))
+          inr (inr (inr (inr (inr (inl (inl (i, l, over-of (saidD file) (saidProblem file .domain i) (ltb-false (saidProblem file .domain i) (2 ^ saidD file) z))))))))
 
       zeros : t-one ≡ true → t-vars ≡ true → t-val ≡ true → t-vals ≡ true → t-few ≡ true → t-fills ≡ true → Way t-zero → Deserves-15 file
       zeros a b c d f g (inl x) = doms a b c d f g x (either t-doms)
@@ -286,6 +273,11 @@ module _ (file : List ℕ) where
       one (inl a) (inl b) (inr c) w = inr (inl (inl (leb-false 1 (saidD file) c)))
       one (inl a) (inl b) (inl c) (inr d) = inr (inl (inr (leb-false (saidD file) 16 d)))
 
+  -- Its agenda has no slot that is not used.
+  pub agenda-length : length (saidAgenda file) ≡ saidSubproblems file * (saidN file + 2)
+  unfolding saidAgenda
+  agenda-length = length-from file (agendaFrom (saidN file) (saidD file)) (saidSubproblems file * (saidN file + 2))
+
   -- An accepted file breaks none.
   pub accepts-deserves-not : Accepts file → Deserves-15 file → ⊥
   accepts-deserves-not a (inl (inl l)) = omega (arith, a .some-variable)
@@ -295,10 +287,14 @@ module _ (file : List ℕ) where
   accepts-deserves-not a (inr (inr (inl l))) = omega (arith, a .few)
   accepts-deserves-not a (inr (inr (inr (inl f)))) = f (a .fills)
   accepts-deserves-not a (inr (inr (inr (inr (inl (k, l, m, f)))))) = f (a .zeros k l m)
-  accepts-deserves-not a (inr (inr (inr (inr (inr (inl (i, l, o))))))) = over-not (saidD file) (saidProblem file .domain i) (a .domains i l) o
-  accepts-deserves-not a (inr (inr (inr (inr (inr (inr (inl (i, j, v, l, k, m, o)))))))) = over-not (saidD file) (saidAllowed file i j v) (a .masks i j v l k m) o
-  accepts-deserves-not a (inr (inr (inr (inr (inr (inr (inr (inl (P, m, f))))))))) = f (a .rules P m)
-  accepts-deserves-not a (inr (inr (inr (inr (inr (inr (inr (inr l)))))))) = omega (arith, a .counted)
+  accepts-deserves-not a (inr (inr (inr (inr (inr (inl (inl (i, l, o)))))))) = over-not (saidD file) (saidProblem file .domain i) (a .domains i l) o
+  accepts-deserves-not a (inr (inr (inr (inr (inr (inl (inr (i, j, v, l, k, f, m, o)))))))) =
+      over-not (saidD file) (saidAllowed file i j v) (said-proper a .masks i j v l k f m) o
+  accepts-deserves-not a (inr (inr (inr (inr (inr (inr (inl (P, m, f)))))))) = f (a .rules P m)
+  accepts-deserves-not a (inr (inr (inr (inr (inr (inr (inr (inl l)))))))) =
+      omega (arith, l, ap (slotsIn (saidN file)) agenda-length, slots-in (saidN file) (saidSubproblems file))
+  accepts-deserves-not a (inr (inr (inr (inr (inr (inr (inr (inr (inl (k, l, m, f)))))))))) = omega (arith, l, m, agenda-length)
+  accepts-deserves-not a (inr (inr (inr (inr (inr (inr (inr (inr (inr l))))))))) = omega (arith, a .counted)
 
   -- Passing 15 says that the file is accepted.
   pub words-accept : refusalOfWords file ≡ 0 → Accepts file

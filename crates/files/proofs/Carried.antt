@@ -104,7 +104,7 @@ module _ (n d : ℕ) (domains tables : List ℕ) (w : Two-ways n d domains table
       → Runs n d domains tables (w .first-agenda) left requests (w .first .state) r
   run-on left requests r h =
       let c = carried in
-      diagonal-run n d domains (w .tables₁) tables (c .its-tables) (w .first-agenda) left requests (w .first .state) r (omega (arith, handed .stepped))
+      diagonal-run n d domains (w .tables₁) tables (c .its-tables) (w .first-agenda) left requests (w .first .state) r (handed .stepped)
       (runs-cast n (w .loaded .n) d (w .loaded .d) domains (w .domains₁) (w .tables₁) (w .first-agenda) (w .agenda₁) left requests (w .first .state) (w .loaded .state) r
       (c .its-n) (c .its-d) (c .its-domains) (c .its-agenda) (c .its-state) h)
 
@@ -113,6 +113,6 @@ module _ (n d : ℕ) (domains tables : List ℕ) (w : Two-ways n d domains table
       → Chooses n d domains tables (w .first-agenda) left limit (w .first .state) r
   choose-on left limit r h =
       let c = carried in
-      diagonal-choose n d domains (w .tables₁) tables (c .its-tables) (w .first-agenda) left limit (w .first .state) r (omega (arith, handed .stepped))
+      diagonal-choose n d domains (w .tables₁) tables (c .its-tables) (w .first-agenda) left limit (w .first .state) r (handed .stepped)
       (chooses-cast n (w .loaded .n) d (w .loaded .d) domains (w .domains₁) (w .tables₁) (w .first-agenda) (w .agenda₁) left limit (w .first .state) (w .loaded .state) r
       (c .its-n) (c .its-d) (c .its-domains) (c .its-agenda) (c .its-state) h)

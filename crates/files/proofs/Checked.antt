@@ -4,11 +4,11 @@ use mathlib.Core.Path.{_≡_, refl, sym, ap, _∙_}
 use mathlib.Core.Logic.{⊎-elim}
 use mathlib.Core.Bool.{Bool, true, _&&_}
 use mathlib.Core.List.{List, _++_}
-use Prim.Native.Nat.{ℕ, _+_, _-_, _*_, _^_, _≤_, _<_}
+use Prim.Native.Nat.{ℕ, _+_, _-_, _*_, _≤_}
 use native.Mathlib.Omega.{arith}
 use native.Mathlib.Nat.{mul-le-mul-right}
 use native.Mathlib.Decide.{decLt}
-use lib.ListN.{length, getD, take, drop, replicate, length-replicate, List·getD-eq-default}
+use lib.ListN.{length, getD, take, drop, replicate, length-replicate}
 use lib.Seq.{take-all}
 use lib.Dec.{eqb}
 use borrow.Author.Tests.{eqb-true}
@@ -24,7 +24,7 @@ use Rattle.search.proofs.FirstPassing.{search-is-passed}
 use Rattle.files.specs.Blocks.{blocksFor}
 use Rattle.files.specs.Reading.{blocksIn, contentWord, contentFrom, saidN, saidD, saidSteps, saidChecks, saidSubproblems, saidDomains, saidAllowed, saidAgenda, saidSearch, saidWords, agendaFrom, tableWords, refusalOfWords}
 use Rattle.files.specs.Promises.{Bytes}
-use Rattle.files.specs.Work.Said.{Numbers, StateSaid, numbersSaid, zeroIn, filled, agendaStart, wordCount, sizedIn, Read, Ready}
+use Rattle.files.specs.Work.Said.{Numbers, StateSaid, numbersSaid, zeroIn, filled, sizedIn, Read, Ready}
 use Rattle.files.proofs.Lists.{seq, seq-join, map-is}
 use Rattle.files.proofs.Triangle.{table-other}
 use Rattle.files.proofs.Stacks.{slots-in}
@@ -33,7 +33,7 @@ use Rattle.files.proofs.Accepted.{Accepts, words-accept, accept-words, 
 use Rattle.files.proofs.Tables.{rules-agree}
 use Rattle.files.proofs.RoundTrip.{said-shape, said-length}
 use Rattle.files.proofs.Loading.{said-passing}
-use Rattle.files.proofs.Places.{content-from, length-from, content-word-small}
+use Rattle.files.proofs.Places.{length-from, from-small}
 use Rattle.files.proofs.Mirrors.{part-at, part-long, triangle-few}
 use Rattle.files.proofs.Filled.{content-past}
 use Rattle.files.proofs.Refused.{sized-numbers}
@@ -49,15 +49,6 @@ part-read file words read from w h =
 
 -- ---- the agenda
 
--- Words of the content are words.
-from-small : (file : List ℕ) (from words : ℕ) → Bytes file → (i : ℕ) → getD (contentFrom file from words) i 0 < 2 ^ 16
-from-small file from words small i = elim (decLt i words) [
-  | yes h ↦ rw (content-from file from words i h) (content-word-small file small (from + i))
-  | no h ↦
-      let past : length (contentFrom file from words) ≤ i = omega (arith, length-from file from words) in
-      rw (List·getD-eq-default (contentFrom file from words) 0 past) (omega arith)
-]
-
 -- The words of the stack that they say are these words.
 words-said : (file : List ℕ) (n from m : ℕ) → Bytes file
     → stackWords n (stackOf n (contentFrom file from (m * (n + 2))) m) ≡ contentFrom file from (m * (n + 2))
@@ -68,14 +59,14 @@ words-said file n from m small =
 
 -- With zeros after them they are the agenda of the stack that the file says.
 pub agenda-said : (file : List ℕ) (words : ℕ) → Bytes file
-    → contentFrom file (agendaFrom file) (saidSubproblems file * (saidN file + 2)) ++ replicate (words - saidSubproblems file * (saidN file + 2)) 0
+    → contentFrom file (agendaFrom (saidN file) (saidD file)) (saidSubproblems file * (saidN file + 2)) ++ replicate (words - saidSubproblems file * (saidN file + 2)) 0
     ≡ agendaOf (saidN file) words (saidSearch file .stack)
 unfolding agendaOf saidAgenda
 agenda-said file words small =
     let n : ℕ = saidN file in
     let m : ℕ = saidSubproblems file in
-    let said = words-said file n (agendaFrom file) m small in
-    rw (said, length-from file (agendaFrom file) (m * (n + 2))) refl
+    let said = words-said file n (agendaFrom (saidN file) (saidD file)) m small in
+    rw (said, length-from file (agendaFrom (saidN file) (saidD file)) (m * (n + 2))) refl
 
 -- ---- the first checks
 
@@ -89,7 +80,7 @@ module _ (file : List ℕ) (small : Bytes file) (whole : Whole file) (sized : si
     pub zeros : (k : ℕ) → saidWords file ≤ k → contentWord file k ≡ 0
 
   full : Full
-  unfolding sizedIn filled zeroIn wordCount agendaStart
+  unfolding sizedIn filled zeroIn
   full =
       let words : ℕ = saidWords file in
       let test : ℕ → Bool = λ k. eqb (contentWord file (words + k)) 0 in
@@ -117,7 +108,7 @@ module _ (file : List ℕ) (small : Bytes file) (whole : Whole file) (sized : si
   fits = rw (slots-in (saidN file) 512) (numbers .1)
 
   -- The words from the agenda's first on are that agenda.
-  memory-is : contentFrom file (agendaFrom file) (512 * (saidN file + 2)) ≡ memory
+  memory-is : contentFrom file (agendaFrom (saidN file) (saidD file)) (512 * (saidN file + 2)) ≡ memory
   unfolding contentFrom seq
   memory-is =
       let n : ℕ = saidN file in
@@ -125,11 +116,11 @@ module _ (file : List ℕ) (small : Bytes file) (whole : Whole file) (sized : si
       let left : ℕ = 512 * (n + 2) - used in
       let few : used ≤ 512 * (n + 2) = mul-le-mul-right (n + 2) (numbers .1) in
       let all : used + left ≡ 512 * (n + 2) = omega arith in
-      let zeros : contentFrom file (agendaFrom file + used) left ≡ replicate left 0 =
-      map-is (λ k. contentWord file (agendaFrom file + used + k)) left (replicate left 0) (length-replicate left 0)
-      (λ k l. full .zeros (agendaFrom file + used + k) (omega arith) ∙ sym (zeros-at left k)) in
-      ap (contentFrom file (agendaFrom file)) (sym all) ∙ seq-join (contentWord file) (agendaFrom file) used left
-      ∙ ap (λ (t : List ℕ). contentFrom file (agendaFrom file) used ++ t) zeros ∙ agenda-said file (512 * (n + 2)) small
+      let zeros : contentFrom file (agendaFrom (saidN file) (saidD file) + used) left ≡ replicate left 0 =
+      map-is (λ k. contentWord file (agendaFrom (saidN file) (saidD file) + used + k)) left (replicate left 0) (length-replicate left 0)
+      (λ k l. full .zeros (agendaFrom (saidN file) (saidD file) + used + k) (omega arith) ∙ sym (zeros-at left k)) in
+      ap (contentFrom file (agendaFrom (saidN file) (saidD file))) (sym all) ∙ seq-join (contentWord file) (agendaFrom (saidN file) (saidD file)) used left
+      ∙ ap (λ (t : List ℕ). contentFrom file (agendaFrom (saidN file) (saidD file)) used ++ t) zeros ∙ agenda-said file (512 * (n + 2)) small
 
   -- It holds the stack that the file says.
   memory-read : stackOf (saidN file) memory (saidSubproblems file) ≡ saidSearch file .stack
@@ -185,7 +176,7 @@ module _ (file : List ℕ) (small : Bytes file) (whole : Whole file) (sized : si
 -- ---- as the code makes them
 
 module _ (file words tables : List ℕ) (small : Bytes file) (ready : Ready file words tables) (n d from r : ℕ) (s : State) (is-n : n ≡ saidN file)
-    (is-d : d ≡ saidD file) (is-from : from ≡ agendaStart n d) (said : StateSaid file s)
+    (is-d : d ≡ saidD file) (is-from : from ≡ agendaFrom n d) (said : StateSaid file s)
     (is-r : r ≡ searchRefusal n d (take ((9 + n) - 9) (drop 9 words)) tables (take ((from + 512 * (n + 2)) - from) (drop from words)) (s .counts .steps .0) (s .counts .checks .0) (s .subproblems)) where
   pub sized-parts : Numbers n d × (saidSubproblems file ≤ 512)
   sized-parts = sized-numbers file n d (saidSubproblems file) is-n is-d refl (ready .sized)
@@ -194,11 +185,9 @@ module _ (file words tables : List ℕ) (small : Bytes file) (ready : Ready file
   domains-read = part-read file words (ready .read) 9 n (omega (arith, sized-parts .0 .variables)) ∙ ap (contentFrom file 9) is-n
 
   start-few : from ≤ 7977
-  unfolding agendaStart
   start-few = omega (arith, triangle-few n d (sized-parts .0), sized-parts .0 .variables)
 
-  start-is : from ≡ agendaFrom file
-  unfolding agendaStart
+  start-is : from ≡ agendaFrom (saidN file) (saidD file)
   start-is = is-from ∙ rw (is-n, is-d) refl
 
   slots-read : take ((from + 512 * (n + 2)) - from) (drop from words) ≡ agendaOf (saidN file) (512 * (saidN file + 2)) (saidSearch file .stack)

@@ -3,7 +3,7 @@
 use mathlib.Core.Path.{_≡_, refl}
 use mathlib.Core.Bool.{false}
 use mathlib.Core.List.{List}
-use Prim.Native.Nat.{ℕ, _^_, _<_}
+use Prim.Native.Nat.{ℕ, _≤_}
 use native.Mathlib.Omega.{arith}
 use native.Mathlib.Decide.{ℕ-discrete}
 use lib.ListN.{length}
@@ -30,7 +30,7 @@ use Rattle.files.proofs.Triangle.{triangle-same}
 use Rattle.files.proofs.AgreeingRuns.{run-same, choose-same}
 
 -- A search that passed the first checks, as the search crate says it (its promise Handed-passes asks that the agenda holds words).
-passed-passes : (n d : ℕ) (domains tables agenda : List ℕ) (s : State) → s .counts .steps .0 < 2 ^ 32
+passed-passes : (n d : ℕ) (domains tables agenda : List ℕ) (s : State) → s .counts .steps .0 ≤ 4294967295
     → PassedSearch n d domains tables agenda (s .counts .steps .0) (s .counts .checks .0) (s .subproblems)
     → Passes (problemOf n d domains tables) (slotsIn n (length agenda)) (searchOf n agenda s)
 passed-passes n d domains tables agenda s l h = record {
@@ -38,7 +38,7 @@ passed-passes n d domains tables agenda s l h = record {
   rules = h .rules;
   fits = rw (length-stackOf n agenda (s .subproblems)) (h .room);
   counted = h .limit;
-  stepped = omega arith;
+  stepped = l;
 }
 
 -- Where the first checks refuse, it does not matter how the run would stop.
@@ -91,7 +91,7 @@ module _ (n d : ℕ) (domains tables tables′ : List ℕ) (same : AgreeApart n 
   }
 
   -- A run.
-  pub diagonal-run : (before after requests : List ℕ) (s : State) (r : Ran) → s .counts .steps .0 < 2 ^ 32 → Runs n d domains tables before after requests s r
+  pub diagonal-run : (before after requests : List ℕ) (s : State) (r : Ran) → s .counts .steps .0 ≤ 4294967295 → Runs n d domains tables before after requests s r
       → Runs n d domains tables′ before after requests s r
   diagonal-run before after requests s r l h =
       rw (← run-refusal-same before requests (s .counts .steps .0) (s .counts .checks .0) (s .subproblems)) (ends-swap
@@ -103,7 +103,7 @@ module _ (n d : ℕ) (domains tables tables′ : List ℕ) (same : AgreeApart n 
       (run-is-passed n d domains tables before (s .counts .steps .0) (s .counts .checks .0) (s .subproblems) requests .0 e .0))) h)
 
   -- The chooser.
-  pub diagonal-choose : (before after : List ℕ) (limit : ℕ) (s : State) (r : Ran) → s .counts .steps .0 < 2 ^ 32 → Chooses n d domains tables before after limit s r
+  pub diagonal-choose : (before after : List ℕ) (limit : ℕ) (s : State) (r : Ran) → s .counts .steps .0 ≤ 4294967295 → Chooses n d domains tables before after limit s r
       → Chooses n d domains tables′ before after limit s r
   diagonal-choose before after limit s r l h =
       rw (← search-same before (s .counts .steps .0) (s .counts .checks .0) (s .subproblems)) (ends-swap

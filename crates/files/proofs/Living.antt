@@ -6,27 +6,28 @@ use mathlib.Core.List.{List}
 use Prim.Native.Nat.{ℕ, _*_, _≤_}
 use native.Mathlib.Omega.{arith}
 use native.Mathlib.Decide.{ℕ-discrete}
-use lib.ListN.{length, getD, take}
+use lib.ListN.{length, getD, take, replicate, length-replicate}
 use lib.Dec.{eqb}
 use borrow.Author.Tests.{ne-eqb}
 use Rattle.splits.specs.Problem.{Allow-same, Proper, tableOf}
 use Rattle.splits.specs.Promises.{AgreeApart}
-use Rattle.search.specs.Agenda.{problemOf, stackOf, slotsIn}
+use Rattle.search.specs.Agenda.{problemOf, stackOf, slotsIn, agendaOf}
 use Rattle.search.specs.Runs.{requestsIn}
-use Rattle.search.specs.FirstChecks.{runRefusal}
+use Rattle.search.specs.FirstChecks.{WholeSlots, runRefusal}
 use Rattle.search.specs.Verdicts.{numberOf, verdictOf}
 use Rattle.search.specs.Calls.{searchOf, Runs}
-use Rattle.search.specs.Promises.{Passed, Handed, Leaves, Reached, Has-solution}
+use Rattle.search.specs.Promises.{Shown, Passed, Handed, Leaves, Reached, Has-solution}
 use Rattle.search.specs.declared.state.State.{State}
 use Rattle.search.specs.declared.state.Ran.{Ran}
 use Rattle.search.specs.declared.state.Verdict.{Verdict}
 use Rattle.search.specs.declared.state.Verdict.the-variants.{None}
+use Rattle.search.proofs.Encoding.{length-stackOf}
 use Rattle.search.proofs.HandedOn.{known, leaves, some-slots, whole-requests}
 use Rattle.search.proofs.Promises.{open-leaves, run-leaves, chooser-leaves, run-says, run-passed, reached-passes, reached-unsolvable, solved-shows, reached-passes}
 use Rattle.files.specs.Blocks.{fileOf}
 use Rattle.files.specs.Reading.{saidAllowed, tableWords}
 use Rattle.files.specs.Calls.{handedContent, saveRefusal, Saves, Loads}
-use Rattle.files.specs.Promises.{Says, Shown, Lived, opened, ran, chose, loaded}
+use Rattle.files.specs.Promises.{Says, Lived, opened, ran, chose, loaded, moved}
 use Rattle.files.specs.declared.saved.Saved.{Saved}
 use Rattle.files.specs.declared.saved.Loaded.{Loaded}
 use Rattle.files.proofs.Triangle.{table-length}
@@ -96,6 +97,32 @@ module _ (n d : ℕ) (domains tables₀ tables agenda : List ℕ) (s : State) (l
         reached = rw (l .search, l .length-kept) reached;
       }
 
+-- What a move to an agenda of another length leaves: what a call would that was lent so many words, zeros here.
+module _ (n d : ℕ) (domains tables₀ tables agenda : List ℕ) (s : State) (life : Life n d domains tables₀ tables agenda s) (words : ℕ)
+    (slots : WholeSlots n words) (takes : s .subproblems ≤ slotsIn n words) where
+  lengthened : Life n d domains tables₀ tables (agendaOf n words (stackOf n agenda (s .subproblems))) s
+  lengthened =
+      let k = known n d domains tables agenda s (life .handed) in
+      let x = searchOf n agenda s in
+      let count : length (x .stack) ≡ s .subproblems = length-stackOf n agenda (s .subproblems) in
+      let other : List ℕ = replicate words 0 in
+      let long : length other ≡ words = length-replicate words 0 in
+      let room : length (x .stack) ≤ slotsIn n words = omega arith in
+      let reached : Reached n d domains tables (slotsIn n words) x = Reached.moved (life .reached) room in
+      let passed : Passed n d domains tables other =
+      record { proper = life .proper; domains-words = life .words; tables-words = k .passed .passed .tables-words; slots = rw long slots } in
+      let passes = reached-passes n d domains tables (slotsIn n words) x (life .proper) reached in
+      let l =
+      leaves n d domains tables other (agendaOf n words (x .stack)) s x passed (rw long passes) (k .shaped)
+      (ap (λ (w : ℕ). agendaOf n w (x .stack)) (sym long)) refl refl (sym count) in
+      record {
+        handed = l .handed;
+        same = life .same;
+        proper = life .proper;
+        words = life .words;
+        reached = rw (l .search, l .length-kept, long) reached;
+      }
+
 -- It is known of each.
 pub lived : {n d : ℕ} {domains tables₀ tables agenda : List ℕ} {s : State} → Lived n d domains tables₀ tables agenda s → Life n d domains tables₀ tables agenda s
 lived {n} {d} {domains} {tables₀} (opened {before} {after} {r} opens none) =
@@ -121,6 +148,8 @@ lived {n} {d} {domains} {tables₀} (chose {tables} {before} {after} {s} {r} h l
     (Reached.chose (life .reached) limit)
 lived {n} {d} {domains} {tables₀} (loaded {tables} {agenda} {before} {after} {domains₁} {domains′} {tables₁} {tables′} {agenda₁} {agenda′} {s} {saved} {r} h saves none loads accepted) =
     moved-on n d domains tables₀ tables agenda s (lived h) before after saved saves none domains₁ domains′ tables₁ tables′ agenda₁ agenda′ r loads accepted
+lived {n} {d} {domains} {tables₀} (moved {tables} {agenda} {s} h words slots takes) =
+    lengthened n d domains tables₀ tables agenda s (lived h) words slots takes
 
 -- Of the problem that was opened.
 module _ {n d : ℕ} {domains tables₀ tables agenda : List ℕ} {s : State} (life : Life n d domains tables₀ tables agenda s) where
@@ -138,7 +167,8 @@ module _ {n d : ℕ} {domains tables₀ tables agenda : List ℕ} {s : State} (l
   says-unsolvable v e h =
       reached-unsolvable n d domains tables₀ (slotsIn n (length agenda)) (searchOf n agenda s) proper₀ reached₀ (ap numberOf (sym e) ∙ h)
 
-  pub says-solved : (v : Verdict) → v ≡ verdictOf n (stackOf n agenda (s .subproblems)) → numberOf v ≡ 2 → Shown n d domains tables₀ agenda s
+  pub says-solved : (v : Verdict) → v ≡ verdictOf n (stackOf n agenda (s .subproblems)) → numberOf v ≡ 2
+      → Shown (problemOf n d domains tables₀) (stackOf n agenda (s .subproblems))
   says-solved v e h =
       solved-shows (problemOf n d domains tables₀) (slotsIn n (length agenda)) (searchOf n agenda s)
       (reached-passes n d domains tables₀ (slotsIn n (length agenda)) (searchOf n agenda s) proper₀ reached₀) (ap numberOf (sym e) ∙ h)

@@ -16,7 +16,8 @@ use Rattle.files.specs.Calls.{loadRefusal, Loads}
 use Rattle.files.specs.Promises.{Bytes, Left-by-load}
 use Rattle.files.specs.declared.saved.Loaded.{Loaded}
 use Rattle.files.proofs.Loading.{load-taken, memory-length, memory-read, said-passing}
-use Rattle.files.proofs.RoundTrip.{said-shape, content-word}
+use Rattle.files.proofs.Places.{content-word-small}
+use Rattle.files.proofs.RoundTrip.{said-shape}
 
 pub load-leaves : (file domains domains′ tables tables′ agenda agenda′ : List ℕ) (r : Loaded) → Bytes file
     → Loads file domains domains′ tables tables′ agenda agenda′ r → r .refusal ≡ 0 → Left-by-load file agenda domains′ tables′ agenda′ r
@@ -34,8 +35,8 @@ load-leaves file domains domains′ tables tables′ agenda agenda′ r bytes lo
     let count-is : r .state .subproblems ≡ saidSubproblems file = rw test at (loads .subproblems) in
     let shaped : Shaped (saidN file) 16 (saidSearch file .stack) = said-shape file bytes (t .accepts .variables) in
     let passes = search-is-passed _ _ _ _ _ _ _ _ .1 (said-passing file (t .accepts) bytes (length agenda) (t .lengths .slots) (t .room)) in
-    let high = content-word file bytes 2 in
-    let low = content-word file bytes 3 in
+    let high = content-word-small file bytes 2 in
+    let low = content-word-small file bytes 3 in
     record {
       its-n = n-is;
       its-d = d-is;

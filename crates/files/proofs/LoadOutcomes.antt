@@ -18,7 +18,7 @@ use Rattle.search.proofs.FirstParts.{given-if, else-pass}
 use Rattle.files.specs.Reading.{blocksIn, contentWord, contentFrom, saidN, saidD, saidSteps, saidChecks, saidSubproblems, saidDomains, saidAllowed, saidSearch, triangleWords, tableWords, refusalOfFile, refusalOfWords}
 use Rattle.files.specs.Calls.{loadRefusal, Loads}
 use Rattle.files.specs.Promises.{Bytes}
-use Rattle.files.specs.Work.Said.{Numbers, StateSaid, sizedIn, allowedIn, agendaStart, pairPart, rowPart, tablePart, partIn, slotsPart, Lent, Read, Ready, Refused}
+use Rattle.files.specs.Work.Said.{Numbers, StateSaid, sizedIn, allowedIn, pairPart, rowPart, tablePart, partIn, slotsPart, Lent, Read, Ready, Refused}
 use Rattle.files.specs.declared.saved.Loaded.{Loaded}
 use Rattle.files.proofs.Lists.{each-same, map-same}
 use Rattle.files.proofs.Triangle.{table-length}
@@ -151,7 +151,7 @@ module _ (file domains tables agenda : List ℕ) (r : ℕ) (is-r : r ≡ loadRef
     pub load-accepted : (small : Bytes file) (words all : List ℕ) → Ready file words all → (s : Loaded) (domains′ tables′ agenda′ : List ℕ)
         → s .refusal ≡ 0 → s .n ≡ n → s .d ≡ d → StateSaid file (s .state) → domains′ ≡ partIn words 9 n → tables′ ≡ all
         → agenda′ ≡ slotsPart words n d m (length agenda) → Loads file domains domains′ tables tables′ agenda agenda′ s
-    unfolding refusal agendaStart partIn slotsPart
+    unfolding refusal partIn slotsPart
     load-accepted small words all ready s domains′ tables′ agenda′ is-s s-n s-d state ds ts as′ =
         let z : refusal ≡ 0 = sym is-r ∙ zero-r in
         let fitted = load-fits in

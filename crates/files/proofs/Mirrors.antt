@@ -17,8 +17,8 @@ use Rattle.splits.specs.Splits.{below}
 use Rattle.splits.proofs.Masks.{bit-above}
 use Rattle.search.specs.Matrix.{Turned}
 use Rattle.search.proofs.Copies.{zeros-at}
-use Rattle.files.specs.Reading.{contentWord, saidN, saidD, saidAllowed, triangleWords, trianglePlace, gathered}
-use Rattle.files.specs.Work.Said.{Numbers, maskIn, allowedIn, columnOf, columnPart, pairPart, agendaStart, partIn, slotsPart}
+use Rattle.files.specs.Reading.{contentWord, saidN, saidD, saidAllowed, triangleWords, trianglePlace, gathered, agendaFrom}
+use Rattle.files.specs.Work.Said.{Numbers, maskIn, allowedIn, columnOf, columnPart, pairPart, partIn, slotsPart}
 use Rattle.files.proofs.Lists.{map-is, map-same, total-below, padded-at}
 use Rattle.files.proofs.Triangle.{rest-total, place-lt}
 use Rattle.files.proofs.Gathered.{gathered-same, gathered-bits}
@@ -200,7 +200,7 @@ unfolding partIn
 part-in words out from w e = e
 
 -- The slots, and zeros after them.
-pub slots-in : (words out : List ℕ) (n d m all from : ℕ) → n ≤ 32 → m ≤ 512 → length words ≡ 25553 → from ≡ agendaStart n d → from ≤ 7977
+pub slots-in : (words out : List ℕ) (n d m all from : ℕ) → n ≤ 32 → m ≤ 512 → length words ≡ 25553 → from ≡ agendaFrom n d → from ≤ 7977
     → out ≡ take ((from + m * (n + 2)) - from) (drop from words) ++ replicate (all - length (take ((from + m * (n + 2)) - from) (drop from words))) 0
     → out ≡ slotsPart words n d m all
 unfolding slotsPart partIn

@@ -5,6 +5,7 @@ use mathlib.Core.List.{List, map}
 use Prim.Native.Nat.{ℕ, _+_, _-_, _*_, _/_, _%_, _≤_, _<_}
 use native.Mathlib.Omega.{arith}
 use native.Mathlib.Nat.{zero-add}
+use native.Mathlib.Decide.{decLt}
 use lib.ListN.{length, getD, List·getD-eq-default}
 use Rattle.splits.specs.Problem.{total}
 use Rattle.splits.specs.Splits.{below}
@@ -76,6 +77,15 @@ content-from file from words i h = map-at (λ k. contentWord file (from + k)) wo
 pub length-from : (file : List ℕ) (from words : ℕ) → length (contentFrom file from words) ≡ words
 unfolding contentFrom
 length-from file from words = map-length (λ k. contentWord file (from + k)) words
+
+-- They are words.
+pub from-small : (file : List ℕ) (from words : ℕ) → ((i : ℕ) → getD file i 0 < 256) → (i : ℕ) → getD (contentFrom file from words) i 0 < 65536
+from-small file from words small i = elim (decLt i words) [
+  | yes h ↦ rw (content-from file from words i h) (content-word-small file small (from + i))
+  | no h ↦
+      let past : length (contentFrom file from words) ≤ i = omega (arith, length-from file from words) in
+      rw (List·getD-eq-default (contentFrom file from words) 0 past) (omega arith)
+]
 
 -- The sum of the words that were read.
 pub sum-read : (block words : List ℕ) (t : ℕ) → words ≡ map (blockWord block 0) (below 256) → t ≡ total 255 (valueAt words) → t ≡ total 255 (blockWord block 0)

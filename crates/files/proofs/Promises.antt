@@ -215,16 +215,14 @@ pub same-solutions : Same-solutions
 same-solutions = Solutions.same-solutions
 
 pub cut-any : Cut-any
-cut-any n d domains tables agenda s requests more words short e w v t =
-    Cutting.run-end n d domains tables agenda s requests more (record { words = words; stepped = omega arith; passes = e }) w v t
+cut-any = Cutting.run-end
 
 pub cut-lived : Cut-lived
 cut-lived n d domains tables₀ tables agenda s requests more h w v t =
     Cutting.run-end n d domains tables agenda s requests more (Living.lived h .handed) w v t
 
 pub cut-choose : Cut-choose
-cut-choose n d domains tables agenda s m k words short e t asked =
-    Cutting.choose-end n d domains tables agenda s m k (record { words = words; stepped = omega arith; passes = e }) t asked
+cut-choose = Cutting.choose-end
 
 pub n-one : N-one
 n-one file = one _

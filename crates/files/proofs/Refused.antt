@@ -27,9 +27,10 @@ use Rattle.files.specs.Reading.{
   masksBelowTriangle,
   refusalOfFile,
   refusalOfWords,
+  wordCount,
 }
 use Rattle.files.specs.Calls.{loadRefusal}
-use Rattle.files.specs.Work.Said.{Numbers, numbersSaid, zeroIn, filled, agendaStart, wordCount, sizedIn}
+use Rattle.files.specs.Work.Said.{Numbers, numbersSaid, zeroIn, filled, sizedIn}
 
 -- Tests in a row, in groups.
 grouped : (t a b c d e f : Bool) → (t && a && b && c && d && e && f) ≡ ((t && (a && b)) && (c && d && e && f))
@@ -49,7 +50,7 @@ module _ (file : List ℕ) where
 
   -- 15 is given exactly if a test fails.
   words-tests : refusalOfWords file ≡ cond (sizedIn file && rest) 0 15
-  unfolding rest refusalOfWords sizedIn numbersSaid filled zeroIn agendaStart wordCount
+  unfolding rest refusalOfWords sizedIn numbersSaid filled zeroIn
   words-tests =
       ap (λ (t : Bool). cond t 0 15)
       (grouped (leb 1 (saidN file) && leb (saidN file) 32 && leb 1 (saidD file) && leb (saidD file) 16 && leb (saidSubproblems file) 512)

@@ -1,7 +1,7 @@
 -- Load after save, and save after load.
 -- Assumes nothing.
 use mathlib.Core.Path.{_≡_, refl, sym, ap, ap₂, _∙_}
-use mathlib.Core.List.{List, List·Memᴰ, [], _∷_, _++_, map}
+use mathlib.Core.List.{List, List·Memᴰ, [], _∷_, _++_}
 use Prim.Native.Nat.{ℕ, _+_, _-_, _*_, _/_, _%_, _^_, _≤_, _<_}
 use native.Mathlib.Omega.{arith}
 use native.Mathlib.Nat.{mul-le-mul, zero-add}
@@ -19,15 +19,15 @@ use Rattle.search.specs.Runs.{Search}
 use Rattle.search.proofs.Encoding.{length-stackOf, stack-of-words}
 use Rattle.files.specs.Blocks.{blocksFor, fileOf}
 use Rattle.files.specs.Content.{contentOf, triangle}
-use Rattle.files.specs.Reading.{blocksIn, blockWord, contentWord, contentFrom, saidN, saidD, saidSteps, saidChecks, saidSubproblems, saidDomains, saidAllowed, saidAgenda, saidSearch, saidWords, agendaFrom, triangleWords}
+use Rattle.files.specs.Reading.{blocksIn, contentWord, contentFrom, saidN, saidD, saidSteps, saidChecks, saidSubproblems, saidDomains, saidAllowed, saidAgenda, saidSearch, saidWords, agendaFrom, triangleWords}
 use Rattle.files.specs.Promises.{Bytes, Says}
 use Rattle.files.proofs.Whole.{Whole, rebuilt}
 use Rattle.files.proofs.Triangle.{triangle-from}
 use Rattle.files.proofs.Blocks.{file-blocks, file-content, file-passes}
-use Rattle.files.proofs.Accepted.{Accepts, accept-words}
+use Rattle.files.proofs.Accepted.{Accepts, agenda-length, accept-words}
 use Rattle.files.proofs.Contents.{content-words, content-length, says-n, says-d, says-steps, says-checks, says-subproblems, says-domains, says-words, says-search, says-stack, says-below, says-above}
-use Rattle.files.proofs.Words.{word-small}
-use Rattle.files.proofs.Lists.{map-length, map-at, seq, seq-join, seq-length, seq-at}
+use Rattle.files.proofs.Places.{content-word-small, from-small}
+use Rattle.files.proofs.Lists.{seq, seq-join, seq-length, seq-at}
 use Rattle.files.proofs.Stacks.{stack-most, of-shape}
 use Rattle.files.proofs.Tables.{with-table, rules-agree, agree-back}
 
@@ -153,30 +153,15 @@ four-third : (a b c e : ℕ) → c < 65536 → e < 65536 → (((a * 65536 + b) *
 four-third a b c e k l = rw (two-high ((a * 65536 + b) * 65536 + c) e l) (two-low (a * 65536 + b) c k)
 
 module _ (file : List ℕ) (bytes : Bytes file) where
-  -- A word of a file of bytes is a word.
-  pub content-word : (k : ℕ) → contentWord file k < 65536
-  unfolding contentWord blockWord
-  content-word k = word-small file bytes (256 * (k / 253) + (2 + k % 253))
-
-  agenda-length : length (saidAgenda file) ≡ saidSubproblems file * (saidN file + 2)
-  unfolding saidAgenda contentFrom
-  agenda-length = map-length (λ k. contentWord file (agendaFrom file + k)) (saidSubproblems file * (saidN file + 2))
-
   agenda-small : (k : ℕ) → getD (saidAgenda file) k 0 < 65536
-  unfolding saidAgenda contentFrom
-  agenda-small k = elim (decLt k (saidSubproblems file * (saidN file + 2))) [
-    | yes l ↦
-        rw (map-at (λ k. contentWord file (agendaFrom file + k)) (saidSubproblems file * (saidN file + 2)) k 0 l) (content-word (agendaFrom file + k))
-    | no l ↦
-        rw (List·getD-eq-default (map (λ k. contentWord file (agendaFrom file + k)) (below (saidSubproblems file * (saidN file + 2)))) 0 {n = k} (omega (arith, agenda-length)))
-        (omega arith)
-  ]
+  unfolding saidAgenda
+  agenda-small = from-small file (agendaFrom (saidN file) (saidD file)) (saidSubproblems file * (saidN file + 2)) bytes
 
   module _ (few : saidN file ≤ 32) where
     -- Each subproblem that it says is as memory holds it.
     pub said-shape : (P : Subproblem) → List·Memᴰ P (saidSearch file .stack) → Shape (saidN file) 16 P
     said-shape P m =
-        of-shape (saidN file) few (saidAgenda file) agenda-small (saidSubproblems file) (omega (arith, agenda-length)) P m
+        of-shape (saidN file) few (saidAgenda file) agenda-small (saidSubproblems file) (omega (arith, agenda-length file)) P m
 
     -- They are as many as it says.
     pub said-length : length (saidSearch file .stack) ≡ saidSubproblems file
@@ -192,8 +177,8 @@ module _ (file : List ℕ) (bytes : Bytes file) where
         ≡ seq (contentWord file) (9 + saidN file + triangleWords (saidN file) (saidD file)) (saidSubproblems file * (saidN file + 2))
     unfolding saidAgenda contentFrom seq
     agenda-from =
-        stack-of-words (saidN file) (saidAgenda file) (saidSubproblems file) (omega (arith, agenda-length)) agenda-small
-        ∙ take-all (saidSubproblems file * (saidN file + 2)) (saidAgenda file) (omega (arith, agenda-length))
+        stack-of-words (saidN file) (saidAgenda file) (saidSubproblems file) (omega (arith, agenda-length file)) agenda-small
+        ∙ take-all (saidSubproblems file * (saidN file + 2)) (saidAgenda file) (omega (arith, agenda-length file))
 
     -- All of it.
     pub said-content : contentOf (saidN file) (saidD file) (saidDomains file) (saidAllowed file) (saidSearch file) ≡ seq (contentWord file) 0 (saidWords file)
@@ -219,12 +204,12 @@ module _ (file : List ℕ) (bytes : Bytes file) where
         nine =
             let g = contentWord file in
             rw (
-              two-high (g 2) (g 3) (content-word 3),
-              two-low (g 2) (g 3) (content-word 3),
-              four-first (g 4) (g 5) (g 6) (g 7) (content-word 5) (content-word 6) (content-word 7),
-              four-second (g 4) (g 5) (g 6) (g 7) (content-word 5) (content-word 6) (content-word 7),
-              four-third (g 4) (g 5) (g 6) (g 7) (content-word 6) (content-word 7),
-              two-low ((g 4 * 65536 + g 5) * 65536 + g 6) (g 7) (content-word 7),
+              two-high (g 2) (g 3) (content-word-small file bytes 3),
+              two-low (g 2) (g 3) (content-word-small file bytes 3),
+              four-first (g 4) (g 5) (g 6) (g 7) (content-word-small file bytes 5) (content-word-small file bytes 6) (content-word-small file bytes 7),
+              four-second (g 4) (g 5) (g 6) (g 7) (content-word-small file bytes 5) (content-word-small file bytes 6) (content-word-small file bytes 7),
+              four-third (g 4) (g 5) (g 6) (g 7) (content-word-small file bytes 6) (content-word-small file bytes 7),
+              two-low ((g 4 * 65536 + g 5) * 65536 + g 6) (g 7) (content-word-small file bytes 7),
               said-length,
             ) refl
 

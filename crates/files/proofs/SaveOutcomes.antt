@@ -14,8 +14,8 @@ use Rattle.search.specs.FirstChecks.{wholeSlots, refusalOfLengths, allObey, zer
 use Rattle.search.specs.declared.state.State.{State}
 use Rattle.search.proofs.FirstParts.{given-if, else-first, else-rest, else-pass, numbers-pass, lengths-pass, open-parts, slots-within}
 use Rattle.files.specs.Blocks.{blocksFor, firstBlocks, fileOf}
+use Rattle.files.specs.Reading.{wordCount}
 use Rattle.files.specs.Calls.{handedContent, saveRefusal, Saves}
-use Rattle.files.specs.Work.Said.{agendaStart, wordCount}
 use Rattle.files.specs.Work.Saved.{Savable, filePart}
 use Rattle.files.specs.declared.saved.Saved.{Saved}
 use Rattle.files.proofs.Blocks.{blocks-length}
@@ -94,7 +94,7 @@ module _ (n d : ℕ) (domains tables agenda : List ℕ) (s : State) where
     module _ (small : (i : ℕ) → getD agenda i 0 < 2 ^ 16) (r words : ℕ) (is-r : r ≡ searchRefusal n d domains tables agenda (s .counts .steps .0) (s .counts .checks .0) (s .subproblems)) (zero-r : r ≡ 0) (is-words : words ≡ wordCount n d (s .subproblems)) where
       -- So many blocks.
       counted-blocks : (words + 252) / 253 ≡ blocksFor (length (handedContent n d domains tables agenda s))
-      unfolding blocksFor wordCount agendaStart
+      unfolding blocksFor
       counted-blocks =
           let all : words ≡ length (handedContent n d domains tables agenda s) = is-words ∙ sym (handed-length n d domains tables agenda s (first-passed (sym is-r ∙ zero-r)) small) in
           ap (λ (x : ℕ). (x + 252) / 253) all

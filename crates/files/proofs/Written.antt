@@ -17,8 +17,8 @@ use Rattle.search.specs.declared.state.State.{State}
 use Rattle.search.proofs.Encoding.{stack-of-words, length-stackOf}
 use Rattle.files.specs.Blocks.{fileBytes, wordAt, checkOf, contentOfBlock, headedBlock, blockWords, firstBlocks}
 use Rattle.files.specs.Content.{each, triangle, contentOf}
-use Rattle.files.specs.Reading.{blockWord, headOf, triangleWords}
-use Rattle.files.specs.Work.Said.{Numbers, agendaStart, wordCount}
+use Rattle.files.specs.Reading.{blockWord, headOf, triangleWords, agendaFrom, wordCount}
+use Rattle.files.specs.Work.Said.{Numbers}
 use Rattle.files.specs.Calls.{handedContent}
 use Rattle.files.specs.Work.Saved.{Savable, header, blockPart, filePart}
 use Rattle.files.proofs.Lists.{map-is, each-length, each-none, each-more, total-below, seq, seq-is, padded-at}
@@ -182,9 +182,8 @@ module _ (n d : ℕ) (domains tables agenda : List ℕ) (s : State) (hands : Sav
       let slots = slots-few n (s .subproblems) 512 (hands .numbers .variables) (hands .few) (omega arith) in
       omega (arith, triangle-few n d (hands .numbers), slots, hands .numbers .variables)
 
-  module _ (l : List ℕ) (long : length l ≡ 25553) (from : ℕ) (is-from : from ≡ agendaStart n d) where
+  module _ (l : List ℕ) (long : length l ≡ 25553) (from : ℕ) (is-from : from ≡ agendaFrom n d) where
     start : from ≡ 9 + n + triangleWords n d
-    unfolding agendaStart
     start = is-from
 
     module _ (ys ds : List ℕ) (y : ys ≡ header n d s) (e : ds ≡ domains) where
@@ -262,7 +261,6 @@ module _ (n d : ℕ) (domains tables agenda : List ℕ) (s : State) (hands : Sav
     -- What is written is the content, and zeros after it.
     pub content-made : (w : List ℕ) → w ≡ front ++ take used agenda ++ replicate (25553 - (9 + n + triangleWords n d + used)) 0
         → w ≡ handedContent n d domains tables agenda s ++ replicate (25553 - wordCount n d (s .subproblems)) 0
-    unfolding wordCount agendaStart
     content-made w e = e ∙ ap (λ (x : List ℕ). x ++ replicate (25553 - (9 + n + triangleWords n d + used)) 0) (sym parts)
 
 -- ---- the words of a block

@@ -30,14 +30,16 @@ saveRefusal n d domains tables agenda s file =
     orElse (searchRefusal n d domains tables agenda (s .counts .steps .0) (s .counts .checks .0) (s .subproblems))
     (cond (ltb (length file) (512 * blocksFor (length (handedContent n d domains tables agenda s)))) 13 0)
 
--- Save writes the blocks and leaves the rest of the buffer; refused, it changes nothing and returns no block.
-pub record Saves (n d : ℕ) (domains tables agenda : List ℕ) (s : State) (before after : List ℕ) (r : Saved) : Type 0 where
-  pub refusal : r .refusal ≡ saveRefusal n d domains tables agenda s before
-  pub blocks : r .blocks
-      ≡ cond (eqb (saveRefusal n d domains tables agenda s before) 0) (blocksFor (length (handedContent n d domains tables agenda s))) 0
-  pub file : after
-      ≡ cond (eqb (saveRefusal n d domains tables agenda s before) 0)
-      (fileOf (handedContent n d domains tables agenda s) ++ drop (length (fileOf (handedContent n d domains tables agenda s))) before) before
+-- How save ends that is handed this content and whose refusal is k: it writes the blocks and leaves the rest of the buffer; refused, it changes
+-- nothing and returns no block.
+pub record SaveEnds (k : ℕ) (content before after : List ℕ) (r : Saved) : Type 0 where
+  pub refusal : r .refusal ≡ k
+  pub blocks : r .blocks ≡ cond (eqb k 0) (blocksFor (length content)) 0
+  pub file : after ≡ cond (eqb k 0) (fileOf content ++ drop (length (fileOf content)) before) before
+
+abbrev pub Saves : ℕ → ℕ → List ℕ → List ℕ → List ℕ → State → List ℕ → List ℕ → Saved → Type 0
+Saves n d domains tables agenda s before after r =
+    SaveEnds (saveRefusal n d domains tables agenda s before) (handedContent n d domains tables agenda s) before after r
 
 -- Load: 14, 15, 3, 12, of the numbers of words lent as domains, tables and agenda.
 unfoldable pub loadRefusal : List ℕ → ℕ → ℕ → ℕ → ℕ
@@ -47,22 +49,19 @@ loadRefusal file domains tables agenda =
     (orElse (refusalOfLengths (saidN file) (saidD file) domains tables agenda)
     (cond (ltb (slotsIn (saidN file) agenda) (saidSubproblems file)) 12 0)))
 
--- Load hands back what the file says, and writes domains, tables (zeros for a variable with itself) and agenda; refused, it changes nothing
--- and returns zeros.
-pub record Loads (file domains domains′ tables tables′ agenda agenda′ : List ℕ) (r : Loaded) : Type 0 where
-  pub refusal : r .refusal ≡ loadRefusal file (length domains) (length tables) (length agenda)
-  pub its-n : r .n ≡ cond (eqb (loadRefusal file (length domains) (length tables) (length agenda)) 0) (saidN file) 0
-  pub its-d : r .d ≡ cond (eqb (loadRefusal file (length domains) (length tables) (length agenda)) 0) (saidD file) 0
-  pub steps : r .state .counts .steps .0
-      ≡ cond (eqb (loadRefusal file (length domains) (length tables) (length agenda)) 0) (saidSteps file) 0
-  pub checks : r .state .counts .checks .0
-      ≡ cond (eqb (loadRefusal file (length domains) (length tables) (length agenda)) 0) (saidChecks file) 0
-  pub subproblems : r .state .subproblems
-      ≡ cond (eqb (loadRefusal file (length domains) (length tables) (length agenda)) 0) (saidSubproblems file) 0
-  pub its-domains : domains′ ≡ cond (eqb (loadRefusal file (length domains) (length tables) (length agenda)) 0) (saidDomains file) domains
-  pub its-tables : tables′
-      ≡ cond (eqb (loadRefusal file (length domains) (length tables) (length agenda)) 0)
-      (tableWords (saidN file) (saidD file) (saidAllowed file)) tables
-  pub its-agenda : agenda′
-      ≡ cond (eqb (loadRefusal file (length domains) (length tables) (length agenda)) 0)
-      (agendaOf (saidN file) (length agenda) (saidSearch file .stack)) agenda
+-- How load ends whose refusal is k: it hands back what the file says, and writes domains, tables (zeros for a variable with itself) and agenda;
+-- refused, it changes nothing and returns zeros.
+pub record LoadEnds (k : ℕ) (file domains domains′ tables tables′ agenda agenda′ : List ℕ) (r : Loaded) : Type 0 where
+  pub refusal : r .refusal ≡ k
+  pub its-n : r .n ≡ cond (eqb k 0) (saidN file) 0
+  pub its-d : r .d ≡ cond (eqb k 0) (saidD file) 0
+  pub steps : r .state .counts .steps .0 ≡ cond (eqb k 0) (saidSteps file) 0
+  pub checks : r .state .counts .checks .0 ≡ cond (eqb k 0) (saidChecks file) 0
+  pub subproblems : r .state .subproblems ≡ cond (eqb k 0) (saidSubproblems file) 0
+  pub its-domains : domains′ ≡ cond (eqb k 0) (saidDomains file) domains
+  pub its-tables : tables′ ≡ cond (eqb k 0) (tableWords (saidN file) (saidD file) (saidAllowed file)) tables
+  pub its-agenda : agenda′ ≡ cond (eqb k 0) (agendaOf (saidN file) (length agenda) (saidSearch file .stack)) agenda
+
+abbrev pub Loads : List ℕ → List ℕ → List ℕ → List ℕ → List ℕ → List ℕ → List ℕ → Loaded → Type 0
+Loads file domains domains′ tables tables′ agenda agenda′ r =
+    LoadEnds (loadRefusal file (length domains) (length tables) (length agenda)) file domains domains′ tables tables′ agenda agenda′ r

@@ -2,11 +2,9 @@
 use mathlib.Core.Path.{_≡_}
 use mathlib.Core.Logic.{_↔_}
 use mathlib.Core.List.{List, List·Memᴰ, [], _∷_, _++_}
-use Prim.Native.Nat.{ℕ, _+_, _*_, _/_, _%_, _^_, _≤_, _<_}
+use Prim.Native.Nat.{ℕ, _+_, _*_, _/_, _%_, _≤_, _<_}
 use lib.ListN.{length, getD, take, drop}
 use Rattle.splits.specs.Problem.{Problem, Proper, Table, Allow-same, Solution, tableOf}
-use Rattle.splits.specs.Masks.{lowest, single}
-use Rattle.splits.specs.Subproblems.{domain}
 use Rattle.splits.specs.Measure.{sum}
 use Rattle.splits.specs.Promises.{Solvable, AgreeApart, One}
 use Rattle.splits.specs.declared.subproblem.Subproblem.{Subproblem}
@@ -14,7 +12,7 @@ use Rattle.search.specs.Agenda.{Words, problemOf, stackOf, slotsIn, agendaOf}
 use Rattle.search.specs.FirstChecks.{WholeSlots, WholeRequests, Deserves-3, searchRefusal}
 use Rattle.search.specs.Runs.{Search}
 use Rattle.search.specs.Calls.{searchOf, Opens, Runs, Chooses}
-use Rattle.search.specs.Promises.{Limited, Handed, Reached, Has-solution}
+use Rattle.search.specs.Promises.{Shown, Limited, Handed, Reached, Has-solution}
 use Rattle.search.specs.Verdicts.{numberOf}
 use Rattle.search.specs.declared.state.State.{State}
 use Rattle.search.specs.declared.state.Opened.{Opened}
@@ -107,8 +105,8 @@ Load-leaves =
     (file domains domains′ tables tables′ agenda agenda′ : List ℕ) (r : Loaded) → Bytes file → Loads file domains domains′ tables tables′ agenda agenda′ r
     → r .refusal ≡ 0 → Left-by-load file agenda domains′ tables′ agenda′ r
 
--- The same of the calls. What load gives back of a search saved: nothing is refused, n, d, the domains, what two different variables allow, and the
--- search in memory are as they were handed to save.
+-- Load after save, of the calls: what load gives back of a search saved. Nothing is refused, n, d, the domains, what two different variables allow,
+-- and the search in memory are as they were handed to save.
 pub record Given-back (n d : ℕ) (domains tables : List ℕ) (s : Search) (r : Loaded) (domains′ tables′ agenda′ : List ℕ) : Type 0 where
   pub refusal : r .refusal ≡ 0
   pub its-n : r .n ≡ n
@@ -126,7 +124,7 @@ Loads-back =
     → length tables₀ ≡ n * n * d → WholeSlots n (length agenda₀) → s .subproblems ≤ slotsIn n (length agenda₀)
     → Given-back n d domains tables (searchOf n agenda s) r domains′ tables′ agenda′
 
--- Save of what load accepted, into a buffer that takes it, is not refused and writes the file again.
+-- Save after load, of the calls: save of what load accepted, into a buffer that takes it, is not refused and writes the file again.
 abbrev pub Saves-back : Type 0
 Saves-back =
     (file domains₀ domains tables₀ tables agenda₀ agenda : List ℕ) (r : Loaded) (before after : List ℕ) (saved : Saved) → Bytes file
@@ -228,7 +226,7 @@ Load-one =
 -- ---- a variable with itself
 
 -- No result of opening, run, chooser or save depends on what stands at i with itself: whatever satisfies the statement with one list of tables
--- satisfies it with the other. The steps are a word of 32 bits.
+-- satisfies it with the other. The steps fit their counter.
 abbrev pub Diagonal-open : Type 0
 Diagonal-open =
     (n d : ℕ) (domains tables tables′ before after : List ℕ) (r : Opened) → AgreeApart n d tables tables′ → Opens n d domains tables before after r
@@ -237,12 +235,12 @@ Diagonal-open =
 abbrev pub Diagonal-run : Type 0
 Diagonal-run =
     (n d : ℕ) (domains tables tables′ before after requests : List ℕ) (s : State) (r : Ran) → AgreeApart n d tables tables′
-    → s .counts .steps .0 < 2 ^ 32 → Runs n d domains tables before after requests s r → Runs n d domains tables′ before after requests s r
+    → s .counts .steps .0 ≤ 4294967295 → Runs n d domains tables before after requests s r → Runs n d domains tables′ before after requests s r
 
 abbrev pub Diagonal-choose : Type 0
 Diagonal-choose =
     (n d : ℕ) (domains tables tables′ before after : List ℕ) (limit : ℕ) (s : State) (r : Ran) → AgreeApart n d tables tables′
-    → s .counts .steps .0 < 2 ^ 32 → Chooses n d domains tables before after limit s r → Chooses n d domains tables′ before after limit s r
+    → s .counts .steps .0 ≤ 4294967295 → Chooses n d domains tables before after limit s r → Chooses n d domains tables′ before after limit s r
 
 abbrev pub Diagonal-save : Type 0
 Diagonal-save =
@@ -251,8 +249,9 @@ Diagonal-save =
 
 -- ---- searches begun by opening, saved and loaded
 
--- What opening and any number of calls lead to, each handed what the one before it left, loads of the blocks that save wrote among them. tables₀ are
--- the tables that were opened; load writes zeros at a variable with itself, so that those in memory may differ from them there.
+-- What opening and any number of calls lead to, each handed what the one before it left, loads of the blocks that save wrote among them, and moved
+-- in memory to an agenda of another length that takes it, zeros after. tables₀ are the tables that were opened; load writes zeros at a variable with
+-- itself, so that those in memory may differ from them there.
 pub data Lived (n d : ℕ) (domains tables₀ : List ℕ) : List ℕ → List ℕ → State → Type 0 where
   opened : {before after : List ℕ} {r : Opened} → Opens n d domains tables₀ before after r → r .refusal ≡ 0
       → Lived n d domains tables₀ tables₀ after (r .state)
@@ -264,6 +263,8 @@ pub data Lived (n d : ℕ) (domains tables₀ : List ℕ) : List ℕ → List �
       → Lived n d domains tables₀ tables agenda s → Saves n d domains tables agenda s before after saved → saved .refusal ≡ 0
       → Loads (take (512 * saved .blocks) after) domains₁ domains′ tables₁ tables′ agenda₁ agenda′ r → r .refusal ≡ 0
       → Lived n d domains tables₀ tables′ agenda′ (r .state)
+  moved : {tables agenda : List ℕ} {s : State} → Lived n d domains tables₀ tables agenda s → (words : ℕ) → WholeSlots n words
+      → s .subproblems ≤ slotsIn n words → Lived n d domains tables₀ tables (agendaOf n words (stackOf n agenda (s .subproblems))) s
 
 -- It passes when handed on, and it is a reached search of the problem that was opened.
 abbrev pub Lived-reached : Type 0
@@ -301,22 +302,18 @@ Unsolvable-choose =
     (n d : ℕ) (domains tables₀ tables before after : List ℕ) (limit : ℕ) (s : State) (r : Ran) → Lived n d domains tables₀ tables before s
     → Chooses n d domains tables before after limit s r → numberOf (r .verdict) ≡ 3 → Has-solution (problemOf n d domains tables₀) → ⊥
 
--- One that says solved: the top slot shows a solution of the problem that was opened, one value for each variable.
-abbrev pub Shown : ℕ → ℕ → List ℕ → List ℕ → List ℕ → State → Type 0
-Shown n d domains tables₀ after s =
-    (P : Subproblem) × (S : List Subproblem) × (stackOf n after (s .subproblems) ≡ P ∷ S)
-    × ((i : ℕ) → i < n → domain P i ≡ single (lowest (domain P i)))
-    × Solution n (tableOf n d tables₀) (λ i. getD domains i 0) (λ i. lowest (domain P i))
-
+-- One that says solved: the top slot shows a solution of the problem that was opened.
 abbrev pub Solved-run : Type 0
 Solved-run =
     (n d : ℕ) (domains tables₀ tables before after requests : List ℕ) (s : State) (r : Ran) → Lived n d domains tables₀ tables before s
-    → Runs n d domains tables before after requests s r → numberOf (r .verdict) ≡ 2 → Shown n d domains tables₀ after (r .state)
+    → Runs n d domains tables before after requests s r → numberOf (r .verdict) ≡ 2
+    → Shown (problemOf n d domains tables₀) (stackOf n after (r .state .subproblems))
 
 abbrev pub Solved-choose : Type 0
 Solved-choose =
     (n d : ℕ) (domains tables₀ tables before after : List ℕ) (limit : ℕ) (s : State) (r : Ran) → Lived n d domains tables₀ tables before s
-    → Chooses n d domains tables before after limit s r → numberOf (r .verdict) ≡ 2 → Shown n d domains tables₀ after (r .state)
+    → Chooses n d domains tables before after limit s r → numberOf (r .verdict) ≡ 2
+    → Shown (problemOf n d domains tables₀) (stackOf n after (r .state .subproblems))
 
 -- And the problem that a file says has the solutions of the one saved.
 abbrev pub Same-solutions : Type 0
@@ -385,7 +382,7 @@ pub record Same-end {n d : ℕ} {domains tables : List ℕ} (w : Two-ways n d do
   pub taken : w .first .taken + w .second .taken ≡ w .whole .taken
 
 -- Any list of requests, cut anywhere, saved, loaded into an agenda of equal length, gone on with: the same verdict, agenda and counts as uncut. Of
--- every search begun by opening and saved and loaded any number of times since.
+-- every search begun by opening, saved, loaded and moved any number of times since.
 abbrev pub Cut-lived : Type 0
 Cut-lived =
     (n d : ℕ) (domains tables₀ tables agenda : List ℕ) (s : State) (requests more : List ℕ) → Lived n d domains tables₀ tables agenda s
@@ -395,8 +392,7 @@ Cut-lived =
 -- So of any search that passes the first checks, reached or not, in memory of words.
 abbrev pub Cut-any : Type 0
 Cut-any =
-    (n d : ℕ) (domains tables agenda : List ℕ) (s : State) (requests more : List ℕ) → Words agenda → s .counts .steps .0 < 2 ^ 32
-    → searchRefusal n d domains tables agenda (s .counts .steps .0) (s .counts .checks .0) (s .subproblems) ≡ 0
+    (n d : ℕ) (domains tables agenda : List ℕ) (s : State) (requests more : List ℕ) → Handed n d domains tables agenda s
     → WholeRequests n (length requests) → WholeRequests n (length more)
     → (t : Trip n d domains tables agenda s requests more) → Same-end (t .ways)
 
@@ -406,8 +402,7 @@ Cut-any =
 -- to have met none.
 abbrev pub Cut-choose : Type 0
 Cut-choose =
-    (n d : ℕ) (domains tables agenda : List ℕ) (s : State) (m k : ℕ) → Words agenda → s .counts .steps .0 < 2 ^ 32
-    → searchRefusal n d domains tables agenda (s .counts .steps .0) (s .counts .checks .0) (s .subproblems) ≡ 0
+    (n d : ℕ) (domains tables agenda : List ℕ) (s : State) (m k : ℕ) → Handed n d domains tables agenda s
     → (t : Chooser-trip n d domains tables agenda s m k) → (k ≡ 0 → t .ways .first .refusal ≡ 0) → Same-end (t .ways)
 
 -- The number of variables that a file says is one number, and that of values.

@@ -2,18 +2,17 @@
 use mathlib.Core.Path.{_≡_}
 use mathlib.Core.Logic.{_⊎_}
 use mathlib.Core.Bool.{Bool, not, cond, _&&_, _||_}
-use mathlib.Core.List.{List, List·Memᴰ, map}
+use mathlib.Core.List.{List, map}
 use Prim.Native.Nat.{ℕ, suc, _+_, _-_, _*_, _/_, _%_, _^_, _≤_, _<_}
 use lib.ListN.{length, getD}
 use lib.Dec.{eqb, leb, ltb}
 use Rattle.splits.specs.Masks.{bit}
 use Rattle.splits.specs.Problem.{Problem, Table, total}
-use Rattle.splits.specs.Subproblems.{Rules, every}
+use Rattle.splits.specs.Subproblems.{every}
 use Rattle.splits.specs.Splits.{below}
-use Rattle.splits.specs.declared.subproblem.Subproblem.{Subproblem}
 use Rattle.search.specs.Agenda.{stackOf}
 use Rattle.search.specs.Runs.{Search}
-use Rattle.search.specs.FirstChecks.{Over, allObey}
+use Rattle.search.specs.FirstChecks.{Deserves-1, Deserves-2, Deserves-4, Deserves-6, allObey}
 use Rattle.files.specs.Blocks.{wordAt, checkOf, blocksFor}
 use Rattle.files.specs.Content.{each}
 
@@ -89,12 +88,16 @@ abbrev pub saidProblem : List ℕ → Problem
 saidProblem file =
     record { n = saidN file; d = saidD file; domain = λ i. getD (saidDomains file) i 0; allowed = saidAllowed file }
 
--- Its agenda's words, bottom first, and its stack.
-abbrev pub agendaFrom : List ℕ → ℕ
-agendaFrom file = 9 + saidN file + triangleWords (saidN file) (saidD file)
+-- Where the agenda begins in a content of n variables and d values, and how many words a content has.
+abbrev pub agendaFrom : ℕ → ℕ → ℕ
+agendaFrom n d = 9 + n + triangleWords n d
 
+abbrev pub wordCount : ℕ → ℕ → ℕ → ℕ
+wordCount n d subproblems = agendaFrom n d + subproblems * (n + 2)
+
+-- A file's agenda's words, bottom first, and its stack.
 unfoldable pub saidAgenda : List ℕ → List ℕ
-saidAgenda file = contentFrom file (agendaFrom file) (saidSubproblems file * (saidN file + 2))
+saidAgenda file = contentFrom file (agendaFrom (saidN file) (saidD file)) (saidSubproblems file * (saidN file + 2))
 
 abbrev pub saidSearch : List ℕ → Search
 saidSearch file =
@@ -106,21 +109,19 @@ saidSearch file =
 
 -- How many words the content of a file is to have.
 abbrev pub saidWords : List ℕ → ℕ
-saidWords file = agendaFrom file + saidSubproblems file * (saidN file + 2)
+saidWords file = wordCount (saidN file) (saidD file) (saidSubproblems file)
 
 -- 15: the file's words break a rule above (its own count of subproblems being 0 to 512), or do not fill exactly that many blocks with zeros
--- after.
+-- after. The rules are 1, 2, 4 and 6; 5 no file can break, as it says each pair once.
 abbrev pub Deserves-15 : List ℕ → Type 0
 Deserves-15 file =
-    ((saidN file < 1) ⊎ (32 < saidN file))
-    ⊎ ((saidD file < 1) ⊎ (16 < saidD file))
+    Deserves-1 (saidN file)
+    ⊎ Deserves-2 (saidD file)
     ⊎ (512 < saidSubproblems file)
     ⊎ (blocksIn file ≡ blocksFor (saidWords file) → ⊥)
     ⊎ ((k : ℕ) × (saidWords file ≤ k) × (k < blocksIn file * 253) × (contentWord file k ≡ 0 → ⊥))
-    ⊎ ((i : ℕ) × (i < saidN file) × Over (saidD file) (saidProblem file .domain i))
-    ⊎ ((i : ℕ) × (j : ℕ) × (a : ℕ) × (i < j) × (j < saidN file) × (a < saidD file) × Over (saidD file) (saidAllowed file i j a))
-    ⊎ ((P : Subproblem) × List·Memᴰ P (saidSearch file .stack) × (Rules (saidProblem file) P → ⊥))
-    ⊎ (496 * saidSteps file < saidChecks file)
+    ⊎ Deserves-4 (saidProblem file)
+    ⊎ Deserves-6 (saidProblem file) (saidAgenda file) (saidSteps file) (saidChecks file) (saidSubproblems file)
 
 -- The words of the tables that a problem's masks fill, zeros for a variable with itself.
 unfoldable pub tableWords : ℕ → ℕ → Table → List ℕ

@@ -8,15 +8,15 @@ ghost use Prim.Native.Nat.{_+_, _-_, _*_, _≤_};
 ghost use lib.ListN.{length, replicate};
 ghost use Rattle.splits.specs.Problem.{tableOf};
 ghost use Rattle.files.specs.Content.{triangle};
-ghost use Rattle.files.specs.Reading.{triangleWords};
+ghost use Rattle.files.specs.Reading.{triangleWords, agendaFrom, wordCount};
 ghost use Rattle.files.specs.Calls.{handedContent};
-ghost use Rattle.files.specs.Work.Said.{Numbers, agendaStart, wordCount};
+ghost use Rattle.files.specs.Work.Said.{Numbers};
 ghost use Rattle.files.specs.Work.Saved.{Savable, header};
 
 // How many words of a content come before its agenda.
 pub(crate) fn agenda_from(n: usize, d: usize) -> usize
     requires { ⌜ Numbers n d ⌝ }
-    ensures { λ r. ⌜ (r ≡ agendaStart n d) × (r ≤ 7977) ⌝ }
+    ensures { λ r. ⌜ (r ≡ agendaFrom n d) × (r ≤ 7977) ⌝ }
 {
     9 + n + said::triangle_words(n, d)
 }

@@ -90,7 +90,7 @@ refutes-requests n words = refutes-not (eqb (words % (n + 3)) 0) (WholeRequests 
 -- ---- 4
 
 -- a mask of 2 ^ d or more has a bit at d or above
-over-of : (d m : ℕ) → 2 ^ d ≤ m → Over d m
+pub over-of : (d m : ℕ) → 2 ^ d ≤ m → Over d m
 over-of zero m h = let r = some-member m (λ e. absurd (omega arith)) in (r .0, omega arith, r .1)
 over-of (suc d) m h =
     let r : Over d (m / 2) = over-of d (m / 2) (omega arith) in

@@ -6,7 +6,7 @@ use mathlib.Core.List.{List, List·Memᴰ, [], _∷_, _++_, map}
 use Prim.Native.Nat.{ℕ, zero, suc, _+_, _-_, _*_, _≤_, _<_}
 use lib.ListN.{length, getD, take, drop}
 use Rattle.splits.specs.Masks.{_∈_, single, size, lowest}
-use Rattle.splits.specs.Problem.{Problem, Proper, Solution, possibilities, tableOf}
+use Rattle.splits.specs.Problem.{Problem, Proper, Solution, possibilities}
 use Rattle.splits.specs.Subproblems.{domain, Instantiated, Rules, sizeOf}
 use Rattle.splits.specs.Requests.{kindOf, variableOf, valueOf}
 use Rattle.splits.specs.Splits.{precluded, pieces}
@@ -51,13 +51,17 @@ abbrev pub Running-if : Type 0
 Running-if =
     (n : ℕ) (S : List Subproblem) → (numberOf (verdictOf n S) ≡ 1) ↔ ((numberOf (verdictOf n S) ≡ 3 → ⊥) × (numberOf (verdictOf n S) ≡ 2 → ⊥))
 
--- A solved search shows a solution of the problem: its top has one value for each variable, and these are one.
-abbrev pub Solved-shows : Type 0
-Solved-shows =
-    (p : Problem) (room : ℕ) (s : Search) → Passes p room s → numberOf (verdictOf (p .n) (s .stack)) ≡ 2
-    → (P : Subproblem) × (S : List Subproblem) × (s .stack ≡ P ∷ S)
+-- The top of a stack shows a solution of the problem: it has one value for each variable, and these are one.
+abbrev pub Shown : Problem → List Subproblem → Type 0
+Shown p stack =
+    (P : Subproblem) × (S : List Subproblem) × (stack ≡ P ∷ S)
     × ((i : ℕ) → i < p .n → domain P i ≡ single (lowest (domain P i)))
     × Solution (p .n) (p .allowed) (p .domain) (λ i. lowest (domain P i))
+
+-- A solved search shows one.
+abbrev pub Solved-shows : Type 0
+Solved-shows =
+    (p : Problem) (room : ℕ) (s : Search) → Passes p room s → numberOf (verdictOf (p .n) (s .stack)) ≡ 2 → Shown p (s .stack)
 
 -- ---- refusals of a request, in the order 11, 7, 8, 9, 10, 12
 
@@ -319,14 +323,11 @@ Handed-passes =
     (n d : ℕ) (domains tables agenda : List ℕ) (s : State) → Handed n d domains tables agenda s
     → Passes (problemOf n d domains tables) (slotsIn n (length agenda)) (searchOf n agenda s)
 
--- What the verdict of a call says of the agenda it leaves: solved, that the top slot shows a solution of the problem, one value for each variable;
--- unsolvable, exactly that no subproblem is left.
+-- What the verdict of a call says of the agenda it leaves: solved, that the top slot shows a solution of the problem; unsolvable, exactly that no
+-- subproblem is left.
 pub record Verdict-says (n d : ℕ) (domains tables after : List ℕ) (r : Ran) : Type 0 where
   pub verdict : r .verdict ≡ verdictOf n (stackOf n after (r .state .subproblems))
-  pub solved : numberOf (r .verdict) ≡ 2
-      → (P : Subproblem) × (S : List Subproblem) × (stackOf n after (r .state .subproblems) ≡ P ∷ S)
-      × ((i : ℕ) → i < n → domain P i ≡ single (lowest (domain P i)))
-      × Solution n (tableOf n d tables) (λ i. getD domains i 0) (λ i. lowest (domain P i))
+  pub solved : numberOf (r .verdict) ≡ 2 → Shown (problemOf n d domains tables) (stackOf n after (r .state .subproblems))
   pub unsolvable : (numberOf (r .verdict) ≡ 3) ↔ (r .state .subproblems ≡ 0)
 
 -- Of a run of whole requests, and of the chooser, on any search that passes the first checks.

@@ -3,7 +3,7 @@
 use native.Mathlib.Omega.{arith}
 use mathlib.Core.Path.{sym, _∙_}
 use Rattle.answer.proofs.Writing.{adds-none}
-use Rattle.answer.proofs.Short.{plan-room}
+use Rattle.answer.proofs.Short.{plan-room, lowest-small}
 use Rattle.answer.proofs.Lines.{solved-lines, other-lines}
 use Rattle.answer.proofs.Made.{text-made, from-refused, from-lines}
 use borrow.Author.Needs.{needs}
@@ -56,7 +56,7 @@ returns-2 c =
     let shows = c .before .before .before .before .before .before .before .before .before .pre in
     from-lines _ _ _ _ _ (c .before .before .before .if1 .left) (solved-lines _ _ _ _ (shows .verdict) (sym (c .before .if2 .taken) ∙ c .before .before .is-solved .ensures) .1)
     (text-made _ _ _ _ _ _ _ _ (c .before .before .before .before .before .before .before .start .ensures) (c .before .before .before .before .before .before .with-verdict .ensures) (c .before .before .before .before .before .with-counts .ensures) (c .with-top .ensures)
-    (plan-room _ _ (shows .few)))
+    (plan-room _ _ (λ i. lowest-small _) (shows .few)))
 
 -- src/lib.rt:64:1
 returns-3 : tie.Need-returns-3

@@ -1,15 +1,13 @@
 -- Text written from the front of a buffer of 512 bytes.
 use mathlib.Core.Path.{_≡_}
-use mathlib.Core.Bool.{cond}
 use mathlib.Core.List.{List, [], _++_}
 use Prim.Native.Nat.{ℕ, zero, suc, _+_, _-_, _*_, _≤_}
 use lib.ListN.{length, replicate, getD}
-use lib.Dec.{eqb}
 use Rattle.splits.specs.Masks.{lowest}
 use Rattle.search.specs.Agenda.{stackOf}
-use Rattle.search.specs.Verdicts.{ascii, verdictOf}
+use Rattle.search.specs.Verdicts.{verdictOf}
 use Rattle.search.specs.declared.state.Ran.{Ran}
-use Rattle.answer.specs.Text.{decimal, verdictLine, countsLine, planLines, refusedLine}
+use Rattle.answer.specs.Text.{planLine}
 use Rattle.answer.specs.declared.text.Text.{Text}
 
 -- The buffer holds this text and zeros after it.
@@ -21,20 +19,10 @@ pub record Holds (t : Text) (text : List ℕ) : Type 0 where
 abbrev pub Adds : Text → List ℕ → Text → Type 0
 Adds before part after = (text : List ℕ) → Holds before text → length text + length part ≤ 512 → Holds after (text ++ part)
 
--- The line of a variable whose domain is this mask.
-unfoldable pub valueLine : ℕ → ℕ → List ℕ
-valueLine i mask = decimal i ++ ascii " " ++ decimal (lowest mask) ++ ascii "\n"
-
--- The lines of the first so many of the masks.
+-- The lines of the lowest values of the first so many of the masks.
 unfoldable pub valueLines : ℕ → List ℕ → List ℕ
 valueLines zero masks = []
-valueLines (suc i) masks = valueLines i masks ++ valueLine i (getD masks i 0)
-
--- The text of what a run returns and leaves in the agenda's words.
-unfoldable pub textFrom : ℕ → List ℕ → Ran → List ℕ
-textFrom n agenda ran =
-    verdictLine (ran .verdict) ++ countsLine (ran .state .counts .steps .0) (ran .state .counts .checks .0)
-    ++ cond (eqb (ran .refusal) 0) (planLines n (stackOf n agenda (ran .state .subproblems))) (refusedLine (ran .refusal))
+valueLines (suc i) masks = valueLines i masks ++ planLine i (lowest (getD masks i 0))
 
 -- What is returned shows what is left.
 pub record Shows (n : ℕ) (agenda : List ℕ) (ran : Ran) : Type 0 where

@@ -4,7 +4,7 @@ use borrow.Author.Needs.{needs}
 use mathlib.Core.Path.{refl, sym, _∙_}
 use native.Mathlib.Omega.{arith}
 use Prim.Native.Nat.{_-_}
-use Rattle.files.specs.Work.Said.{wordCount}
+use Rattle.files.specs.Reading.{wordCount}
 use Rattle.files.proofs.SaveOutcomes.{first-passed, save-refused, save-short, save-written}
 use Rattle.files.proofs.save.Statement.{statement}
 use Rattle.files.proofs.save.Tie as tie

@@ -23,7 +23,8 @@ use Rattle.files.specs.Reading.{
   saidChecks,
   saidSubproblems,
   saidAllowed,
-  triangleWords,
+  agendaFrom,
+  saidWords,
   trianglePlace,
   gathered,
   tableWords,
@@ -68,15 +69,8 @@ zeroIn file from k = eqb (contentWord file (from + k)) 0
 unfoldable pub filled : List ℕ → ℕ → Bool
 filled file words = eqb (blocksIn file) (blocksFor words) && every (blocksIn file * 253 - words) (zeroIn file words)
 
--- Where the agenda begins in a content of n variables and d values, and how many words a content has.
-unfoldable pub agendaStart : ℕ → ℕ → ℕ
-agendaStart n d = 9 + n + triangleWords n d
-
-unfoldable pub wordCount : ℕ → ℕ → ℕ → ℕ
-wordCount n d subproblems = agendaStart n d + subproblems * (n + 2)
-
 unfoldable pub sizedIn : List ℕ → Bool
-sizedIn file = numbersSaid file && filled file (wordCount (saidN file) (saidD file) (saidSubproblems file))
+sizedIn file = numbersSaid file && filled file (saidWords file)
 
 -- The masks in the words of a content: for i below j they stand there; the other way round they are put together of these digits; zeros of i with
 -- itself.
@@ -113,7 +107,7 @@ partIn words from w = take ((from + w) - from) (drop from words)
 
 unfoldable pub slotsPart : List ℕ → ℕ → ℕ → ℕ → ℕ → List ℕ
 slotsPart words n d subproblems all =
-    partIn words (agendaStart n d) (subproblems * (n + 2)) ++ replicate (all - subproblems * (n + 2)) 0
+    partIn words (agendaFrom n d) (subproblems * (n + 2)) ++ replicate (all - subproblems * (n + 2)) 0
 
 -- Memory that takes a search of n, d and so many subproblems.
 pub record Lent (words all : List ℕ) (n d subproblems : ℕ) (domains tables agenda : List ℕ) : Type 0 where

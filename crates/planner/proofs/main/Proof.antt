@@ -1,6 +1,6 @@
 -- `planner::main` meets its contract: the text that it prints lies within its buffer.
 -- Assumes nothing.
-use Rattle.answer.proofs.Promises.{within}
+use Rattle.answer.proofs.Answering.{answer-within}
 use borrow.Author.Needs.{needs}
 use Rattle.planner.proofs.main.Statement.{statement}
 use Rattle.planner.proofs.main.Tie as tie
@@ -32,7 +32,7 @@ answer-to-requires c κs = search needs
 
 -- src/main.rt:7:5
 print-requires : tie.Need-print-requires
-print-requires c κs = within _ _ (c .answer-to .ensures)
+print-requires c κs = answer-within _ _ (c .answer-to .ensures)
 
 -- src/main.rt:4:1
 returns : tie.Need-returns

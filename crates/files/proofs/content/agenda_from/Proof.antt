@@ -4,7 +4,6 @@ use borrow.Author.Needs.{needs}
 use mathlib.Core.Path.{ap}
 use Prim.Native.Nat.{ℕ, _+_}
 use native.Mathlib.Omega.{arith}
-use Rattle.files.specs.Work.Said.{agendaStart}
 use Rattle.files.proofs.content.agenda_from.Statement.{statement}
 use Rattle.files.proofs.content.agenda_from.Tie as tie
 
@@ -18,7 +17,6 @@ add-result-2 : tie.Need-add-result-2
 add-result-2 c = search needs
 
 returns : tie.Need-returns
-unfolding agendaStart
 returns c = (ap (λ (x : ℕ). 9 + c .before .args .n + x) (c .triangle-words .ensures .0), omega arith)
 
 pub agenda-from-spec : {M : Type 1} → statement M

@@ -4,7 +4,6 @@ use borrow.Author.Needs.{needs}
 use mathlib.Core.Path.{ap}
 use Prim.Native.Nat.{ℕ, _+_, _*_}
 use native.Mathlib.Omega.{arith}
-use Rattle.files.specs.Work.Said.{wordCount}
 use Rattle.files.proofs.Mirrors.{slots-few}
 use Rattle.files.proofs.content.words.Statement.{statement}
 use Rattle.files.proofs.content.words.Tie as tie
@@ -22,7 +21,6 @@ add-result-2 : tie.Need-add-result-2
 add-result-2 c = omega (arith, slots-few (c .before .args .n) (c .before .args .subproblems) 512 (omega arith) (omega arith) (omega arith))
 
 returns : tie.Need-returns
-unfolding wordCount
 returns c =
     (ap (λ (x : ℕ). x + c .before .args .subproblems * (c .before .args .n + 2)) (c .agenda-from .ensures .0), omega (arith, slots-few (c .before .args .n) (c .before .args .subproblems) 512 (omega arith) (omega arith) (omega arith)))
 

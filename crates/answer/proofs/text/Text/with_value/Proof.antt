@@ -2,8 +2,7 @@
 -- Assumes nothing.
 use mathlib.Core.Path.{ap}
 use Rattle.search.specs.Verdicts.{ascii}
-use Rattle.answer.specs.Text.{decimal}
-use Rattle.answer.specs.Work.Writing.{valueLine}
+use Rattle.answer.specs.Text.{decimal, planLine}
 use Rattle.answer.proofs.Writing.{adds-both, adds-same}
 use borrow.Author.Needs.{needs}
 use Rattle.answer.proofs.text.Text.with_value.Statement.{statement}
@@ -36,7 +35,7 @@ with-byte-requires-2 c κs = search needs
 
 -- src/text.rt:96:5
 returns : tie.Need-returns
-unfolding valueLine ascii
+unfolding planLine ascii
 returns c =
     let value = adds-same _ _ _ _ (ap decimal (c .before .before .lowest .ensures)) (c .before .with-number2 .ensures) in
     let both = adds-both _ _ _ _ _ (adds-both _ _ _ _ _ (c .before .before .before .before .with-number .ensures) (c .before .before .before .with-byte .ensures)) value in
