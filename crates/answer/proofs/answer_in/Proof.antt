@@ -15,59 +15,46 @@ use Rattle.answer.proofs.text_of.Reads as text-of-reads
 use Rattle.files.proofs.load.Reads as load-reads
 use Rattle.search.proofs.choose.Reads as choose-reads
 
--- src/lib.rt:52:9
 load-requires : tie.Need-load-requires
 load-requires c κs = search needs
 
--- src/lib.rt:54:16
 start-requires : tie.Need-start-requires
 start-requires c κs = search needs
 
--- src/lib.rt:54:9
 with-refusal-requires : tie.Need-with-refusal-requires
 with-refusal-requires c κs = search needs
 
--- src/lib.rt:54:9
 same-length : tie.Need-same-length
 same-length c = search needs
 
--- src/lib.rt:54:9
 same-length-2 : tie.Need-same-length-2
 same-length-2 c = search needs
 
--- src/lib.rt:54:9
 same-length-3 : tie.Need-same-length-3
 same-length-3 c = search needs
 
--- src/lib.rt:54:9
 returns : tie.Need-returns
 returns c =
     held-answers _ _ _
     (answer-refused _ _ (c .before .before .before .before .before .before .before .before .before .before .load .ensures .refusal ∙ same-refusal _ _ _ _ (c .before .before .before .before .before .before .before .before .before .before .before .before .before .before .before .before .before .before .pre)) (c .before .before .if1 .taken))
     (line-made _ _ _ (c .before .start .ensures) (c .with-refusal .ensures .0) (omega (arith, c .with-refusal .ensures .1)))
 
--- src/lib.rt:57:9
 choose-requires : tie.Need-choose-requires
 choose-requires c κs = search needs
 
--- src/lib.rt:58:5
 text-of-requires : tie.Need-text-of-requires
 text-of-requires c κs =
     chosen-shows _ _ _ _ _ _ _ _ _ _ (λ i. omega (arith, c .before .before .before .before .before .before .before .before .before .before .before .before .before .before .before .before .before .before .before .before .before .before .shared-slice-known .given i)) (c .before .before .before .before .before .before .before .before .before .before .before .before .before .before .before .before .before .before .before .before .before .before .before .pre) (c .before .before .before .before .before .before .before .before .before .before .before .before .before .before .before .load .ensures) (c .before .before .before .before .before .before .before .if1 .left) (c .before .before .before .choose .ensures)
 
--- src/lib.rt:48:1
 same-length-4 : tie.Need-same-length-4
 same-length-4 c = search needs
 
--- src/lib.rt:48:1
 same-length-5 : tie.Need-same-length-5
 same-length-5 c = search needs
 
--- src/lib.rt:48:1
 same-length-6 : tie.Need-same-length-6
 same-length-6 c = search needs
 
--- src/lib.rt:48:1
 returns-2 : tie.Need-returns-2
 returns-2 c =
     held-answers _ _ _

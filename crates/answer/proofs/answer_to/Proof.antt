@@ -16,75 +16,57 @@ use Rattle.answer.proofs.room_for_tables.Reads as room-for-tables-reads
 use Rattle.files.proofs.said.d.Reads as d-reads
 use Rattle.files.proofs.said.n.Reads as n-reads
 
--- src/lib.rt:53:21
 n-requires : tie.Need-n-requires
 n-requires c κs = search needs
 
--- src/lib.rt:53:9
 at-most-requires : tie.Need-at-most-requires
 at-most-requires c κs = search needs
 
--- src/lib.rt:54:21
 d-requires : tie.Need-d-requires
 d-requires c κs = search needs
 
--- src/lib.rt:54:9
 at-most-requires-2 : tie.Need-at-most-requires-2
 at-most-requires-2 c κs = search needs
 
--- src/lib.rt:55:17
 mul-masks : tie.Need-mul-masks
 mul-masks c = let few = pairs-few _ (c .before .before .at-most .ensures .1) in search (needs, few)
 
--- src/lib.rt:55:17
 mul-masks-2 : tie.Need-mul-masks-2
 mul-masks-2 c = let few = masks-few _ _ (c .before .before .at-most .ensures .1) (c .at-most2 .ensures .1) in search (needs, few)
 
--- src/lib.rt:56:24
 add-room : tie.Need-add-room
 add-room c = search needs
 
--- src/lib.rt:56:17
 mul-room : tie.Need-mul-room
 mul-room c = search needs
 
--- src/lib.rt:57:23
 room-for-domains-requires : tie.Need-room-for-domains-requires
 room-for-domains-requires c κs = search needs
 
--- src/lib.rt:58:22
 room-for-tables-requires : tie.Need-room-for-tables-requires
 room-for-tables-requires c κs = search needs
 
--- src/lib.rt:59:22
 room-for-agenda-requires : tie.Need-room-for-agenda-requires
 room-for-agenda-requires c κs = search needs
 
--- src/lib.rt:62:9
 array-borrow-prefix-domains : tie.Need-array-borrow-prefix-domains
 array-borrow-prefix-domains c = search needs
 
--- src/lib.rt:62:9
 slice-aggregate-answer-in : tie.Need-slice-aggregate-answer-in
 slice-aggregate-answer-in c = part-length _ 32 _ (c .before .before .before .room-for-domains .ensures) (c .before .before .before .before .before .before .at-most .ensures .1)
 
--- src/lib.rt:63:9
 array-borrow-prefix-tables : tie.Need-array-borrow-prefix-tables
 array-borrow-prefix-tables c = let few = masks-few _ _ (c .before .before .before .before .before .before .at-most .ensures .1) (c .before .before .before .before .at-most2 .ensures .1) in search (needs, few)
 
--- src/lib.rt:63:9
 slice-aggregate-answer-in-2 : tie.Need-slice-aggregate-answer-in-2
 slice-aggregate-answer-in-2 c = part-length _ 16384 _ (c .before .before .before .room-for-tables .ensures) (masks-few _ _ (c .before .before .before .before .before .before .before .at-most .ensures .1) (c .before .before .before .before .before .at-most2 .ensures .1))
 
--- src/lib.rt:64:9
 array-borrow-prefix-agenda : tie.Need-array-borrow-prefix-agenda
 array-borrow-prefix-agenda c = search needs
 
--- src/lib.rt:64:9
 slice-aggregate-answer-in-3 : tie.Need-slice-aggregate-answer-in-3
 slice-aggregate-answer-in-3 c = let few = c .before .before .before .before .before .before .before .before .at-most .ensures .1 in part-length _ 17408 _ (c .before .before .before .room-for-agenda .ensures) (omega (arith, few))
 
--- src/lib.rt:60:5
 answer-in-requires : tie.Need-answer-in-requires
 answer-in-requires c κs =
     let n-is = c .before .before .before .before .before .before .before .before .before .n .ensures in
@@ -94,7 +76,6 @@ answer-in-requires c κs =
     (c .before .before .before .before .before .before .before .before .at-most .ensures .1) (c .before .before .before .before .before .before .at-most2 .ensures .1)
     (c .before .before .before .before .before .room-for-domains .ensures) (c .before .before .before .before .room-for-tables .ensures) (c .before .before .before .room-for-agenda .ensures)
 
--- src/lib.rt:50:1
 returns : tie.Need-returns
 returns c = c .before .before .before .answer-in .ensures
 

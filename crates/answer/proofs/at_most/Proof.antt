@@ -7,11 +7,9 @@ use Rattle.answer.proofs.at_most.Tie as tie
 use Rattle.answer.proofs.at_most.Reads as reads
 use Rattle.answer.proofs.at_most.Lts as lts
 
--- src/lib.rt:19:9
 returns : tie.Need-returns
 returns c = (λ h. refl, c .if1 .taken)
 
--- src/lib.rt:15:1
 returns-2 : tie.Need-returns-2
 returns-2 c = (λ h. omega arith, omega arith)
 

@@ -21,35 +21,27 @@ by-tag Running k e = ap (λ j. eqb j 2) (sym e)
 by-tag Solved k e = ap (λ j. eqb j 2) (sym e)
 by-tag Unsolvable k e = ap (λ j. eqb j 2) (sym e)
 
--- src/lib.rt:88:26
 enum-told : tie.Need-enum-told
 enum-told c = search needs
 
--- src/lib.rt:89:29
 enum-told-2 : tie.Need-enum-told-2
 enum-told-2 c = search needs
 
--- src/lib.rt:90:28
 enum-told-3 : tie.Need-enum-told-3
 enum-told-3 c = search needs
 
--- src/lib.rt:91:32
 enum-told-4 : tie.Need-enum-told-4
 enum-told-4 c = search needs
 
--- src/lib.rt:84:1
 returns : tie.Need-returns
 returns c = by-tag (c .before .before .args .verdict) 0 (c .before .match .keys1)
 
--- src/lib.rt:84:1
 returns-2 : tie.Need-returns-2
 returns-2 c = by-tag (c .before .before .args .verdict) 1 (c .before .match .keys2)
 
--- src/lib.rt:84:1
 returns-3 : tie.Need-returns-3
 returns-3 c = by-tag (c .before .before .args .verdict) 2 (c .before .match .keys3)
 
--- src/lib.rt:84:1
 returns-4 : tie.Need-returns-4
 returns-4 c = by-tag (c .before .before .args .verdict) 3 (c .before .match .keys4)
 

@@ -18,39 +18,31 @@ use Rattle.answer.proofs.text.Text.with_verdict.Reads as with-verdict-r
 use Rattle.answer.proofs.text.start.Reads as start-reads
 use Rattle.answer.proofs.with_top.Reads as with-top-reads
 
--- src/lib.rt:71:16
 start-requires : tie.Need-start-requires
 start-requires c κs = search needs
 
--- src/lib.rt:71:16
 with-verdict-requires : tie.Need-with-verdict-requires
 with-verdict-requires c κs = search needs
 
--- src/lib.rt:71:9
 with-counts-requires : tie.Need-with-counts-requires
 with-counts-requires c κs = search needs
 
--- src/lib.rt:75:9
 with-refusal-requires : tie.Need-with-refusal-requires
 with-refusal-requires c κs = search needs
 
--- src/lib.rt:75:9
 returns : tie.Need-returns
 returns c =
     from-refused _ _ _ _ (c .before .if1 .taken)
     (text-made _ _ _ _ _ _ _ _ (c .before .before .before .before .before .start .ensures) (c .before .before .before .before .with-verdict .ensures) (c .before .before .before .with-counts .ensures) (c .with-refusal .ensures .0) (omega (arith, c .with-refusal .ensures .1)))
 
--- src/lib.rt:77:8
 is-solved-requires : tie.Need-is-solved-requires
 is-solved-requires c κs = search needs
 
--- src/lib.rt:78:9
 with-top-requires : tie.Need-with-top-requires
 with-top-requires c κs =
     let shows = c .before .before .before .before .before .before .before .before .pre in
     (shows .few, (solved-lines _ _ _ _ (shows .verdict) (sym (c .if2 .taken) ∙ c .before .is-solved .ensures) .0, shows .within))
 
--- src/lib.rt:78:9
 returns-2 : tie.Need-returns-2
 returns-2 c =
     let shows = c .before .before .before .before .before .before .before .before .before .pre in
@@ -58,7 +50,6 @@ returns-2 c =
     (text-made _ _ _ _ _ _ _ _ (c .before .before .before .before .before .before .before .start .ensures) (c .before .before .before .before .before .before .with-verdict .ensures) (c .before .before .before .before .before .with-counts .ensures) (c .with-top .ensures)
     (plan-room _ _ (λ i. lowest-small _) (shows .few)))
 
--- src/lib.rt:64:1
 returns-3 : tie.Need-returns-3
 returns-3 c =
     let shows = c .before .before .before .before .before .before .before .before .pre in

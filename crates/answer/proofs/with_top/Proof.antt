@@ -10,43 +10,33 @@ use Rattle.answer.proofs.with_top.Reads as reads
 use Rattle.answer.proofs.with_top.Lts as lts
 use Rattle.answer.proofs.text.Text.with_plan.Reads as with-plan-reads
 
--- src/lib.rt:88:15
 sub-at : tie.Need-sub-at
 sub-at c = search needs
 
--- src/lib.rt:88:35
 add-at : tie.Need-add-at
 add-at c = search needs
 
--- src/lib.rt:88:14
 mul-at : tie.Need-mul-at
 mul-at c = let within = top-within _ _ _ (c .before .pre .1 .0) (c .before .pre .1 .1) in search (needs, within)
 
--- src/lib.rt:89:15
 add-end : tie.Need-add-end
 add-end c = let within = top-within _ _ _ (c .before .pre .1 .0) (c .before .pre .1 .1) in search (needs, within)
 
--- src/lib.rt:90:20
 mul-with-plan : tie.Need-mul-with-plan
 mul-with-plan c = let within = top-within _ _ _ (c .before .pre .1 .0) (c .before .pre .1 .1) in search (needs, within)
 
--- src/lib.rt:90:20
 sub-with-plan : tie.Need-sub-with-plan
 sub-with-plan c = let within = top-within _ _ _ (c .before .pre .1 .0) (c .before .pre .1 .1) in search (needs, within)
 
--- src/lib.rt:90:20
 part-with-plan-start : tie.Need-part-with-plan-start
 part-with-plan-start c = let within = top-within _ _ _ (c .before .pre .1 .0) (c .before .pre .1 .1) in search (needs, within)
 
--- src/lib.rt:90:20
 part-with-plan-end : tie.Need-part-with-plan-end
 part-with-plan-end c = let within = top-within _ _ _ (c .before .pre .1 .0) (c .before .pre .1 .1) in search (needs, within)
 
--- src/lib.rt:90:5
 with-plan-requires : tie.Need-with-plan-requires
 with-plan-requires c κs = search needs
 
--- src/lib.rt:84:1
 returns : tie.Need-returns
 returns c =
     let within = top-within _ _ _ (c .before .before .before .pre .1 .0) (c .before .before .before .pre .1 .1) in

@@ -10,31 +10,24 @@ use Rattle.answer.proofs.answer_to.Reads as answer-to-reads
 use Rattle.io.proofs.read_full.Reads as read-full-reads
 use Rattle.planner.proofs.print.Reads as print-reads
 
--- src/main.rt:6:35
 slice-aggregate-read-full : tie.Need-slice-aggregate-read-full
 slice-aggregate-read-full c = search needs
 
--- src/main.rt:6:9
 read-full-requires : tie.Need-read-full-requires
 read-full-requires c κs = search needs
 
--- src/main.rt:7:29
 array-share-prefix-file : tie.Need-array-share-prefix-file
 array-share-prefix-file c = search needs
 
--- src/main.rt:7:29
 slice-aggregate-answer-to : tie.Need-slice-aggregate-answer-to
 slice-aggregate-answer-to c = search needs
 
--- src/main.rt:7:11
 answer-to-requires : tie.Need-answer-to-requires
 answer-to-requires c κs = search needs
 
--- src/main.rt:7:5
 print-requires : tie.Need-print-requires
 print-requires c κs = answer-within _ _ (c .answer-to .ensures)
 
--- src/main.rt:4:1
 returns : tie.Need-returns
 returns c = search needs
 

@@ -9,19 +9,15 @@ use Rattle.planner.proofs.print.Reads as reads
 use Rattle.planner.proofs.print.Lts as lts
 use Rattle.io.proofs.write_all.Reads as write-all-reads
 
--- src/main.rt:16:22
 array-share-prefix-bytes : tie.Need-array-share-prefix-bytes
 array-share-prefix-bytes c = c .before .pre
 
--- src/main.rt:16:22
 slice-aggregate-write-all : tie.Need-slice-aggregate-write-all
 slice-aggregate-write-all c = sym (length-take-le _ _ (c .before .before .pre))
 
--- src/main.rt:16:5
 write-all-requires : tie.Need-write-all-requires
 write-all-requires c κs = search needs
 
--- src/main.rt:11:1
 returns : tie.Need-returns
 returns c = search needs
 

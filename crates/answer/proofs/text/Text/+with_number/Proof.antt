@@ -24,7 +24,6 @@ abbrev with-number-below : ℕ → In 0 with-number-kinds.ps
 with-number-below t =
     and 0 with-number-kinds.ps (falls 0 with-number-kinds.ps _<_ μ-with-number t) with-number.Pre
 
--- src/text.rt:66:35
 with-number-digit-requires : (t : ℕ) → with-number-lts.Need-digit-requires (
   digit-reads.Asked,
   digit-reads.Learnt,
@@ -35,7 +34,6 @@ with-number-digit-requires : (t : ℕ) → with-number-lts.Need-digit-requires (
 ) (with-number-at t) with-number.Post
 with-number-digit-requires t c κs = c .if1 .taken
 
--- src/text.rt:66:13
 with-number-with-byte-requires : (t : ℕ) → with-number-lts.Need-with-byte-requires (
   digit-reads.Asked,
   digit-reads.Learnt,
@@ -46,7 +44,6 @@ with-number-with-byte-requires : (t : ℕ) → with-number-lts.Need-with-byte-re
 ) (with-number-at t) with-number.Post
 with-number-with-byte-requires t c κs = tt
 
--- src/text.rt:66:13
 with-number-returns : (t : ℕ) → with-number-lts.Need-returns (
   digit-reads.Asked,
   digit-reads.Learnt,
@@ -57,7 +54,6 @@ with-number-returns : (t : ℕ) → with-number-lts.Need-returns (
 ) (with-number-at t) with-number.Post
 with-number-returns t c = adds-digit _ _ _ _ (c .before .before .if1 .taken) (c .before .digit .ensures) (c .with-byte .ensures)
 
--- src/text.rt:68:13
 with-number-with-number-requires : (t : ℕ) → with-number-lts.Need-with-number-requires (
   digit-reads.Asked,
   digit-reads.Learnt,
@@ -68,7 +64,6 @@ with-number-with-number-requires : (t : ℕ) → with-number-lts.Need-with-numbe
 ) (with-number-at t) with-number.Post
 with-number-with-number-requires t c κs = let e = c .before .pre .0 in let h = c .if1 .left in (omega (arith, e, h), tt)
 
--- src/text.rt:69:26
 with-number-digit-requires-2 : (t : ℕ) → with-number-lts.Need-digit-requires-2 (
   digit-reads.Asked,
   digit-reads.Learnt,
@@ -79,7 +74,6 @@ with-number-digit-requires-2 : (t : ℕ) → with-number-lts.Need-digit-requires
 ) (with-number-at t) with-number.Post
 with-number-digit-requires-2 t c κs = omega arith
 
--- src/text.rt:69:9
 with-number-with-byte-requires-2 : (t : ℕ) → with-number-lts.Need-with-byte-requires-2 (
   digit-reads.Asked,
   digit-reads.Learnt,
@@ -90,7 +84,6 @@ with-number-with-byte-requires-2 : (t : ℕ) → with-number-lts.Need-with-byte-
 ) (with-number-at t) with-number.Post
 with-number-with-byte-requires-2 t c κs = tt
 
--- src/text.rt:62:5
 with-number-returns-2 : (t : ℕ) → with-number-lts.Need-returns-2 (
   digit-reads.Asked,
   digit-reads.Learnt,

@@ -8,19 +8,15 @@ use Rattle.answer.proofs.text.Text.with_byte.Tie as tie
 use Rattle.answer.proofs.text.Text.with_byte.Reads as reads
 use Rattle.answer.proofs.text.Text.with_byte.Lts as lts
 
--- src/text.rt:34:13
 element-write-self : tie.Need-element-write-self
 element-write-self c = search needs
 
--- src/text.rt:35:27
 add-self : tie.Need-add-self
 add-self c = search needs
 
--- src/text.rt:29:5
 returns : tie.Need-returns
 returns c = adds-byte _ _ _ (c .if1 .taken) refl refl
 
--- src/text.rt:29:5
 returns-2 : tie.Need-returns-2
 returns-2 c = adds-full _ _ _ (c .if1 .left)
 

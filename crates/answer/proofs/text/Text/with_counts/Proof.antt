@@ -14,35 +14,27 @@ use Rattle.answer.proofs.text.Text.with_byte.Reads as with-byte-reads
 use Rattle.answer.proofs.text.Text.with_number.Reads as with-number-reads
 use Rattle.answer.proofs.text.Text.with_word.Reads as with-word-reads
 
--- src/text.rt:80:35
 slice-aggregate-with-word : tie.Need-slice-aggregate-with-word
 slice-aggregate-with-word c = search needs
 
--- src/text.rt:80:20
 with-word-requires : tie.Need-with-word-requires
 with-word-requires c κs = search needs
 
--- src/text.rt:80:13
 with-number-requires : tie.Need-with-number-requires
 with-number-requires c κs = search needs
 
--- src/text.rt:81:24
 slice-aggregate-with-word-2 : tie.Need-slice-aggregate-with-word-2
 slice-aggregate-with-word-2 c = search needs
 
--- src/text.rt:81:9
 with-word-requires-2 : tie.Need-with-word-requires-2
 with-word-requires-2 c κs = search needs
 
--- src/text.rt:81:9
 with-number-requires-2 : tie.Need-with-number-requires-2
 with-number-requires-2 c κs = search needs
 
--- src/text.rt:81:9
 with-byte-requires : tie.Need-with-byte-requires
 with-byte-requires c κs = search needs
 
--- src/text.rt:77:5
 returns : tie.Need-returns
 unfolding countsLine ascii
 returns c =

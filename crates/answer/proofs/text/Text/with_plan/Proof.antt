@@ -19,36 +19,28 @@ Inv-loop domains text₀ i₀ text i = (i ≤ length domains) × Adds text₀ (v
 abbrev μ-loop : tie.MeasureT-loop
 μ-loop domains text₀ i₀ text i = length domains - i
 
--- src/text.rt:109:9
 loop-holds : tie.Need-loop-holds Inv-loop μ-loop
 unfolding valueLines
 loop-holds c = (search needs, adds-none _)
 
--- src/text.rt:110:39
 mul-with-value : tie.Need-mul-with-value Inv-loop μ-loop
 mul-with-value c = search needs
 
--- src/text.rt:110:39
 shared-slice-read-with-value : tie.Need-shared-slice-read-with-value Inv-loop μ-loop
 shared-slice-read-with-value c = search needs
 
--- src/text.rt:110:13
 with-value-requires : tie.Need-with-value-requires Inv-loop μ-loop
 with-value-requires c κs = search needs
 
--- src/text.rt:111:13
 add-i : tie.Need-add-i Inv-loop μ-loop
 add-i c = search needs
 
--- src/text.rt:109:9
 loop-less : tie.Need-loop-less Inv-loop μ-loop
 loop-less c = search needs
 
--- src/text.rt:109:9
 loop-again : tie.Need-loop-again Inv-loop μ-loop
 loop-again c = (omega arith, adds-line _ _ _ _ _ _ refl (c .before .before .before .loop .inv .1) (c .with-value .ensures))
 
--- src/text.rt:104:5
 returns : tie.Need-returns Inv-loop μ-loop
 returns c =
     let inv = c .before .loop .inv in

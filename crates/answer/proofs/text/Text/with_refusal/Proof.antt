@@ -14,23 +14,18 @@ use Rattle.answer.proofs.text.Text.with_byte.Reads as with-byte-reads
 use Rattle.answer.proofs.text.Text.with_number.Reads as with-number-reads
 use Rattle.answer.proofs.text.Text.with_word.Reads as with-word-reads
 
--- src/text.rt:90:24
 slice-aggregate-with-word : tie.Need-slice-aggregate-with-word
 slice-aggregate-with-word c = search needs
 
--- src/text.rt:90:9
 with-word-requires : tie.Need-with-word-requires
 with-word-requires c κs = search needs
 
--- src/text.rt:90:9
 with-number-requires : tie.Need-with-number-requires
 with-number-requires c κs = search needs
 
--- src/text.rt:90:9
 with-byte-requires : tie.Need-with-byte-requires
 with-byte-requires c κs = search needs
 
--- src/text.rt:87:5
 returns : tie.Need-returns
 unfolding refusedLine ascii
 returns c =

@@ -13,27 +13,21 @@ use Rattle.answer.proofs.text.Text.with_byte.Reads as with-byte-reads
 use Rattle.answer.proofs.text.Text.with_number.Reads as with-number-reads
 use Rattle.splits.proofs.mask.lowest.Reads as lowest-reads
 
--- src/text.rt:99:20
 with-number-requires : tie.Need-with-number-requires
 with-number-requires c κs = search needs
 
--- src/text.rt:99:13
 with-byte-requires : tie.Need-with-byte-requires
 with-byte-requires c κs = search needs
 
--- src/text.rt:100:26
 lowest-requires : tie.Need-lowest-requires
 lowest-requires c κs = search needs
 
--- src/text.rt:100:9
 with-number-requires-2 : tie.Need-with-number-requires-2
 with-number-requires-2 c κs = search needs
 
--- src/text.rt:100:9
 with-byte-requires-2 : tie.Need-with-byte-requires-2
 with-byte-requires-2 c κs = search needs
 
--- src/text.rt:96:5
 returns : tie.Need-returns
 unfolding planLine ascii
 returns c =

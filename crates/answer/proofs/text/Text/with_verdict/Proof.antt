@@ -31,70 +31,54 @@ told Running k e = ap lineAt e
 told Solved k e = ap lineAt e
 told Unsolvable k e = ap lineAt e
 
--- src/text.rt:69:45
 enum-told : tie.Need-enum-told
 enum-told c = search needs
 
--- src/text.rt:69:45
 slice-aggregate-with-word : tie.Need-slice-aggregate-with-word
 slice-aggregate-with-word c = search needs
 
--- src/text.rt:69:30
 with-word-requires : tie.Need-with-word-requires
 with-word-requires c κs = search needs
 
--- src/text.rt:70:48
 enum-told-2 : tie.Need-enum-told-2
 enum-told-2 c = search needs
 
--- src/text.rt:70:48
 slice-aggregate-with-word-2 : tie.Need-slice-aggregate-with-word-2
 slice-aggregate-with-word-2 c = search needs
 
--- src/text.rt:70:33
 with-word-requires-2 : tie.Need-with-word-requires-2
 with-word-requires-2 c κs = search needs
 
--- src/text.rt:71:47
 enum-told-3 : tie.Need-enum-told-3
 enum-told-3 c = search needs
 
--- src/text.rt:71:47
 slice-aggregate-with-word-3 : tie.Need-slice-aggregate-with-word-3
 slice-aggregate-with-word-3 c = search needs
 
--- src/text.rt:71:32
 with-word-requires-3 : tie.Need-with-word-requires-3
 with-word-requires-3 c κs = search needs
 
--- src/text.rt:72:51
 enum-told-4 : tie.Need-enum-told-4
 enum-told-4 c = search needs
 
--- src/text.rt:72:51
 slice-aggregate-with-word-4 : tie.Need-slice-aggregate-with-word-4
 slice-aggregate-with-word-4 c = search needs
 
--- src/text.rt:72:36
 with-word-requires-4 : tie.Need-with-word-requires-4
 with-word-requires-4 c κs = search needs
 
--- src/text.rt:65:5
 returns : tie.Need-returns
 unfolding lineAt ascii
 returns c = adds-same _ _ _ _ (sym (told _ 0 (c .before .before .before .match .keys1))) (c .with-word .ensures)
 
--- src/text.rt:65:5
 returns-2 : tie.Need-returns-2
 unfolding lineAt ascii
 returns-2 c = adds-same _ _ _ _ (sym (told _ 1 (c .before .before .before .match .keys2))) (c .with-word2 .ensures)
 
--- src/text.rt:65:5
 returns-3 : tie.Need-returns-3
 unfolding lineAt ascii
 returns-3 c = adds-same _ _ _ _ (sym (told _ 2 (c .before .before .before .match .keys3))) (c .with-word3 .ensures)
 
--- src/text.rt:65:5
 returns-4 : tie.Need-returns-4
 unfolding lineAt ascii
 returns-4 c = adds-same _ _ _ _ (sym (told _ 3 (c .before .before .before .match .keys4))) (c .with-word4 .ensures)

@@ -19,31 +19,24 @@ Inv-loop word text₀ i₀ text i = (i ≤ length word) × Adds text₀ (take i 
 abbrev μ-loop : tie.MeasureT-loop
 μ-loop word text₀ i₀ text i = length word - i
 
--- src/text.rt:46:9
 loop-holds : tie.Need-loop-holds Inv-loop μ-loop
 loop-holds c = (search needs, adds-none _)
 
--- src/text.rt:47:35
 shared-slice-read-with-byte : tie.Need-shared-slice-read-with-byte Inv-loop μ-loop
 shared-slice-read-with-byte c = search needs
 
--- src/text.rt:47:13
 with-byte-requires : tie.Need-with-byte-requires Inv-loop μ-loop
 with-byte-requires c κs = search needs
 
--- src/text.rt:48:13
 add-i : tie.Need-add-i Inv-loop μ-loop
 add-i c = search needs
 
--- src/text.rt:46:9
 loop-less : tie.Need-loop-less Inv-loop μ-loop
 loop-less c = search needs
 
--- src/text.rt:46:9
 loop-again : tie.Need-loop-again Inv-loop μ-loop
 loop-again c = (omega arith, adds-next _ _ _ _ _ _ (c .before .before .loop-test .taken) refl (c .before .before .before .loop .inv .1) (c .with-byte .ensures))
 
--- src/text.rt:41:5
 returns : tie.Need-returns Inv-loop μ-loop
 returns c = let inv = c .before .loop .inv in
     let end : c .before .loop .i ≡ length (c .before .before .before .args .word .now) = omega arith in
