@@ -166,7 +166,8 @@ fn zeros(bytes: &[u8]) -> bool
     bits == 0
 }
 
-// How many bytes of an agenda a run of a few requests can use: those of the slots used, of n + 1 more for each request, and of one; all if there are no more.
+// How many bytes of an agenda a run of a few requests can use: those of the slots used, of n + 1 more for each request, and of one; all if there are no
+// more, for more than 1,120 bytes of requests (16 of 32 variables), and of an agenda that is not up to 512 whole slots.
 fn reach(n: usize, subproblems: usize, requests: usize, agenda: usize) -> usize
     requires { ⌜ (n ≤ 32) × (subproblems < 4294967296) ⌝ }
     ensures { λ r. ⌜ Reach n subproblems requests agenda r ⌝ }

@@ -128,6 +128,7 @@ fn run_words(
     bytes::words_of(domains, &mut domain_words);
     let mut table_words = [0u16; 16384];
     bytes::words_of(tables, &mut table_words);
+    // So many bytes are the words that run_short has room for.
     if front <= 17408 {
         return run_short(
             n,

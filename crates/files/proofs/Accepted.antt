@@ -15,13 +15,13 @@ use Rattle.splits.specs.Masks.{bit}
 use Rattle.splits.specs.Problem.{Proper}
 use Rattle.splits.specs.Subproblems.{Rules, every}
 use Rattle.splits.specs.declared.subproblem.Subproblem.{Subproblem}
-use Rattle.splits.proofs.Masks.{bit-le, bit-above}
+use Rattle.splits.proofs.Masks.{bit-le}
 use Rattle.splits.proofs.Tests.{true-false, and-left, and-right, or-left, or-right, every-at, every-all}
 use Rattle.search.specs.Agenda.{slotsIn}
-use Rattle.search.specs.FirstChecks.{Over, Deserves-4, allObey}
+use Rattle.search.specs.FirstChecks.{Deserves-4, allObey}
 use Rattle.search.proofs.Decisions.{Refutes, every-fails}
 use Rattle.search.proofs.FirstParts.{given-if}
-use Rattle.search.proofs.Deserved.{over-of, refutes-rules, all-rules, all-obey}
+use Rattle.search.proofs.Deserved.{over-of, over-not, refutes-rules, all-rules, all-obey}
 use Rattle.search.proofs.FirstPassing.{gives-none}
 use Rattle.files.specs.Blocks.{blocksFor}
 use Rattle.files.specs.Reading.{blocksIn, contentWord, saidN, saidD, saidSteps, saidChecks, saidSubproblems, saidAllowed, saidProblem, saidAgenda, saidSearch, saidWords, agendaFrom, gathered, Deserves-15, masksBelowTriangle, refusalOfWords}
@@ -29,10 +29,6 @@ use Rattle.files.proofs.Tests.{either, one-of, given-exactly}
 use Rattle.files.proofs.Places.{length-from}
 use Rattle.files.proofs.Stacks.{slots-in}
 use Rattle.files.proofs.Gathered.{gathered-lt, gathered-bit}
-
--- A mask below 2 ^ d has no bit at d or above.
-pub over-not : (d m : ℕ) → m < 2 ^ d → Over d m → ⊥
-over-not d m h (v, l, e) = omega (arith, bit-above d m v h l)
 
 -- What an accepted file says.
 pub record Accepts (file : List ℕ) : Type 0 where

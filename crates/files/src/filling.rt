@@ -102,7 +102,7 @@ pub(crate) fn put_tables(words: &[u16], n: usize, d: usize, masks: &mut [u16])
 // The domains, the tables and the agenda into the lent memory, zeros after the subproblems.
 pub(crate) fn put_search(
     words: &[u16],
-    all: &[u16],
+    masks: &[u16],
     n: usize,
     d: usize,
     subproblems: usize,
@@ -110,12 +110,12 @@ pub(crate) fn put_search(
     tables: &mut [u16],
     agenda: &mut [u16],
 )
-    requires { ⌜ Lent (now words) (now all) n d subproblems (now domains) (now tables) (now agenda) ⌝ }
-    ensures { λ r. ⌜ (now (domains .exit) ≡ partIn (now (words .entry)) 9 n) × ((now (tables .exit) ≡ now (all .entry)) × (now (agenda .exit) ≡ slotsPart (now (words .entry)) n d subproblems (length (now (agenda .entry))))) ⌝ }
+    requires { ⌜ Lent (now words) (now masks) n d subproblems (now domains) (now tables) (now agenda) ⌝ }
+    ensures { λ r. ⌜ (now (domains .exit) ≡ partIn (now (words .entry)) 9 n) × ((now (tables .exit) ≡ now (masks .entry)) × (now (agenda .exit) ≡ slotsPart (now (words .entry)) n d subproblems (length (now (agenda .entry))))) ⌝ }
 {
     let last = 9 + n;
     copying::put_words(&words[9..last], domains);
-    copying::put_words(all, tables);
+    copying::put_words(masks, tables);
     let from = content::agenda_from(n, d);
     let end = from + subproblems * (n + 2);
     copying::put_padded(&words[from..end], agenda);

@@ -153,15 +153,15 @@ fn refusal_of_rules(file: &[u8], words: &[u16], tables: &[u16]) -> u32
 pub(crate) fn refusal(
     file: &[u8],
     words: &[u16],
-    all: &[u16],
+    masks: &[u16],
     domains: usize,
     tables: usize,
     agenda: usize,
 ) -> u32
-    requires { ⌜ Ready (now file) (now words) (now all) ⌝ }
+    requires { ⌜ Ready (now file) (now words) (now masks) ⌝ }
     ensures { λ r. ⌜ r ≡ loadRefusal (now (file .entry)) domains tables agenda ⌝ }
 {
-    let rules = refusal_of_rules(file, words, all);
+    let rules = refusal_of_rules(file, words, masks);
     if rules != 0 {
         return rules;
     }

@@ -96,13 +96,16 @@ over-of (suc d) m h =
     let r : Over d (m / 2) = over-of d (m / 2) (omega arith) in
     (suc (r .0), omega (arith, r .1), bit-suc m (r .0) ∙ r .2)
 
--- a mask below 2 ^ d has no such bit
+-- A mask below 2 ^ d has no such bit.
+pub over-not : (d m : ℕ) → m < 2 ^ d → Over d m → ⊥
+over-not d m h (v, l, e) = omega (arith, bit-above d m v h l)
+
 refutes-over : (d m : ℕ) → Refutes (ltb m (2 ^ d)) (Over d m)
 refutes-over d m =
     let s = refutes-lt m (2 ^ d) in
     record {
       holds = λ e. over-of d m (s .holds e);
-      fails = λ e o. absurd (omega (arith, o .2, bit-above d m (o .0) (ltb-true m (2 ^ d) e) (o .1)));
+      fails = λ e. over-not d m (ltb-true m (2 ^ d) e);
     }
 
 -- 4: the domains, and the masks of two different variables

@@ -11,14 +11,13 @@ use lib.ListN.{length, getD}
 use lib.Dec.{eqb, leb, ltb}
 use borrow.Author.Tests.{eqb-true, leb-true}
 use Rattle.splits.specs.Problem.{Problem, Proper}
-use Rattle.splits.proofs.Masks.{bit-above}
 use Rattle.splits.proofs.Tests.{and-left, and-right}
 use Rattle.search.specs.Agenda.{problemOf, stackOf, slotsIn}
-use Rattle.search.specs.FirstChecks.{Deserves-1, Deserves-2, WholeRequests, Deserves-3, Deserves-3-run, Over, Deserves-4, Deserves-5, Deserves-6, refusalOfNumbers, wholeSlots, refusalOfLengths, refusalOfRequests, masksBelow, symmetric, refusalOfProblem, allObey, zerosFrom, refusalOfSearch, openRefusal, searchRefusal, runRefusal}
+use Rattle.search.specs.FirstChecks.{Deserves-1, Deserves-2, WholeRequests, Deserves-3, Deserves-3-run, Deserves-4, Deserves-5, Deserves-6, refusalOfNumbers, wholeSlots, refusalOfLengths, refusalOfRequests, masksBelow, symmetric, refusalOfProblem, allObey, zerosFrom, refusalOfSearch, openRefusal, searchRefusal, runRefusal}
 use Rattle.search.specs.Promises.{Passed, PassedSearch}
 use Rattle.search.proofs.Decisions.{Decides, Refutes}
 use Rattle.search.proofs.FirstParts.{given-not}
-use Rattle.search.proofs.Deserved.{decides-1, decides-2, slots-true, refutes-3, requests-true, refutes-requests, refutes-4, refutes-5, refutes-6, all-rules}
+use Rattle.search.proofs.Deserved.{decides-1, decides-2, slots-true, refutes-3, requests-true, refutes-requests, over-not, refutes-4, refutes-5, refutes-6, all-rules}
 use Rattle.search.proofs.FirstOrder.{is-0, open-ordered, search-ordered, run-ordered, passes, proper-where}
 
 -- ---- the parts
@@ -127,15 +126,11 @@ module _ (n d : ℕ) (domains tables agenda : List ℕ) where
     pub not-3 : Deserves-3 n d domains tables agenda → ⊥
     not-3 x = ⊎-elim (λ f. f (s .domains-words)) (λ y. ⊎-elim (λ f. f (s .tables-words)) (λ f. f (s .slots)) y) x
 
-    -- a mask below 2 ^ d has no bit at d or above
-    not-over : (m : ℕ) → m < 2 ^ d → Over d m → ⊥
-    not-over m h o = absurd (omega (arith, o .2, bit-above d m (o .0) h (o .1)))
-
     -- 4
     pub not-4 : Deserves-4 p → ⊥
     not-4 x =
-        ⊎-elim (λ y. not-over (p .domain (y .0)) (s .proper .domains (y .0) (y .1)) (y .2))
-        (λ y. not-over (p .allowed (y .0) (y .1) (y .2)) (s .proper .masks (y .0) (y .1) (y .2) (y .3) (y .4) (y .5) (y .6)) (y .7)) x
+        ⊎-elim (λ y. over-not d (p .domain (y .0)) (s .proper .domains (y .0) (y .1)) (y .2))
+        (λ y. over-not d (p .allowed (y .0) (y .1) (y .2)) (s .proper .masks (y .0) (y .1) (y .2) (y .3) (y .4) (y .5) (y .6)) (y .7)) x
 
     -- 5
     pub not-5 : Deserves-5 p → ⊥

@@ -37,6 +37,7 @@ use Rattle.search.proofs.Encoding.{length-stack, length-stackOf, stack-
 use Rattle.search.proofs.Accepting.{accepted-reads, Unrefused, unrefused}
 use Rattle.search.proofs.Shapes.{pieces-regular}
 use Rattle.search.proofs.Verdicts.{finished-top}
+use Rattle.search.proofs.Passing.{step-is}
 
 -- ---- the checks of a request are at most 512
 
@@ -127,12 +128,6 @@ module _ (p : Problem) (room : ℕ) (r : List ℕ) (s : Search) where
     pub one-taken : 0 ≡ refusalOfRequest p room r s → runFrom p room (r ∷ []) s 0 ≡ record { search = step p r s; refusal = 0; taken = 1 }
     unfolding runFrom
     one-taken e = rw (runs, eq-eqb (refusalOfRequest p room r s) 0 (sym e)) refl
-
--- A step of a stack with P on top.
-step-is : (p : Problem) (r : List ℕ) (s : Search) (P : Subproblem) (S : List Subproblem) → s .stack ≡ P ∷ S
-    → step p r s ≡ record { stack = pieces (p .n) (p .allowed) P r ++ S; steps = s .steps + 1; checks = s .checks + checks (p .n) (p .allowed) P r }
-unfolding step splitTop
-step-is p r s P S top = rw top refl
 
 -- ---- a request of a running search, by its words
 
@@ -300,7 +295,7 @@ module _ (n d : ℕ) (t agenda : List ℕ) (P : Subproblem) (r : List ℕ) (s : 
     take-taken after count c m k =
         rw (
           one-taken (problemOf n d [] t) (slotsIn n (length agenda)) r (searchOf n agenda s) runs (sym none ∙ e ∙ its-refusal),
-          step-is (problemOf n d [] t) r (searchOf n agenda s) P (stackOf n agenda (s .subproblems - 1)) top-is,
+          step-is (problemOf n d [] t) P (stackOf n agenda (s .subproblems - 1)) (searchOf n agenda s) r top-is,
         )
         (record {
           refusal = refl;

@@ -23,7 +23,7 @@ fn unlike(a: u64, b: u64, mask: u64, places: usize) -> u64
     ((a >> places) ^ b) & mask
 }
 
-// `a`, but so many places above those of the mask the digits of `b`.
+// `a`, its digits `places` above those of the mask taken from `b`.
 fn risen(a: u64, b: u64, mask: u64, places: usize) -> u64
     requires { ⌜ places < 64 ⌝ }
     ensures { λ r. ⌜ r ≡ risen a b (2 ^ 64 - 1 - mask * 2 ^ places % 2 ^ 64) places ⌝ }
@@ -31,7 +31,7 @@ fn risen(a: u64, b: u64, mask: u64, places: usize) -> u64
     a ^ (unlike(a, b, mask, places) << places)
 }
 
-// `a`, but in those of the mask the digits of `b` from so many places above.
+// `a`, its digits of the mask taken from `b`, from `places` above.
 fn sunk(a: u64, b: u64, mask: u64, places: usize) -> u64
     requires { ⌜ places < 64 ⌝ }
     ensures { λ r. ⌜ r ≡ sunk a b (2 ^ 64 - 1 - mask) places ⌝ }
@@ -112,7 +112,7 @@ pub(crate) fn difference(m: Matrix, o: Matrix) -> u64
     ((m.first ^ o.first) | (m.second ^ o.second)) | ((m.third ^ o.third) | (m.fourth ^ o.fourth))
 }
 
-// Four rows in a word.
+// Four rows in a word, from row `k` on.
 fn four(rows: &[u16], k: usize) -> u64
     requires { ⌜ k + 4 ≤ length (now rows) ⌝ }
     ensures { λ r. ⌜ (r ≡ four (rowIn (now (rows .entry))) k) × Words (now (rows .entry)) ⌝ }
