@@ -6,7 +6,7 @@ use mathlib.Core.Bool.{Bool, true, false}
 use mathlib.Core.List.{List, [], _∷_, _++_, append-assoc}
 use Prim.Native.Nat.{ℕ, zero, suc, _+_, _-_, _*_, _^_, _≤_, _<_}
 use native.Mathlib.Omega.{arith}
-use native.Mathlib.Nat.{zero-add, mul-le-mul-right}
+use native.Mathlib.Nat.{mul-le-mul-right}
 use native.Mathlib.Numerals.{one-add}
 use native.Mathlib.Decide.{ℕ-discrete}
 use lib.ListN.{length, getD, take, drop, length-append}
@@ -26,7 +26,7 @@ use Rattle.search.specs.declared.state.State.{State}
 use Rattle.search.specs.declared.state.Ran.{Ran}
 use Rattle.search.specs.declared.state.Verdict.the-variants.{Running}
 use Rattle.search.proofs.Verdicts.{running}
-use Rattle.search.proofs.Runs.{after, run-finished, run-taken, run-refused, run-ind, stops}
+use Rattle.search.proofs.Runs.{after, after-none, run-finished, run-taken, run-refused, run-ind, stops}
 use Rattle.search.proofs.Encoding.{length-stackOf, stack-of-words}
 use Rattle.search.proofs.FirstPassing.{requests-none, search-is-passed, run-is-passed}
 use Rattle.search.proofs.Picking.{picked}
@@ -39,9 +39,6 @@ use Rattle.console.specs.Work.Parts.{joined, Narrow}
 -- ---- of a stack
 
 module _ (p : Problem) (room : ℕ) where
-  after-none : (x : Stopped) → x ≡ after 0 x
-  after-none x = λ i. record { search = x .search; refusal = x .refusal; taken = sym (zero-add (x .taken)) i }
-
   after-more : (k : ℕ) (x : Stopped) → after 1 (after k x) ≡ after (1 + k) x
   after-more k x = let e : 1 + (k + x .taken) ≡ 1 + k + x .taken = omega arith in λ i. record { search = x .search; refusal = x .refusal; taken = e i }
 

@@ -23,7 +23,7 @@ use Rattle.search.specs.declared.state.Verdict.{Verdict}
 use Rattle.search.specs.declared.state.Verdict.the-variants.{None}
 use Rattle.search.proofs.Encoding.{length-stackOf}
 use Rattle.search.proofs.HandedOn.{known, leaves, some-slots, whole-requests}
-use Rattle.search.proofs.Promises.{open-leaves, run-leaves, chooser-leaves, run-says, run-passed, reached-passes, reached-unsolvable, solved-shows, reached-passes}
+use Rattle.search.proofs.Promises.{open-leaves, run-leaves, chooser-leaves, run-says, run-passed, reached-passes, reached-unsolvable, solved-shows}
 use Rattle.files.specs.Blocks.{fileOf}
 use Rattle.files.specs.Reading.{saidAllowed, tableWords}
 use Rattle.files.specs.Calls.{handedContent, saveRefusal, Saves, Loads}
@@ -62,9 +62,9 @@ module _ (n d : ℕ) (domains tables₀ tables agenda : List ℕ) (s : State) (l
     (before after : List ℕ) (saved : Saved) (saves : Saves n d domains tables agenda s before after saved) (none : saved .refusal ≡ 0)
     (domains₁ domains′ tables₁ tables′ agenda₁ agenda′ : List ℕ) (r : Loaded)
     (loads : Loads (take (512 * saved .blocks) after) domains₁ domains′ tables₁ tables′ agenda₁ agenda′ r) (accepted : r .refusal ≡ 0) where
-  moved-on : Life n d domains tables₀ tables′ agenda′ (r .state)
+  loaded-on : Life n d domains tables₀ tables′ agenda′ (r .state)
   unfolding stateOf
-  moved-on =
+  loaded-on =
       let p = known n d domains tables agenda s (life .handed) .passed in
       let passes : saveRefusal n d domains tables agenda s before ≡ 0 = sym (saves .refusal) ∙ none in
       let file : List ℕ = fileOf (handedContent n d domains tables agenda s) in
@@ -100,8 +100,8 @@ module _ (n d : ℕ) (domains tables₀ tables agenda : List ℕ) (s : State) (l
 -- What a move to an agenda of another length leaves: what a call would that was lent so many words, zeros here.
 module _ (n d : ℕ) (domains tables₀ tables agenda : List ℕ) (s : State) (life : Life n d domains tables₀ tables agenda s) (words : ℕ)
     (slots : WholeSlots n words) (takes : s .subproblems ≤ slotsIn n words) where
-  lengthened : Life n d domains tables₀ tables (agendaOf n words (stackOf n agenda (s .subproblems))) s
-  lengthened =
+  moved-to : Life n d domains tables₀ tables (agendaOf n words (stackOf n agenda (s .subproblems))) s
+  moved-to =
       let k = known n d domains tables agenda s (life .handed) in
       let x = searchOf n agenda s in
       let count : length (x .stack) ≡ s .subproblems = length-stackOf n agenda (s .subproblems) in
@@ -147,9 +147,9 @@ lived {n} {d} {domains} {tables₀} (chose {tables} {before} {after} {s} {r} h l
     gone-on n d domains tables₀ tables before after s (r .state) life (chooser-leaves n d domains tables before after limit s r (life .handed) chooses)
     (Reached.chose (life .reached) limit)
 lived {n} {d} {domains} {tables₀} (loaded {tables} {agenda} {before} {after} {domains₁} {domains′} {tables₁} {tables′} {agenda₁} {agenda′} {s} {saved} {r} h saves none loads accepted) =
-    moved-on n d domains tables₀ tables agenda s (lived h) before after saved saves none domains₁ domains′ tables₁ tables′ agenda₁ agenda′ r loads accepted
+    loaded-on n d domains tables₀ tables agenda s (lived h) before after saved saves none domains₁ domains′ tables₁ tables′ agenda₁ agenda′ r loads accepted
 lived {n} {d} {domains} {tables₀} (moved {tables} {agenda} {s} h words slots takes) =
-    lengthened n d domains tables₀ tables agenda s (lived h) words slots takes
+    moved-to n d domains tables₀ tables agenda s (lived h) words slots takes
 
 -- Of the problem that was opened.
 module _ {n d : ℕ} {domains tables₀ tables agenda : List ℕ} {s : State} (life : Life n d domains tables₀ tables agenda s) where

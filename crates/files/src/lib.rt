@@ -110,16 +110,32 @@ fn load_content(
     }
     let n = said::n(file);
     let d = said::d(file);
-    let masks = n * n * d;
+    let count = n * n * d;
     let mut room = room_for_tables();
-    filling::put_tables(words, n, d, &mut room[..masks]);
-    let all = &room[..masks];
-    let refusal = reading::refusal(file, words, all, domains.len(), tables.len(), agenda.len());
+    filling::put_tables(words, n, d, &mut room[..count]);
+    let masks = &room[..count];
+    let refusal = reading::refusal(
+        file,
+        words,
+        masks,
+        domains.len(),
+        tables.len(),
+        agenda.len(),
+    );
     if refusal != 0 {
         return refuse(refusal);
     }
     let state = said::state(file);
-    filling::put_search(words, all, n, d, state.subproblems, domains, tables, agenda);
+    filling::put_search(
+        words,
+        masks,
+        n,
+        d,
+        state.subproblems,
+        domains,
+        tables,
+        agenda,
+    );
     Loaded {
         refusal: 0,
         n,

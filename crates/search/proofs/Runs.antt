@@ -24,6 +24,10 @@ stop s k = record { search = s; refusal = k; taken = 0 }
 abbrev pub after : ℕ → Stopped → Stopped
 after k x = record { search = x .search; refusal = x .refusal; taken = k + x .taken }
 
+-- With none taken before it is the same.
+pub after-none : (x : Stopped) → x ≡ after 0 x
+after-none x = λ i. record { search = x .search; refusal = x .refusal; taken = sym (zero-add (x .taken)) i }
+
 module _ (p : Problem) (room : ℕ) where
   -- What was taken before is added to what is taken.
   before : (j k : ℕ) (rs : List (List ℕ)) (s : Search) → runFrom p room rs s (j + k) ≡ after j (runFrom p room rs s k)
@@ -89,9 +93,6 @@ module _ (p : Problem) (room : ℕ) where
       (λ s. after-none _) (λ r rs s e. after-none _) (λ r rs s e h. after-none _)
       (λ r rs s x e h same. run-taken r (rs ++ qs) s e h ∙ ap (after 1) same ∙ further r (rs ++ qs) x)
     where
-      after-none : (x : Stopped) → x ≡ after 0 x
-      after-none x = λ i. record { search = x .search; refusal = x .refusal; taken = sym (zero-add (x .taken)) i }
-
       further : (r : List ℕ) (l : List (List ℕ)) (x : Stopped) → after 1 (after (x .taken) (run p room (drop (x .taken) l) (x .search)))
           ≡ after (1 + x .taken) (run p room (drop (1 + x .taken) (r ∷ l)) (x .search))
       further r l x =

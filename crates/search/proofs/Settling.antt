@@ -36,9 +36,9 @@ use Rattle.search.specs.declared.state.State.{State}
 use Rattle.search.specs.declared.choice.Choice.{Choice}
 use Rattle.search.specs.declared.choice.Left.{Left}
 use Rattle.search.proofs.Copies.{splice-cover, slot-below}
-use Rattle.search.proofs.Encoding.{length-slot, length-stackOf}
+use Rattle.search.proofs.Encoding.{length-slot}
 use Rattle.search.proofs.Accepting.{refused-at-11}
-use Rattle.search.proofs.Stepping.{take-refused, take-steps, take-taken}
+use Rattle.search.proofs.Stepping.{in-slots, take-refused, take-steps, take-taken}
 use Rattle.search.proofs.Picking.{accepted, fewest-is}
 use Rattle.search.proofs.AtOnce.{word, least-is, values-are}
 use Rattle.search.proofs.Lone.{lost-is, rest-full, two-none, two-rest, three-one}
@@ -243,12 +243,9 @@ module _ (n d : ℕ) (t agenda : List ℕ) (P : Subproblem) (s : State) (h : Tak
   taking-regular = top-regular n d t agenda s (h .ready) P (λ z. omega (arith, h .some)) (h .top)
 
   -- It has its slot, which is free for its pieces.
-  pub taking-slots : s .subproblems ≤ slotsIn n (length agenda)
-  taking-slots = rw (length-stackOf n agenda (s .subproblems)) at (h .ready .fits)
-
   pub taking-slot : SlotIn n (s .subproblems - 1) (length agenda)
   taking-slot =
-      slot-below n (s .subproblems - 1) (slotsIn n (length agenda)) (length agenda) (h .ready .fitting .few) (omega (arith, taking-slots, h .some)) (omega (arith, h .ready .whole))
+      slot-below n (s .subproblems - 1) (slotsIn n (length agenda)) (length agenda) (h .ready .fitting .few) (omega (arith, in-slots n d t agenda P [] s h, h .some)) (omega (arith, h .ready .whole))
 
   -- At the last count of steps nothing is taken.
   pub chosen-refused : s .counts .steps .0 ≡ 4294967295 → TakesChosen n d t P agenda agenda s (record { refusal = 11; taken = 0; state = s })

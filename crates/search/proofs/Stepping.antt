@@ -165,7 +165,7 @@ module _ (n d : ℕ) (t agenda : List ℕ) (P : Subproblem) (r : List ℕ) (s : 
   many = length-stackOf n agenda (s .subproblems - 1)
 
   -- All have their slots.
-  in-slots : s .subproblems ≤ slotsIn n (length agenda)
+  pub in-slots : s .subproblems ≤ slotsIn n (length agenda)
   in-slots = rw (length-stackOf n agenda (s .subproblems)) at (h .ready .fits)
 
   -- The top has its slot.

@@ -25,11 +25,11 @@ n-requires c κs = search needs
 d-requires : tie.Need-d-requires
 d-requires c κs = search needs
 
-mul-masks : tie.Need-mul-masks
-mul-masks c = let s = sized-numbers (c .before .before .before .before .before .before .before .before .before .args .file .now) _ _ _ (c .before .n .ensures) (c .d .ensures) refl (sized-found _ _ (c .before .before .before .refusal-of-numbers .ensures) (c .before .before .if1 .left)) in let few = tables-few _ _ (s .0) in omega (arith, few .0)
+mul-count : tie.Need-mul-count
+mul-count c = let s = sized-numbers (c .before .before .before .before .before .before .before .before .before .args .file .now) _ _ _ (c .before .n .ensures) (c .d .ensures) refl (sized-found _ _ (c .before .before .before .refusal-of-numbers .ensures) (c .before .before .if1 .left)) in let few = tables-few _ _ (s .0) in omega (arith, few .0)
 
-mul-masks-2 : tie.Need-mul-masks-2
-mul-masks-2 c = let s = sized-numbers (c .before .before .before .before .before .before .before .before .before .args .file .now) _ _ _ (c .before .n .ensures) (c .d .ensures) refl (sized-found _ _ (c .before .before .before .refusal-of-numbers .ensures) (c .before .before .if1 .left)) in let few = tables-few _ _ (s .0) in omega (arith, few .1)
+mul-count-2 : tie.Need-mul-count-2
+mul-count-2 c = let s = sized-numbers (c .before .before .before .before .before .before .before .before .before .args .file .now) _ _ _ (c .before .n .ensures) (c .d .ensures) refl (sized-found _ _ (c .before .before .before .refusal-of-numbers .ensures) (c .before .before .if1 .left)) in let few = tables-few _ _ (s .0) in omega (arith, few .1)
 
 room-for-tables-requires : tie.Need-room-for-tables-requires
 room-for-tables-requires c κs = search needs
@@ -46,8 +46,8 @@ put-tables-requires c κs = let s = sized-numbers (c .before .before .before .be
 array-share-prefix-room : tie.Need-array-share-prefix-room
 array-share-prefix-room c = made-fits _ _ _ _ _ (c .before .put-tables .ensures)
 
-slice-aggregate-all : tie.Need-slice-aggregate-all
-slice-aggregate-all c = made-count _ _ _ _ _ (c .before .before .put-tables .ensures)
+slice-aggregate-masks : tie.Need-slice-aggregate-masks
+slice-aggregate-masks c = made-count _ _ _ _ _ (c .before .before .put-tables .ensures)
 
 refusal-requires : tie.Need-refusal-requires
 refusal-requires c κs = made-ready _ _ _ _ _ _ _ (c .before .before .before .before .before .before .before .before .before .before .before .before .before .before .pre) (sized-found _ _ (c .before .before .before .before .before .before .before .before .refusal-of-numbers .ensures) (c .before .before .before .before .before .before .before .if1 .left)) (c .before .before .before .before .before .before .n .ensures) (c .before .before .before .before .before .d .ensures) refl (c .before .before .put-tables .ensures)
@@ -85,14 +85,14 @@ load-content-spec =
     returns
     n-requires
     d-requires
-    mul-masks
-    mul-masks-2
+    mul-count
+    mul-count-2
     room-for-tables-requires
     array-borrow-prefix-room
     slice-aggregate-put-tables
     put-tables-requires
     array-share-prefix-room
-    slice-aggregate-all
+    slice-aggregate-masks
     refusal-requires
     refuse-requires-2
     returns-2

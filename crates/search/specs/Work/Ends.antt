@@ -1,4 +1,4 @@
--- What opening needs of its memory, where a request of a run lies, and what a call returns that stopped.
+-- What opening needs of its memory, where a request of a run lies, and what a call returns that its first checks refuse, or that stopped.
 use mathlib.Core.Path.{_≡_}
 use mathlib.Core.List.{List}
 use Prim.Native.Nat.{ℕ, _+_, _*_, _≤_}
