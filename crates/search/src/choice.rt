@@ -41,7 +41,7 @@ fn look(top: Subproblem, n: usize, d: usize, tables: &[u16], rows: &mut [[u16; 3
     let key = lanes::least_key(domains, top.marked | lanes::beyond(n));
     let variable = (key % 32) as usize;
     let value = mask::lowest(top.domain(variable));
-    let row = rows::row(n, d, tables, rows, 16, variable, value);
+    let row = rows::row(n, d, tables, rows, variable * 16 + value, variable, value);
     let lost = lanes::loses(domains, row);
     Choice {
         variable,

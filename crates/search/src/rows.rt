@@ -1,10 +1,9 @@
 // Rows: what is allowed beside a value of a variable, for all variables at once; the last made in each place is kept.
 ghost use mathlib.Core.Path.{_≡_};
-ghost use Prim.Native.Nat.{_≤_};
 ghost use Rattle.splits.specs.Problem.{tableOf};
 ghost use Rattle.splits.specs.Ranges.{Sized, Place, Inside};
 ghost use Rattle.splits.specs.Splits.{RowOf};
-ghost use Rattle.search.specs.Work.Lanes.{Rows};
+ghost use Rattle.search.specs.Work.Lanes.{RowAt, RowPut};
 
 // The mask of the values of `j` allowed beside value `a` of `i`; all bits where `j` is `i`, whose place is not read.
 pub(crate) fn allowed(n: usize, d: usize, tables: &[u16], i: usize, j: usize, a: usize) -> u16
@@ -32,21 +31,19 @@ fn made(n: usize, d: usize, tables: &[u16], variable: usize, value: usize) -> [u
     row
 }
 
-// The same out of the rows, `width` of them for each variable, made in its place among them unless it is there:
-// then it has the value alone at its own variable.
+// The same out of kept rows, made in its place among them unless it is there: then it has the value alone at its own variable.
 pub(crate) fn row(
     n: usize,
     d: usize,
     tables: &[u16],
     rows: &mut [[u16; 32]],
-    width: usize,
+    at: usize,
     variable: usize,
     value: usize,
 ) -> [u16; 32]
-    requires { ⌜ Inside n d (now tables) variable value × ((1 ≤ width) × ((width ≤ 16) × Rows width n d (now tables) (now rows))) ⌝ }
-    ensures { λ r. ⌜ RowOf n (tableOf n d (now (tables .entry))) variable value r × Rows width n d (now (tables .entry)) (now (rows .exit)) ⌝ }
+    requires { ⌜ Inside n d (now tables) variable value × RowAt n d (now tables) variable at (now rows) ⌝ }
+    ensures { λ r. ⌜ RowOf n (tableOf n d (now (tables .entry))) variable value r × RowPut at r (now (rows .entry)) (now (rows .exit)) ⌝ }
 {
-    let at = variable * width + value % width;
     if rows[at][variable] != 1 << value {
         rows[at] = made(n, d, tables, variable, value);
     }

@@ -99,7 +99,7 @@ fn marks_obey(
     let held = held_of(slot, marked, n);
     let mut i = next_in(marked, 0);
     while i < n {
-        let row = rows::row(n, d, tables, rows, 1, i, mask::lowest(slot[i]));
+        let row = rows::row(n, d, tables, rows, i, i, mask::lowest(slot[i]));
         if missing(held, row) != 0 {
             return false;
         }

@@ -79,7 +79,22 @@ pub record FurtherTo (row : List ℕ) (j i : ℕ) (masks : List ℕ) : Type 0 wh
 unfoldable pub filled : List ℕ → ℕ → ℕ
 filled masks i = total i (λ j. cond (eqb (getD masks j 0) 0) 0 1)
 
--- Rows kept, so many for each of 32 variables. Each is that of a value of its variable, or has nothing for its variable yet.
+-- A row kept for a variable: that of one of its values, or one that has nothing for the variable yet.
+abbrev pub RowOrNone : ℕ → ℕ → List ℕ → ℕ → List ℕ → Type 0
+RowOrNone n d tables V′ row = (getD row V′ 0 ≡ 0) ⊎ ((v : ℕ) × RowOf n (tableOf n d tables) V′ v row)
+
+-- Rows kept, so many for each of 32 variables.
 pub record Rows (width n d : ℕ) (tables : List ℕ) (rows : List (List ℕ)) : Type 0 where
   pub long : length rows ≡ 32 * width
-  pub each : (k : ℕ) → k < 32 * width → (getD (getD rows k []) (k / width) 0 ≡ 0) ⊎ ((v : ℕ) × RowOf n (tableOf n d tables) (k / width) v (getD rows k []))
+  pub each : (k : ℕ) → k < 32 * width → RowOrNone n d tables (k / width) (getD rows k [])
+
+-- A place among rows where one of a variable is kept.
+pub record RowAt (n d : ℕ) (tables : List ℕ) (V′ at : ℕ) (rows : List (List ℕ)) : Type 0 where
+  pub inside : at < length rows
+  pub kept : RowOrNone n d tables V′ (getD rows at [])
+
+-- Rows of which the one at a place is this, and the others are as before.
+pub record RowPut (at : ℕ) (row : List ℕ) (before after : List (List ℕ)) : Type 0 where
+  pub same : length after ≡ length before
+  pub there : getD after at [] ≡ row
+  pub others : (k : ℕ) → (k ≡ at → ⊥) → getD after k [] ≡ getD before k []

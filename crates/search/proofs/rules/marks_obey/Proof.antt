@@ -3,6 +3,7 @@
 use mathlib.Core.Bool.{true, not}
 use mathlib.Core.Path.{_≡_, ap}
 use Prim.Native.Nat.{_-_, _<_}
+use native.Mathlib.Nat.{div-one}
 use native.Mathlib.Omega.{arith}
 use borrow.Author.Tests.{eq-eqb, ne-eqb}
 use Rattle.splits.specs.Masks.{bit}
@@ -11,6 +12,7 @@ use Rattle.splits.specs.Subproblems.{every}
 use Rattle.search.specs.Agenda.{subproblemOf}
 use Rattle.search.specs.Work.FirstTests.{markObeys}
 use Rattle.search.specs.Work.Lanes.{Rows}
+use Rattle.search.proofs.Beside.{row-at, row-more}
 use Rattle.search.proofs.FirstLoops.{every-start, every-stop, every-turn}
 use Rattle.search.proofs.Marked.{every-past, marks-next, mark-read}
 use borrow.Author.Needs.{needs}
@@ -42,16 +44,16 @@ lowest-requires : tie.Need-lowest-requires Inv-loop μ-loop
 lowest-requires c κs = search needs
 
 row-requires : tie.Need-row-requires Inv-loop μ-loop
-row-requires c κs = let p = c .before .before .before .before .before .before .before .before .before .pre in let inv = c .before .before .before .before .loop .inv in (record { fit = p .0 .sized; a-variable = c .before .before .before .loop-test .taken; a-value = rw (c .lowest .ensures) (p .0 .values _ (c .before .before .before .loop-test .taken)) }, (omega arith, (omega arith, inv .1 .1)))
+row-requires c κs = let p = c .before .before .before .before .before .before .before .before .before .pre in let inv = c .before .before .before .before .loop .inv in (record { fit = p .0 .sized; a-variable = c .before .before .before .loop-test .taken; a-value = rw (c .lowest .ensures) (p .0 .values _ (c .before .before .before .loop-test .taken)) }, row-at _ _ _ _ _ _ _ (inv .1 .1) (omega (arith, p .0 .sized .few)) (div-one _))
 
 missing-requires : tie.Need-missing-requires Inv-loop μ-loop
 missing-requires c κs = search needs
 
 same-length : tie.Need-same-length Inv-loop μ-loop
-same-length c = let whole = c .before .before .before .before .before .before .before .before .before .before .before .before .before .pre .1 .long in let long = c .before .before .before .row .ensures .1 .long in search needs
+same-length c = let whole = c .before .before .before .before .before .before .before .before .before .before .before .before .before .pre .1 .long in let long = c .before .before .before .row .ensures .1 .same in search needs
 
 returns : tie.Need-returns Inv-loop μ-loop
-returns c = let p = c .before .before .before .before .before .before .before .before .before .before .before .before .before .pre in let inv = c .before .before .before .before .before .before .before .before .loop .inv in (every-stop _ _ _ _ (c .before .before .before .before .before .before .before .loop-test .taken) (mark-read _ _ _ _ _ _ _ _ _ _ (p .0) (c .before .before .before .before .before .before .before .loop-test .taken) (inv .1 .0 (omega (arith, p .0 .sized .few))) (c .before .before .before .before .before .before .before .before .before .before .held-of .ensures) (c .before .before .before .before .lowest .ensures) (c .before .before .before .row .ensures .0) (c .before .missing .ensures)) (ap not (ne-eqb _ _ (c .if1 .taken))), c .before .before .before .row .ensures .1)
+returns c = let p = c .before .before .before .before .before .before .before .before .before .before .before .before .before .pre in let inv = c .before .before .before .before .before .before .before .before .loop .inv in (every-stop _ _ _ _ (c .before .before .before .before .before .before .before .loop-test .taken) (mark-read _ _ _ _ _ _ _ _ _ _ (p .0) (c .before .before .before .before .before .before .before .loop-test .taken) (inv .1 .0 (omega (arith, p .0 .sized .few))) (c .before .before .before .before .before .before .before .before .before .before .held-of .ensures) (c .before .before .before .before .lowest .ensures) (c .before .before .before .row .ensures .0) (c .before .missing .ensures)) (ap not (ne-eqb _ _ (c .if1 .taken))), row-more _ _ _ _ _ _ _ (inv .1 .1) (omega (arith, p .0 .sized .few)) (div-one _) _ _ _ (c .before .before .before .row .ensures .0) (c .before .before .before .row .ensures .1))
 
 add-next-in : tie.Need-add-next-in Inv-loop μ-loop
 add-next-in c = search needs
@@ -63,7 +65,7 @@ loop-less : tie.Need-loop-less Inv-loop μ-loop
 loop-less c = omega (arith, c .next-in2 .ensures .up)
 
 loop-again : tie.Need-loop-again Inv-loop μ-loop
-loop-again c = let p = c .before .before .before .before .before .before .before .before .before .before .before .before .before .before .pre in let inv = c .before .before .before .before .before .before .before .before .before .loop .inv in (marks-next _ _ _ _ _ _ (p .0 .marks) (every-turn _ _ _ (inv .0) (mark-read _ _ _ _ _ _ _ _ _ _ (p .0) (c .before .before .before .before .before .before .before .before .loop-test .taken) (inv .1 .0 (omega (arith, p .0 .sized .few))) (c .before .before .before .before .before .before .before .before .before .before .before .held-of .ensures) (c .before .before .before .before .before .lowest .ensures) (c .before .before .before .before .row .ensures .0) (c .before .before .missing .ensures)) (ap not (eq-eqb _ _ (c .before .if1 .left)))) (c .next-in2 .ensures), (c .next-in2 .ensures .there, c .before .before .before .before .row .ensures .1))
+loop-again c = let p = c .before .before .before .before .before .before .before .before .before .before .before .before .before .before .pre in let inv = c .before .before .before .before .before .before .before .before .before .loop .inv in (marks-next _ _ _ _ _ _ (p .0 .marks) (every-turn _ _ _ (inv .0) (mark-read _ _ _ _ _ _ _ _ _ _ (p .0) (c .before .before .before .before .before .before .before .before .loop-test .taken) (inv .1 .0 (omega (arith, p .0 .sized .few))) (c .before .before .before .before .before .before .before .before .before .before .before .held-of .ensures) (c .before .before .before .before .before .lowest .ensures) (c .before .before .before .before .row .ensures .0) (c .before .before .missing .ensures)) (ap not (eq-eqb _ _ (c .before .if1 .left)))) (c .next-in2 .ensures), (c .next-in2 .ensures .there, row-more _ _ _ _ _ _ _ (inv .1 .1) (omega (arith, p .0 .sized .few)) (div-one _) _ _ _ (c .before .before .before .before .row .ensures .0) (c .before .before .before .before .row .ensures .1)))
 
 same-length-2 : tie.Need-same-length-2 Inv-loop μ-loop
 same-length-2 c = let whole = c .before .before .before .before .before .before .pre .1 .long in let long = c .before .loop .inv .1 .1 .long in search needs
