@@ -77,14 +77,17 @@ module _ (n d : ℕ) (t : List ℕ) (V′ v at : ℕ) (rows : List (List ℕ)) (
   row-there a-value small shifted =
       let e : getD (getD rows at []) V′ 0 ≡ single v = shifted ∙ simp one-mul (mod-eq-of-lt (single-lt 16 v (omega arith))) in (
         ⊎-elim (λ z. absurd (member-some (single v) v (bit-single-same v) (sym e ∙ z)))
-        (λ w. let same : w .0 ≡ v = single-member v (w .0) (rw (← e, w .1 .own) (bit-single-same (w .0))) in subst (λ (a : ℕ). RowOf n (tableOf n d t) V′ a (getD rows at [])) same (w .1))
-        (kept .kept), record { same = refl; there = refl; others = λ k s. refl })
+            (λ w. let same : w .0 ≡ v = single-member v (w .0) (rw (← e, w .1 .own) (bit-single-same (w .0))) in subst (λ (a : ℕ). RowOf n (tableOf n d t) V′ a (getD rows at [])) same (w .1))
+            (kept .kept),
+        record { same = refl; there = refl; others = λ k s. refl },
+      )
 
   -- Another is put there.
   pub row-put : (row : List ℕ) → RowOf n (tableOf n d t) V′ v row → Rowed n d t V′ v at rows (set rows at row)
   row-put row made = (
     rw (getD-set-same rows at row [] (kept .inside)) made,
-    record { same = length-set rows at row; there = refl; others = λ k s. getD-set-other rows at k row [] s })
+    record { same = length-set rows at row; there = refl; others = λ k s. getD-set-other rows at k row [] s },
+  )
 
 -- At the start no row has anything.
 pub rows-none : (width n d : ℕ) (t : List ℕ) → Rows width n d t (replicate (32 * width) (replicate {A = ℕ} 32 0))

@@ -56,9 +56,10 @@ returns c =
     let low = c .before .before .before .before .lowest .ensures in
     let row = c .before .before .row .ensures in
     let inside = found-inside _ _ _ _ (k .0) (k .1 .0) (k .1 .1 .0) _ _ _ _ _ beyond least refl its low in
-    let place = its-place _ _ _ _ _ inside in
-    (found-is _ _ _ _ (k .0) (k .1 .0) (k .1 .1 .0) _ _ _ _ _ beyond least refl its low _ _ (row .0) (c .loses .ensures),
-    row-more _ _ _ _ _ _ _ (k .1 .1 .1) (place .0) (place .1) _ _ _ (row .0) (row .1))
+    let place = its-place _ _ _ _ _ inside in (
+      found-is _ _ _ _ (k .0) (k .1 .0) (k .1 .1 .0) _ _ _ _ _ beyond least refl its low _ _ (row .0) (c .loses .ensures),
+      row-more _ _ _ _ _ _ _ (k .1 .1 .1) (place .0) (place .1) _ _ _ (row .0) (row .1),
+    )
 
 pub look-spec : {M : Type 1} → statement M
 look-spec =
