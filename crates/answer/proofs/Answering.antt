@@ -36,7 +36,8 @@ use Rattle.answer.specs.Work.Lending.{Lends}
 use Rattle.answer.specs.declared.text.Text.{Text}
 
 -- What load refuses is the same for the lengths that are lent and those that the file asks for.
-pub same-refusal : (file : List ℕ) (domains tables agenda : ℕ) → Lends file domains tables agenda → loadRefusal file domains tables agenda ≡ refusalOfLoad file
+pub same-refusal : (file : List ℕ) (domains tables agenda : ℕ) → Lends file domains tables agenda
+    → loadRefusal file domains tables agenda ≡ refusalOfLoad file
 unfolding loadRefusal refusalOfLoad
 same-refusal file domains tables agenda lends = elim (ℕ-discrete (refusalOfFile file) 0) [
   | no h ↦ rw (ne-eqb (refusalOfFile file) 0 h) refl
@@ -77,14 +78,18 @@ unfolding textFrom textOf
 from-stopped n after ran x verdict stack steps checks refusal = rw (verdict, stack, steps, checks, refusal) refl
 
 -- A chooser that stops solved was not refused.
-chooser-solved : (p : Problem) (room limit : ℕ) (s : Search) → verdictOf (p .n) (choose p room limit s .search .stack) ≡ Solved → choose p room limit s .refusal ≡ 0
+chooser-solved : (p : Problem) (room limit : ℕ) (s : Search) → verdictOf (p .n) (choose p room limit s .search .stack) ≡ Solved
+    → choose p room limit s .refusal ≡ 0
 chooser-solved p room limit s e =
     let x : Stopped = run p room (picks p room limit s) s in
     let is : choose p room limit s ≡ x = picks-run p room limit s in
     ap (λ y. y .refusal) is ∙ elim (stops p room (picks p room limit s) s .1) [
       | inl finished ↦ finished .refusal
       | inr more ↦ elim more [
-        | inl refused ↦ absurd (let two = ap numberOf (sym (ap (λ y. verdictOf (p .n) (y .search .stack)) is) ∙ e) in let one = refused .verdict in omega (arith, two, one))
+        | inl refused ↦
+            absurd
+            (let two = ap numberOf (sym (ap (λ y. verdictOf (p .n) (y .search .stack)) is) ∙ e) in let one = refused .verdict in omega
+            (arith, two, one))
         | inr ended ↦ ended .refusal
       ]
     ]
@@ -111,7 +116,8 @@ module _ (file domains domains′ tables tables′ agenda agenda′ : List ℕ) 
 
   slots : slotsIn (l .n) (length agenda′) ≡ 512
   slots =
-      let words : length agenda′ ≡ 512 * (l .n + 2) = left .length-kept ∙ lends .its-agenda (rw (← left .its-n) few) ∙ ap (λ n. 512 * (n + 2)) (sym (left .its-n)) in
+      let words : length agenda′ ≡ 512 * (l .n + 2) = left .length-kept ∙ lends .its-agenda (rw (← left .its-n) few) ∙ ap (λ n. 512 * (n + 2))
+      (sym (left .its-n)) in
       ap (λ w. w / (l .n + 2)) words ∙ mul-div-cancel 512 (omega arith)
 
   same : stopped ≡ ranOf file
@@ -120,7 +126,8 @@ module _ (file domains domains′ tables tables′ agenda agenda′ : List ℕ) 
       ap (choose (problemOf (l .n) (l .d) domains′ tables′) (slotsIn (l .n) (length agenda′)) 1000000) (left .search)
       ∙ ap (λ k. choose (problemOf (l .n) (l .d) domains′ tables′) k 1000000 (saidSearch file)) slots
       ∙ ap (λ p. choose p 512 1000000 (saidSearch file))
-      (let problem : problemOf (l .n) (l .d) domains′ tables′ ≡ loadedProblem file = rw (left .its-n, left .its-d, left .its-domains, left .its-tables) refl in problem)
+      (let problem : problemOf (l .n) (l .d) domains′ tables′ ≡ loadedProblem file = rw (left .its-n, left .its-d, left .its-domains, left .its-tables)
+      refl in problem)
 
   stack : stackOf (l .n) after (ran .state .subproblems) ≡ stopped .search .stack
   stack = ap (λ x. x .stack) (leaves .search)
@@ -177,7 +184,8 @@ module _ (file domains domains′ tables tables′ agenda agenda′ : List ℕ) 
   pub chosen-refusal : ran .refusal < 2 ^ 64
   unfolding stopped
   chosen-refusal =
-      let known = chooser-refusals (problemOf (l .n) (l .d) domains′ tables′) (slotsIn (l .n) (length agenda′)) 1000000 (searchOf (l .n) agenda′ (l .state))
+      let known = chooser-refusals (problemOf (l .n) (l .d) domains′ tables′) (slotsIn (l .n) (length agenda′)) 1000000
+      (searchOf (l .n) agenda′ (l .state))
       (handed-passes (l .n) (l .d) domains′ tables′ agenda′ (l .state) (left .handed)) in
       rw refusal (elim known [ inl e ↦ rw e (omega arith) | inr more ↦ elim more [ inl e ↦ rw e (omega arith) | inr e ↦ rw e (omega arith) ] ])
 
@@ -186,4 +194,5 @@ module _ (file domains domains′ tables tables′ agenda agenda′ : List ℕ) 
   unfolding stopped
   solved-taken e =
       refusal
-      ∙ chooser-solved (problemOf (l .n) (l .d) domains′ tables′) (slotsIn (l .n) (length agenda′)) 1000000 (searchOf (l .n) agenda′ (l .state)) (sym verdict ∙ e)
+      ∙ chooser-solved (problemOf (l .n) (l .d) domains′ tables′) (slotsIn (l .n) (length agenda′)) 1000000 (searchOf (l .n) agenda′ (l .state))
+      (sym verdict ∙ e)

@@ -59,7 +59,8 @@ tens (suc k) = 10 * tens k
 digits-within : (k j x : ℕ) → x < tens k → length (decimalOf j x) ≤ suc k
 unfolding decimalOf tens
 digits-within k zero x h = omega arith
-digits-within zero (suc j) x h = subst (λ b. length (cond b ((48 + x) ∷ []) (decimalOf j (x / 10) ++ ((48 + x % 10) ∷ []))) ≤ 1) (sym (lt-ltb x 10 h)) (omega arith)
+digits-within zero (suc j) x h =
+    subst (λ b. length (cond b ((48 + x) ∷ []) (decimalOf j (x / 10) ++ ((48 + x % 10) ∷ []))) ≤ 1) (sym (lt-ltb x 10 h)) (omega arith)
 digits-within (suc k) (suc j) x h = either (ltb x 10) (digits-within k j (x / 10) (let q : x / 10 < tens k = omega (arith, h) in q))
   where
     either : (b : Bool) → length (decimalOf j (x / 10)) ≤ suc k

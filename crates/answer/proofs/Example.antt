@@ -34,7 +34,8 @@ abbrev fresh : Search
 fresh = record { stack = opening 2 printed-domains; steps = 0; checks = 0 }
 
 -- What the chooser makes of it, of any limit that is enough, and its text.
-run-text : (more : ℕ) → textOf 2 (choose (problemOf 2 2 printed-domains printed-tables) 512 (suc (suc (suc more))) fresh) ≡ ascii "solved\nsteps 2 checks 3\n0 0\n1 1\n"
+run-text : (more : ℕ)
+    → textOf 2 (choose (problemOf 2 2 printed-domains printed-tables) 512 (suc (suc (suc more))) fresh) ≡ ascii "solved\nsteps 2 checks 3\n0 0\n1 1\n"
 unfolding textOf wholeText verdictLine countsLine planLines planLine decimal decimalOf ascii wordOf verdictOf finished chooseFrom chosen fewestOf opening holding
     refusalOfRequest refusalOfTop refusalOf refused-7 refused-8 refused-9 refused-10 bad someBad allSame step splitTop pieces filled named keep below
     forwardChecking idc instantiate without cutBeside forbids instantiatedOther forbidden precluded disjunct changed empty some every allInstantiated

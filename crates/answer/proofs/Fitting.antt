@@ -58,7 +58,8 @@ module _ (file : List ℕ) (bytes : Bytes file) (whole : refusalOfFile file ≡ 
 
   counts : length two ≤ 66
   counts =
-      let small = chosen-counts file (c .domains) (c .domains′) (c .tables) (c .tables′) (c .agenda) (c .agenda′) (c .loaded) (c .after) (c .ran) bytes (lends file c)
+      let small = chosen-counts file (c .domains) (c .domains′) (c .tables) (c .tables′) (c .agenda) (c .agenda′) (c .loaded) (c .after) (c .ran)
+      bytes (lends file c)
       (c .loads) accepted (c .chooses) in
       both-short (verdictLine (c .ran .verdict)) (countsLine (c .ran .state .counts .steps .0) (c .ran .state .counts .checks .0)) 11 55
       (verdict-short (c .ran .verdict)) (counts-short (c .ran .state .counts .steps .0) (c .ran .state .counts .checks .0) (small .0) (small .1))
@@ -72,7 +73,8 @@ module _ (file : List ℕ) (bytes : Bytes file) (whole : refusalOfFile file ≡ 
         omega (arith, is, short)
     | no h ↦
         let is = ap length (of-refusal file bytes c accepted h) in
-        let small = chosen-refusal file (c .domains) (c .domains′) (c .tables) (c .tables′) (c .agenda) (c .agenda′) (c .loaded) (c .after) (c .ran) bytes (lends file c)
+        let small = chosen-refusal file (c .domains) (c .domains′) (c .tables) (c .tables′) (c .agenda) (c .agenda′) (c .loaded) (c .after) (c .ran)
+        bytes (lends file c)
         (c .loads) accepted (c .chooses) in
         let short = both-short two (refusedLine (c .ran .refusal)) 66 29 counts (refused-short (c .ran .refusal) small) in
         omega (arith, is, short)

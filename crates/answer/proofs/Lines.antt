@@ -35,7 +35,8 @@ slot-domain n words i long h =
     List·getD-append (take n words) (replicate (32 - n) 0) 0 i (omega (arith, full, h)) ∙ getD-take n words i 0 h
 
 -- The lines of the top slot's masks are those of the top.
-pub top-lines : (n k : ℕ) (agenda masks : List ℕ) → masks ≡ take ((k * (n + 2) + n) - k * (n + 2)) (drop (k * (n + 2)) agenda) → k * (n + 2) + (n + 2) ≤ length agenda
+pub top-lines : (n k : ℕ) (agenda masks : List ℕ) → masks ≡ take ((k * (n + 2) + n) - k * (n + 2)) (drop (k * (n + 2)) agenda)
+    → k * (n + 2) + (n + 2) ≤ length agenda
     → valueLines (length masks) masks ≡ planOf n (λ i. lowest (domain (subproblemOf n (slotAt n agenda k)) i))
 unfolding slotAt
 top-lines n k agenda masks made within =
@@ -43,7 +44,8 @@ top-lines n k agenda masks made within =
     made ∙ ap (λ w. take w (drop (k * (n + 2)) agenda)) (let e : (k * (n + 2) + n) - k * (n + 2) ≡ n = omega arith in e) in
     let rest : length (drop (k * (n + 2)) agenda) ≡ length agenda - k * (n + 2) = length-drop (k * (n + 2)) agenda in
     let long : length masks ≡ n = ap length is ∙ length-take-le n (drop (k * (n + 2)) agenda) (omega (arith, rest, within)) in
-    let slot : length (take (n + 2) (drop (k * (n + 2)) agenda)) ≡ n + 2 = length-take-le (n + 2) (drop (k * (n + 2)) agenda) (omega (arith, rest, within)) in
+    let slot : length (take (n + 2) (drop (k * (n + 2)) agenda)) ≡ n + 2 = length-take-le (n + 2) (drop (k * (n + 2)) agenda)
+    (omega (arith, rest, within)) in
     ap (λ m. valueLines m masks) long ∙ lines-each n masks
     ∙ each-same (λ i. planLine i (lowest (getD masks i 0))) (λ i. planLine i (lowest (domain (subproblemOf n (slotAt n agenda k)) i))) n
     (λ i h. ap (λ m. planLine i (lowest m))

@@ -51,7 +51,13 @@ as-lent : (file : List ℕ) → refusalOfLoad file
     ≡ loadRefusal file (length (replicate {A = ℕ} (saidN file) 0)) (length (replicate {A = ℕ} (saidN file * saidN file * saidD file) 0))
     (length (replicate {A = ℕ} (512 * (saidN file + 2)) 0))
 unfolding refusalOfLoad
-as-lent file = rw (length-replicate {A = ℕ} (saidN file) 0, length-replicate {A = ℕ} (saidN file * saidN file * saidD file) 0, length-replicate {A = ℕ} (512 * (saidN file + 2)) 0) refl
+as-lent file =
+    rw (
+      length-replicate {A = ℕ} (saidN file) 0,
+      length-replicate {A = ℕ} (saidN file * saidN file * saidD file) 0,
+      length-replicate {A = ℕ} (512 * (saidN file + 2)) 0,
+    )
+    refl
 
 -- The text of a refusal is its line.
 refused-text : (file : List ℕ) (k : ℕ) → refusalOfLoad file ≡ k → (k ≡ 0 → ⊥) → answer file ≡ refusedLine k
@@ -68,12 +74,16 @@ line-15 = refl
 
 pub says-14 : (file : List ℕ) → Deserves-14 file → answer file ≡ ascii "refused 14\n"
 says-14 file h =
-    refused-text file 14 (as-lent file ∙ load-14 file (replicate (saidN file) 0) (replicate (saidN file * saidN file * saidD file) 0) (replicate (512 * (saidN file + 2)) 0) .1 h)
+    refused-text file 14
+    (as-lent file ∙ load-14 file (replicate (saidN file) 0) (replicate (saidN file * saidN file * saidD file) 0) (replicate (512 * (saidN file + 2)) 0)
+    .1 h)
     (λ e. omega (arith, e)) ∙ line-14
 
 pub says-15 : (file : List ℕ) → (Deserves-14 file → ⊥) → Deserves-15 file → answer file ≡ ascii "refused 15\n"
 says-15 file g h =
-    refused-text file 15 (as-lent file ∙ load-15 file (replicate (saidN file) 0) (replicate (saidN file * saidN file * saidD file) 0) (replicate (512 * (saidN file + 2)) 0) .1 (g, h))
+    refused-text file 15
+    (as-lent file ∙ load-15 file (replicate (saidN file) 0) (replicate (saidN file * saidN file * saidD file) 0) (replicate (512 * (saidN file + 2)) 0)
+    .1 (g, h))
     (λ e. omega (arith, e)) ∙ line-15
 
 pub not-refused : (file : List ℕ) → (Deserves-14 file → ⊥) → (Deserves-15 file → ⊥) → refusalOfLoad file ≡ 0
@@ -139,7 +149,8 @@ of-calls file bytes c = (of-refused file c, of-run file bytes c)
 module _ (file : List ℕ) (bytes : Bytes file) (c : Calls file) (accepted : c .loaded .refusal ≡ 0) where
   pub of-refusal : (c .ran .refusal ≡ 0 → ⊥)
       → answer file
-      ≡ verdictLine (c .ran .verdict) ++ countsLine (c .ran .state .counts .steps .0) (c .ran .state .counts .checks .0) ++ refusedLine (c .ran .refusal)
+      ≡ verdictLine (c .ran .verdict) ++ countsLine (c .ran .state .counts .steps .0) (c .ran .state .counts .checks .0) ++ refusedLine
+      (c .ran .refusal)
   of-refusal refused = of-run file bytes c accepted ∙ from-refusal (saidN file) (c .after) (c .ran) refused
 
   pub of-lines : c .ran .refusal ≡ 0
@@ -220,7 +231,8 @@ refused-first : (k : ℕ) (rest : List ℕ) → getD (refusedLine k ++ rest) 0 0
 unfolding refusedLine ascii
 refused-first k rest = refl
 
-verdict-first : (v : Verdict) (l a b : List ℕ) (k : ℕ) → l ≡ verdictLine v ++ a ++ b → getD l 0 0 ≡ k → (k ≡ 115 → v ≡ Solved) × (k ≡ 117 → v ≡ Unsolvable)
+verdict-first : (v : Verdict) (l a b : List ℕ) (k : ℕ) → l ≡ verdictLine v ++ a ++ b → getD l 0 0 ≡ k
+    → (k ≡ 115 → v ≡ Solved) × (k ≡ 117 → v ≡ Unsolvable)
 unfolding verdictLine wordOf ascii
 verdict-first v l a b k is e = by v (sym (ap (λ m. getD m 0 0) is) ∙ e)
   where
@@ -235,7 +247,11 @@ module _ (file : List ℕ) (bytes : Bytes file) (c : Calls file) (k : ℕ) (firs
   pub taken-in : c .loaded .refusal ≡ 0
   taken-in = elim (ℕ-discrete (c .loaded .refusal) 0) [
     | yes e ↦ e
-    | no h ↦ absurd (other (sym first ∙ ap (λ l. getD l 0 0) (of-refused file c h ∙ sym (append-nil (refusedLine (c .loaded .refusal)))) ∙ refused-first (c .loaded .refusal) []))
+    | no h ↦
+        absurd
+        (other
+        (sym first ∙ ap (λ l. getD l 0 0) (of-refused file c h ∙ sym (append-nil (refusedLine (c .loaded .refusal)))) ∙ refused-first
+        (c .loaded .refusal) []))
   ]
 
   pub its-verdict : (k ≡ 115 → c .ran .verdict ≡ Solved) × (k ≡ 117 → c .ran .verdict ≡ Unsolvable)
@@ -270,12 +286,14 @@ module _ (file : List ℕ) (bytes : Bytes file) (rest : List ℕ) (solved : answ
 
   none : c .ran .refusal ≡ 0
   none =
-      solved-taken file (c .domains) (c .domains′) (c .tables) (c .tables′) (c .agenda) (c .agenda′) (c .loaded) (c .after) (c .ran) bytes (lends file c) (c .loads)
+      solved-taken file (c .domains) (c .domains′) (c .tables) (c .tables′) (c .agenda) (c .agenda′) (c .loaded) (c .after) (c .ran) bytes
+      (lends file c) (c .loads)
       accepted (c .chooses) verdict
 
   says : Verdict-says (c .loaded .n) (c .loaded .d) (c .domains′) (c .tables′) (c .after) (c .ran)
   says =
-      chooser-says (c .loaded .n) (c .loaded .d) (c .domains′) (c .tables′) (c .agenda′) (c .after) 1000000 (c .loaded .state) (c .ran) (left .handed) (c .chooses)
+      chooser-says (c .loaded .n) (c .loaded .d) (c .domains′) (c .tables′) (c .agenda′) (c .after) 1000000 (c .loaded .state) (c .ran) (left .handed)
+      (c .chooses)
 
   -- The values are a solution of the problem that the file says.
   in-words : (n d : ℕ) (domains′ tables′ : List ℕ) (f : ℕ → ℕ) → n ≡ saidN file → d ≡ saidD file → domains′ ≡ saidDomains file
@@ -291,9 +309,11 @@ module _ (file : List ℕ) (bytes : Bytes file) (rest : List ℕ) (solved : answ
       → planLines (saidN file) (stackOf (saidN file) (c .after) (c .ran .state .subproblems)) ≡ planOf (saidN file) (λ i. lowest (domain P i))
   unfolding planLines
   top-lines P S e =
-      let stack : stackOf (saidN file) (c .after) (c .ran .state .subproblems) ≡ P ∷ S = ap (λ n. stackOf n (c .after) (c .ran .state .subproblems)) (sym (left .its-n)) ∙ e in
+      let stack : stackOf (saidN file) (c .after) (c .ran .state .subproblems) ≡ P ∷ S = ap (λ n. stackOf n (c .after) (c .ran .state .subproblems))
+      (sym (left .its-n)) ∙ e in
       let solved : verdictOf (saidN file) (P ∷ S) ≡ Solved =
-      ap (verdictOf (saidN file)) (sym stack) ∙ ap (λ n. verdictOf n (stackOf n (c .after) (c .ran .state .subproblems))) (sym (left .its-n)) ∙ sym (says .verdict) ∙ verdict in
+      ap (verdictOf (saidN file)) (sym stack) ∙ ap (λ n. verdictOf n (stackOf n (c .after) (c .ran .state .subproblems))) (sym (left .its-n)) ∙ sym
+      (says .verdict) ∙ verdict in
       rw (stack, solved) refl
 
   pub a-plan : (f : ℕ → ℕ)
@@ -304,15 +324,23 @@ module _ (file : List ℕ) (bytes : Bytes file) (rest : List ℕ) (solved : answ
   a-plan =
       let (P, S, stack, values, solution) = says .solved (ap numberOf verdict) in
       let a = load-taken file (length (c .domains)) (length (c .tables)) (length (c .agenda)) (sym (c .loads .refusal) ∙ accepted) .accepts in
-      let steps = chosen-steps file (c .domains) (c .domains′) (c .tables) (c .tables′) (c .agenda) (c .agenda′) (c .loaded) (c .after) (c .ran) bytes (lends file c) (c .loads) accepted (c .chooses) in
+      let steps = chosen-steps file (c .domains) (c .domains′) (c .tables) (c .tables′) (c .agenda) (c .agenda′) (c .loaded) (c .after) (c .ran) bytes
+      (lends file c) (c .loads) accepted (c .chooses) in
       let checks = chosen-checks file (c .domains) (c .domains′) (c .tables) (c .tables′) (c .agenda) (c .agenda′) (c .loaded) (c .after) (c .ran) bytes (lends file c) (c .loads) accepted (c .chooses) in (
         λ i. lowest (domain P i),
-        of-lines file bytes c accepted none ∙ ap (λ l. verdictLine (c .ran .verdict) ++ countsLine (c .ran .state .counts .steps .0) (c .ran .state .counts .checks .0) ++ l) (top-lines P S stack)
-            ∙ ap (λ v. verdictLine v ++ countsLine (c .ran .state .counts .steps .0) (c .ran .state .counts .checks .0) ++ planOf (saidN file) (λ i. lowest (domain P i))) verdict
+        of-lines file bytes c accepted none ∙ ap
+            (λ l. verdictLine (c .ran .verdict) ++ countsLine (c .ran .state .counts .steps .0) (c .ran .state .counts .checks .0) ++ l)
+            (top-lines P S stack)
+            ∙ ap
+            (λ v. verdictLine v ++ countsLine (c .ran .state .counts .steps .0) (c .ran .state .counts .checks .0) ++ planOf (saidN file)
+            (λ i. lowest (domain P i)))
+            verdict
             ∙ ap (λ k. verdictLine Solved ++ countsLine k (c .ran .state .counts .checks .0) ++ planOf (saidN file) (λ i. lowest (domain P i))) steps
             ∙ ap (λ k. verdictLine Solved ++ countsLine (ranOf file .search .steps) k ++ planOf (saidN file) (λ i. lowest (domain P i))) checks
-            ∙ ap (λ l. l ++ countsLine (ranOf file .search .steps) (ranOf file .search .checks) ++ planOf (saidN file) (λ i. lowest (domain P i))) solved-line,
-        in-words (c .loaded .n) (c .loaded .d) (c .domains′) (c .tables′) (λ i. lowest (domain P i)) (left .its-n) (left .its-d) (left .its-domains) (left .its-tables) a solution,
+            ∙ ap (λ l. l ++ countsLine (ranOf file .search .steps) (ranOf file .search .checks) ++ planOf (saidN file) (λ i. lowest (domain P i)))
+            solved-line,
+        in-words (c .loaded .n) (c .loaded .d) (c .domains′) (c .tables′) (λ i. lowest (domain P i)) (left .its-n) (left .its-d) (left .its-domains)
+            (left .its-tables) a solution,
       )
 
 -- Unsolvable, of a file that save wrote of a search begun by opening.
@@ -334,6 +362,7 @@ no-plan n d domains tables₀ tables agenda s before after saved rest h saves no
     let n-is : c .loaded .n ≡ n = left .its-n ∙ says .its-n in
     let d-is : c .loaded .d ≡ d = left .its-d ∙ says .its-d in
     let domains-are : c .domains′ ≡ domains = left .its-domains ∙ says .its-domains in
-    let chooses : Chooses n d domains (c .tables′) (c .agenda′) (c .after) 1000000 (c .loaded .state) (c .ran) = rw (n-is, d-is, domains-are) at (c .chooses) in
+    let chooses : Chooses n d domains (c .tables′) (c .agenda′) (c .after) 1000000 (c .loaded .state) (c .ran) = rw (n-is, d-is, domains-are) at
+    (c .chooses) in
     unsolvable-choose n d domains tables₀ (c .tables′) (c .agenda′) (c .after) 1000000 (c .loaded .state) (c .ran)
     (Lived.loaded h saves none (c .loads) accepted) chooses (ap numberOf verdict)

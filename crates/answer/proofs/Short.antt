@@ -52,7 +52,8 @@ plan-short : (value : ℕ → ℕ) (n : ℕ) → ((i : ℕ) → value i < 100) �
 plan-short value zero k h = rw (each-none (λ i. planLine i (value i))) (omega arith)
 plan-short value (suc n) k h =
     rw (each-more (λ i. planLine i (value i)) n)
-    (let both = both-short (planOf n value) (planLine n (value n)) (n * 6) 6 (plan-short value n k (omega (arith, h))) (line-short n (value n) (omega (arith, h)) (k n)) in
+    (let both = both-short (planOf n value) (planLine n (value n)) (n * 6) 6 (plan-short value n k (omega (arith, h)))
+    (line-short n (value n) (omega (arith, h)) (k n)) in
     omega (arith, both))
 
 pub plan-room : (value : ℕ → ℕ) (n : ℕ) → ((i : ℕ) → value i < 100) → n ≤ 32 → length (planOf n value) ≤ 400

@@ -33,7 +33,8 @@ adds-byte a b byte h bytes its-length text holds room =
     let long : length (text ++ (byte ∷ [])) ≡ length text + 1 = length-append text (byte ∷ []) in
     let at : a .length ≡ length text = holds .its-length in
     let less : 512 - length text ≡ suc (512 - length (text ++ (byte ∷ []))) = omega (arith, long, room) in
-    let now : b .bytes ≡ set (text ++ replicate (512 - length text) 0) (length text) byte = bytes ∙ ap (λ l. set l (a .length) byte) (holds .bytes) ∙ ap (λ k. set (text ++ replicate (512 - length text) 0) k byte) at in
+    let now : b .bytes ≡ set (text ++ replicate (512 - length text) 0) (length text) byte = bytes ∙ ap (λ l. set l (a .length) byte) (holds .bytes) ∙
+    ap (λ k. set (text ++ replicate (512 - length text) 0) k byte) at in
     record {
       bytes = now ∙ ap (λ k. set (text ++ replicate k 0) (length text) byte) less
           ∙ set-at text 0 (replicate (512 - length (text ++ (byte ∷ []))) 0) byte (length text) refl
@@ -59,7 +60,8 @@ pub adds-word : (a b : Text) (word : List ℕ) (i : ℕ) → i ≡ length word �
 adds-word a b word i e h = adds-same a b (take i word) word (ap (λ k. take k word) e ∙ take-length word) h
 
 -- The next line.
-pub adds-line : (a b c : Text) (masks : List ℕ) (i mask : ℕ) → mask ≡ getD masks i 0 → Adds a (valueLines i masks) b → Adds b (planLine i (lowest mask)) c
+pub adds-line : (a b c : Text) (masks : List ℕ) (i mask : ℕ) → mask ≡ getD masks i 0 → Adds a (valueLines i masks) b
+    → Adds b (planLine i (lowest mask)) c
     → Adds a (valueLines (i + 1) masks) c
 unfolding valueLines
 adds-line a b c masks i mask is before next =

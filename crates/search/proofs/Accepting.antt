@@ -114,12 +114,14 @@ module _ (n d : ℕ) (t : List ℕ) (P : Subproblem) (r : List ℕ) (steps free 
     refused-by-top h = its ∙ rw (ne-eqb steps 4294967295 go-on, ne-eqb (refusalOf n d P r) 0 (λ z. h (its ∙ z))) refl
 
     -- 12.
-    pub refused-at-12 : (b : Bool) → refused ≡ 0 → b ≡ ltb free (length (pieces n (tableOf n d t) P r)) → b ≡ true → 12 ≡ refusalFor n d t P r steps free
+    pub refused-at-12 : (b : Bool) → refused ≡ 0 → b ≡ ltb free (length (pieces n (tableOf n d t) P r)) → b ≡ true
+        → 12 ≡ refusalFor n d t P r steps free
     unfolding refusalFor
     refused-at-12 b h e z = rw (ne-eqb steps 4294967295 go-on, eq-eqb (refusalOf n d P r) 0 (sym its ∙ h), ← e, z) refl
 
     -- None.
-    pub refused-by-none : (b : Bool) → refused ≡ 0 → b ≡ ltb free (length (pieces n (tableOf n d t) P r)) → b ≡ false → 0 ≡ refusalFor n d t P r steps free
+    pub refused-by-none : (b : Bool) → refused ≡ 0 → b ≡ ltb free (length (pieces n (tableOf n d t) P r)) → b ≡ false
+        → 0 ≡ refusalFor n d t P r steps free
     unfolding refusalFor
     refused-by-none b h e z = rw (ne-eqb steps 4294967295 go-on, eq-eqb (refusalOf n d P r) 0 (sym its ∙ h), ← e, z) refl
 
@@ -130,7 +132,8 @@ pub record Unrefused (n d : ℕ) (t : List ℕ) (P : Subproblem) (r : List ℕ) 
   pub room : length (pieces n (tableOf n d t) P r) ≤ free
 
 -- The test of the code tells it.
-pub unrefused : (n d : ℕ) (t : List ℕ) (P : Subproblem) (r : List ℕ) (steps free : ℕ) → refusalFor n d t P r steps free ≡ 0 → Unrefused n d t P r steps free
+pub unrefused : (n d : ℕ) (t : List ℕ) (P : Subproblem) (r : List ℕ) (steps free : ℕ) → refusalFor n d t P r steps free ≡ 0
+    → Unrefused n d t P r steps free
 unfolding refusalFor
 unrefused n d t P r steps free e =
     go (eqb (refusalOf n d P r) 0) refl (then-none (eqb steps 4294967295) 11 _ (λ z. omega arith) e)
@@ -140,6 +143,8 @@ unrefused n d t P r steps free e =
     go true s f = record {
       more = eqb-false steps 4294967295 (not-first (eqb steps 4294967295) 11 _ (λ z. omega arith) e);
       accepted = eqb-true (refusalOf n d P r) 0 s;
-      room = ltb-false free (length (pieces n (tableOf n d t) P r)) (not-first (ltb free (length (pieces n (tableOf n d t) P r))) 12 0 (λ z. omega arith) f);
+      room =
+          ltb-false free (length (pieces n (tableOf n d t) P r))
+          (not-first (ltb free (length (pieces n (tableOf n d t) P r))) 12 0 (λ z. omega arith) f);
     }
     go false s f = absurd (eqb-false (refusalOf n d P r) 0 s f)

@@ -104,7 +104,12 @@ parts-opened : (n d : ℕ) (domains tables agenda : List ℕ) → refusalOfNumbe
     → Opened n d domains tables agenda
 parts-opened n d domains tables agenda a b c =
     let (some, few, small) = numbers-fit n d a in
-    record { few = few; small = small; lengths = lengths-fit n d (length domains) (length tables) (length agenda) b; masks = problem-fits n d domains tables c }
+    record {
+      few = few;
+      small = small;
+      lengths = lengths-fit n d (length domains) (length tables) (length agenda) b;
+      masks = problem-fits n d domains tables c;
+    }
 
 -- The first checks of opening tell it.
 pub opened : (n d : ℕ) (domains tables agenda : List ℕ) → openRefusal n d domains tables agenda ≡ 0 → Opened n d domains tables agenda
@@ -137,7 +142,8 @@ member-obeys : (p : Problem) (S : List Subproblem) → allObey p S ≡ true → 
 unfolding allObey
 member-obeys p [] e P i = absurd (List·Memᴰ·not-nil i)
 member-obeys p (Q ∷ S) e P i =
-    ⊎-elim (λ (s : P ≡ Q). rw s (and-left (obeys p Q) (allObey p S) e)) (λ (j : List·Memᴰ P S). member-obeys p S (and-right (obeys p Q) (allObey p S) e) P j)
+    ⊎-elim (λ (s : P ≡ Q). rw s (and-left (obeys p Q) (allObey p S) e))
+    (λ (j : List·Memᴰ P S). member-obeys p S (and-right (obeys p Q) (allObey p S) e) P j)
     (List·Memᴰ·cases-cons i)
 
 -- An entry of zeros.
@@ -183,7 +189,9 @@ obeys-small : (p : Problem) (P : Subproblem) (i : ℕ) → obeys p P ≡ true �
 unfolding domainObeys
 obeys-small p P i e h s =
     part-lt (p .d) (domain P i) (p .domain i)
-    (minus-part-of (domain P i) (p .domain i) (eqb-true (minus (domain P i) (p .domain i)) 0 (and-right (not (eqb (domain P i) 0)) _ (and-left _ _ (obeys-at p P i e h))))) s
+    (minus-part-of (domain P i) (p .domain i)
+    (eqb-true (minus (domain P i) (p .domain i)) 0 (and-right (not (eqb (domain P i) 0)) _ (and-left _ _ (obeys-at p P i e h)))))
+    s
 
 -- What the first checks of a search tell, besides those of opening.
 record Found (n d : ℕ) (domains tables agenda : List ℕ) (s : State) : Type 0 where
@@ -279,7 +287,8 @@ module _ (n d : ℕ) (domains tables agenda : List ℕ) (s : State) (x : ℕ) (n
       (found n d domains tables agenda s (or-then (openRefusal n d domains tables agenda) _ z)) small stepped
 
   -- Those of a run.
-  pub run-ready : (requests : List ℕ) → x ≡ runRefusal n d domains tables agenda requests (s .counts .steps .0) (s .counts .checks .0) (s .subproblems)
+  pub run-ready : (requests : List ℕ)
+      → x ≡ runRefusal n d domains tables agenda requests (s .counts .steps .0) (s .counts .checks .0) (s .subproblems)
       → Ready n d tables agenda (searchOf n agenda s)
   unfolding runRefusal
   run-ready requests e =

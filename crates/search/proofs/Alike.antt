@@ -34,7 +34,8 @@ module _ (marked : ℕ) (slot other : List ℕ) where
   pub alike-start : (next : ℕ) → Next marked 0 next → AlikeTo marked slot other next
   alike-start next h = record { each = λ j l m. absurd (omega (arith, h .none j (omega arith) l)) }
 
-  pub alike-next : (i next : ℕ) → AlikeTo marked slot other i → getD slot i 0 ≡ getD other i 0 → Next marked (i + 1) next → AlikeTo marked slot other next
+  pub alike-next : (i next : ℕ) → AlikeTo marked slot other i → getD slot i 0 ≡ getD other i 0 → Next marked (i + 1) next
+      → AlikeTo marked slot other next
   alike-next i next so-far e h = record {
     each = λ j l m. elim (decLt j i) [
       | yes k ↦ so-far .each j k m
@@ -52,7 +53,9 @@ pub alike-end : (n i marked its : ℕ) (slot other : List ℕ) → length slot �
 unfolding subproblemOf holding
 alike-end n i marked its slot other long wide e f s past h = record {
   marked = sym e ∙ s ∙ f;
-  domains = λ j l m. sym (slot-domain n slot j (omega arith) l) ∙ h .each j (omega arith) (ap (λ (x : ℕ). bit x j) e ∙ m) ∙ slot-domain n other j (omega arith) l;
+  domains =
+      λ j l m. sym (slot-domain n slot j (omega arith) l) ∙ h .each j (omega arith) (ap (λ (x : ℕ). bit x j) e ∙ m) ∙ slot-domain n other j
+      (omega arith) l;
 }
 
 -- ---- what they tell
@@ -72,7 +75,8 @@ module _ (allowed : Table) (n : ℕ) (P Q : Subproblem) (same : P .marked ≡ Q 
     | yes m ↦
         let rest : every n (λ j. eqb (minus (heldAt Q j) (besideAt allowed Q i j)) 0) ≡ true = rw (is-marked Q (P .marked) i same m) at e in
         rw (is-marked P (P .marked) i refl m)
-        (every-all (λ j. eqb (minus (heldAt P j) (besideAt allowed P i j)) 0) n (λ j l. rw (held-alike j l, alike i h m) (every-at (λ j. eqb (minus (heldAt Q j) (besideAt allowed Q i j)) 0) n j l rest)))
+        (every-all (λ j. eqb (minus (heldAt P j) (besideAt allowed P i j)) 0) n
+        (λ j l. rw (held-alike j l, alike i h m) (every-at (λ j. eqb (minus (heldAt Q j) (besideAt allowed Q i j)) 0) n j l rest)))
     | no m ↦ mark-none n allowed P i (omega (arith, bit-le (P .marked) i))
   ]
 

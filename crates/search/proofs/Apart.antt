@@ -56,8 +56,19 @@ module _ (n d : ℕ) (domains : List ℕ) where
   apart-5 : (s t : List ℕ) → AgreeApart n d s t → Deserves-5 (problem s) → Deserves-5 (problem t)
   apart-5 s t h x =
       let one = h .masks (x .0) (x .1) (x .2) (x .4) (x .5) (x .6) (x .7) in
-      let two = h .masks (x .1) (x .0) (x .3) (x .5) (x .4) (λ e. x .6 (sym e)) (x .8) in
-      (x .0, x .1, x .2, x .3, x .4, x .5, x .6, x .7, x .8, subst (λ (m : ℕ). x .3 ∈ m) one (x .9), (λ k. x .10 (subst (λ (m : ℕ). x .2 ∈ m) (sym two) k)))
+      let two = h .masks (x .1) (x .0) (x .3) (x .5) (x .4) (λ e. x .6 (sym e)) (x .8) in (
+        x .0,
+        x .1,
+        x .2,
+        x .3,
+        x .4,
+        x .5,
+        x .6,
+        x .7,
+        x .8,
+        subst (λ (m : ℕ). x .3 ∈ m) one (x .9),
+        (λ k. x .10 (subst (λ (m : ℕ). x .2 ∈ m) (sym two) k)),
+      )
 
   -- a subproblem that obeys the rules of one obeys those of the other
   apart-rules : (s t : List ℕ) → AgreeApart n d s t → Proper (problem s) → (P : Subproblem) → Rules (problem s) P → Rules (problem t) P

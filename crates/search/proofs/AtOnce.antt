@@ -157,7 +157,8 @@ module _ (n d : ℕ) (P : Subproblem) (few : n ≤ 32) (small : d ≤ 16) (reg :
     pub least-is : k ≡ size (domain P V′) * 32 + V′
     least-is =
         let most : k ≤ size (domain P V′) * 32 + V′ = rw own-key at (at-most V′ (omega (arith, its .variable))) in
-        ⊎-elim (λ (z : k ≡ 2047). absurd (omega (arith, few-values V′, its .variable))) (λ w. omega (arith, below-own (w .0) (w .1) (w .2))) (least .some)
+        ⊎-elim (λ (z : k ≡ 2047). absurd (omega (arith, few-values V′, its .variable))) (λ w. omega (arith, below-own (w .0) (w .1) (w .2)))
+        (least .some)
 
   -- The values past the n variables are none, and without those of V they are those of the others.
   past-none : (j : ℕ) → total (n + j) (λ i. size (domain P i)) ≡ total n (λ i. size (domain P i))

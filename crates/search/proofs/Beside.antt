@@ -28,7 +28,8 @@ module _ (allowed : Table) (V′ v : ℕ) where
   begun-none row e = record { long = e; each = λ i l f. absurd (omega arith) }
 
   -- One more.
-  pub begun-more : (row : List ℕ) (j a : ℕ) → Begun allowed V′ v j row → j < 32 → ((V′ ≡ j → ⊥) → a ≡ allowed V′ j v) → Begun allowed V′ v (j + 1) (set row j a)
+  pub begun-more : (row : List ℕ) (j a : ℕ) → Begun allowed V′ v j row → j < 32 → ((V′ ≡ j → ⊥) → a ≡ allowed V′ j v)
+      → Begun allowed V′ v (j + 1) (set row j a)
   begun-more row j a b h e = record {
     long = length-set row j a ∙ b .long;
     each = λ i l f. elim (ℕ-discrete i j) [
@@ -65,7 +66,8 @@ module _ (width n d : ℕ) (t : List ℕ) (rows : List (List ℕ)) (V′ at : �
 
 -- The place of value v of V, of 16 for each.
 pub its-place : (n d : ℕ) (t : List ℕ) (V′ v : ℕ) → Inside n d t V′ v → (V′ * 16 + v < 32 * 16) × ((V′ * 16 + v) / 16 ≡ V′)
-its-place n d t V′ v inside = (omega (arith, inside .a-variable, inside .a-value, inside .fit .few, inside .fit .small), omega (arith, inside .a-value, inside .fit .small))
+its-place n d t V′ v inside =
+    (omega (arith, inside .a-variable, inside .a-value, inside .fit .few, inside .fit .small), omega (arith, inside .a-value, inside .fit .small))
 
 -- The row of v of V is what stands at a place, and the rows are as before but for that.
 abbrev pub Rowed : ℕ → ℕ → List ℕ → ℕ → ℕ → ℕ → List (List ℕ) → List (List ℕ) → Type 0
@@ -77,7 +79,8 @@ module _ (n d : ℕ) (t : List ℕ) (V′ v at : ℕ) (rows : List (List ℕ)) (
   row-there a-value small shifted =
       let e : getD (getD rows at []) V′ 0 ≡ single v = shifted ∙ simp one-mul (mod-eq-of-lt (single-lt 16 v (omega arith))) in (
         ⊎-elim (λ z. absurd (member-some (single v) v (bit-single-same v) (sym e ∙ z)))
-            (λ w. let same : w .0 ≡ v = single-member v (w .0) (rw (← e, w .1 .own) (bit-single-same (w .0))) in subst (λ (a : ℕ). RowOf n (tableOf n d t) V′ a (getD rows at [])) same (w .1))
+            (λ w. let same : w .0 ≡ v = single-member v (w .0) (rw (← e, w .1 .own) (bit-single-same (w .0))) in subst
+            (λ (a : ℕ). RowOf n (tableOf n d t) V′ a (getD rows at [])) same (w .1))
             (kept .kept),
         record { same = refl; there = refl; others = λ k s. refl },
       )
@@ -93,5 +96,7 @@ module _ (n d : ℕ) (t : List ℕ) (V′ v at : ℕ) (rows : List (List ℕ)) (
 pub rows-none : (width n d : ℕ) (t : List ℕ) → Rows width n d t (replicate (32 * width) (replicate {A = ℕ} 32 0))
 rows-none width n d t = record {
   long = length-replicate (32 * width) (replicate {A = ℕ} 32 0);
-  each = λ k h. inl (ap (λ (row : List ℕ). getD row (k / width) 0) (getD-replicate (32 * width) k (replicate {A = ℕ} 32 0) [] h) ∙ zeros-at 32 (k / width));
+  each =
+      λ k h. inl
+      (ap (λ (row : List ℕ). getD row (k / width) 0) (getD-replicate (32 * width) k (replicate {A = ℕ} 32 0) [] h) ∙ zeros-at 32 (k / width));
 }

@@ -51,7 +51,8 @@ module _ (n : ℕ) where
   unfolding filled keep one
   filled-more Q l = go (empty n Q)
     where
-      go : (b : Bool) → cond (not b) (Q ∷ keep (λ Q. not (empty n Q)) l) (keep (λ Q. not (empty n Q)) l) ≡ cond b [] (Q ∷ []) ++ keep (λ Q. not (empty n Q)) l
+      go : (b : Bool)
+          → cond (not b) (Q ∷ keep (λ Q. not (empty n Q)) l) (keep (λ Q. not (empty n Q)) l) ≡ cond b [] (Q ∷ []) ++ keep (λ Q. not (empty n Q)) l
       go true = refl
       go false = refl
 
@@ -111,7 +112,8 @@ module _ (n : ℕ) where
       one-empty (cut P V′ 0) (sym (empty-at n (cut P V′ 0) V′ h (written (P .domains) V′ (common (domain P V′) 0) e h k ∙ common-none (domain P V′))))
 
   -- A variable at its target already has an empty piece.
-  same-none : (P : Subproblem) (r : List ℕ) (j : ℕ) → length (P .domains) ≡ 32 → j < n → n ≤ 32 → targetOf r j ≡ domain P j → one n (extract P r j) ≡ []
+  same-none : (P : Subproblem) (r : List ℕ) (j : ℕ) → length (P .domains) ≡ 32 → j < n → n ≤ 32 → targetOf r j ≡ domain P j
+      → one n (extract P r j) ≡ []
   unfolding extract without atTargets
   same-none P r j e h k s =
       let front : List ℕ = changed j (λ i m. targetOf r i) (P .domains) in
@@ -160,7 +162,8 @@ module _ (n d : ℕ) (t : List ℕ) (P : Subproblem) (r : List ℕ) (fits : read
           (filled-one n (without P (variableOf r) (single (valueOf r))) ∙ sym (firsts-two n (candidate n (tableOf n d t) P r)
           ∙ rw (zeroth, first, cut-none n P (variableOf r) long (below-n (inl e)) low) refl))
       go false s =
-          by-two (instantiate P (variableOf r) (valueOf r)) (without P (variableOf r) (single (valueOf r))) (rw (e, s) refl) (rw e refl) (rw (e, s) refl) (rw e refl)
+          by-two (instantiate P (variableOf r) (valueOf r)) (without P (variableOf r) (single (valueOf r))) (rw (e, s) refl) (rw e refl)
+          (rw (e, s) refl) (rw e refl)
 
   -- Forward checking.
   of-2 : kindOf r ≡ 2 → Same

@@ -28,7 +28,8 @@ each C (y ∷ l) h = each-more C y l (h .0) (each C l (h .1))
 -- Each case by computation.
 pub computed : All Ends-so cases
 unfolding cases joins opening holding runFrom finished refusalOfRequest refusalOfTop refusalOf refused-7 refused-8 refused-9 refused-10 bad someBad
-    allSame step splitTop pieces named keep below backtracking forwardChecking idc halving extraction instantiate without cut cutBeside atTargets forbids
+    allSame step splitTop pieces named keep below backtracking forwardChecking idc halving extraction instantiate without cut cutBeside atTargets
+    forbids
     instantiatedOther forbidden precluded disjunct extract changed empty some every allInstantiated smallest smallerHalf minus bit ones onesIn
     trailingZeros checks lookedAt others tried valuesIn total possibilities product verdictOf
 computed = (

@@ -37,11 +37,16 @@ unfolding fewestOf every
 found n P zero h = inr (refl, refl)
 found n P (suc i) h = go (eqb (bit (P .marked) i) 0) refl (found n P i (omega arith))
   where
-    go : (b : Bool) → eqb (bit (P .marked) i) 0 ≡ b → (fewestOf n P i < n) ⊎ ((fewestOf n P i ≡ n) × (every i (λ j. eqb (bit (P .marked) j) 1) ≡ true))
+    go : (b : Bool) → eqb (bit (P .marked) i) 0 ≡ b
+        → (fewestOf n P i < n) ⊎ ((fewestOf n P i ≡ n) × (every i (λ j. eqb (bit (P .marked) j) 1) ≡ true))
         → (fewestOf n P (suc i) < n) ⊎ ((fewestOf n P (suc i) ≡ n) × (every (suc i) (λ j. eqb (bit (P .marked) j) 1) ≡ true))
-    go b e (inl f) = inl (under (eqb (bit (P .marked) i) 0 && (eqb (fewestOf n P i) n || ltb (size (domain P i)) (size (domain P (fewestOf n P i))))) i (fewestOf n P i) n h f)
+    go b e (inl f) =
+        inl
+        (under (eqb (bit (P .marked) i) 0 && (eqb (fewestOf n P i) n || ltb (size (domain P i)) (size (domain P (fewestOf n P i))))) i (fewestOf n P i)
+        n h f)
     go true e (inr (q, a)) = inl (rw (e, eq-eqb (fewestOf n P i) n q) (omega arith))
-    go false e (inr (q, a)) = inr (rw e q, rw a (eq-eqb (bit (P .marked) i) 1 (omega (arith, bit-le (P .marked) i, eqb-false (bit (P .marked) i) 0 e))))
+    go false e (inr (q, a)) =
+        inr (rw e q, rw a (eq-eqb (bit (P .marked) i) 1 (omega (arith, bit-le (P .marked) i, eqb-false (bit (P .marked) i) 0 e))))
 
 -- The variable is one of the n, where not all are instantiated.
 pub variable-below : (n : ℕ) (P : Subproblem) → allInstantiated n P ≡ false → fewest n P < n

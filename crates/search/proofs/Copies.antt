@@ -73,7 +73,8 @@ unfolding splice
 splice-cover l z ws a h k =
     let front : length (take a l) ≡ a = length-take-le a l (omega arith) in
     let seam : length (take a l ++ z) ≡ a + length z = simp length-append (omega arith) in
-    let whole : take a l ++ (z ++ drop (a + length z) l) ≡ (take a l ++ z) ++ drop (a + length z) l = sym (append-assoc (take a l) z (drop (a + length z) l)) in
+    let whole : take a l ++ (z ++ drop (a + length z) l) ≡ (take a l ++ z) ++ drop (a + length z) l = sym
+    (append-assoc (take a l) z (drop (a + length z) l)) in
     let more : a + length ws ≡ (a + length z) + (length ws - length z) = omega arith in
     let back : drop (a + length ws) (take a l ++ (z ++ drop (a + length z) l)) ≡ drop (a + length ws) l =
     ap (λ (j : ℕ). drop j (take a l ++ (z ++ drop (a + length z) l))) more

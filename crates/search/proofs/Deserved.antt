@@ -116,7 +116,8 @@ refutes-4 p =
     let mask : ℕ → ℕ → ℕ → Bool = λ i j a. ltb (p .allowed i j a) (2 ^ p .d) in
     let Pair : ℕ → ℕ → Type 0 = λ i j. (i ≡ j → ⊥) × ((a : ℕ) × (a < p .d) × Mask i j a) in
     let pair : ℕ → ℕ → Bool = λ i j. eqb i j || every (p .d) (mask i j) in
-    let domains = refutes-every (λ i. ltb (p .domain i) (2 ^ p .d)) (λ i. Over (p .d) (p .domain i)) (p .n) (λ i h. refutes-over (p .d) (p .domain i)) in
+    let domains = refutes-every (λ i. ltb (p .domain i) (2 ^ p .d)) (λ i. Over (p .d) (p .domain i)) (p .n) (λ i h. refutes-over (p .d) (p .domain i))
+    in
     let tables = refutes-every (λ i. every (p .n) (pair i)) (λ i. (j : ℕ) × (j < p .n) × Pair i j) (p .n)
     (λ i h. refutes-every (pair i) (Pair i) (p .n)
     (λ j k. refutes-or (eqb i j) (every (p .d) (mask i j)) (i ≡ j → ⊥) ((a : ℕ) × (a < p .d) × Mask i j a) (refutes-eq i j)
@@ -248,7 +249,8 @@ rules-of p P proper e =
     let sound : (i : ℕ) → i < p .n → Sound p P i =
     λ i h. domain-true p P i (every-at (domainObeys p P) (p .n) i h (and-left domains values both)) in
     let agree : (i j : ℕ) → i < p .n → j < p .n → valuesAgree p P i j ≡ true =
-    λ i j h k. every-at (valuesAgree p P i) (p .n) j k (every-at (λ i. every (p .n) (valuesAgree p P i)) (p .n) i h (and-right domains values both)) in
+    λ i j h k. every-at (valuesAgree p P i) (p .n) j k (every-at (λ i. every (p .n) (valuesAgree p P i)) (p .n) i h (and-right domains values both))
+    in
     let less : P .marked < 2 ^ p .n = ltb-true (P .marked) (2 ^ p .n) (and-right (domains && values) marks e) in
     record {
       filled = λ i h. sound i h .filled;

@@ -66,21 +66,25 @@ module _ (n d : ℕ) (t : List ℕ) (P : Subproblem) (c : Choice) (below words :
     module _ (agenda : List ℕ) (long : length (Q .domains) ≡ 32) (e : agenda ≡ splice before (below * (n + 2)) (slotWords n Q)) (same : length agenda ≡ length before) where
       one : Gathered n d t P r before below agenda (below + 1) 1
       one =
-          gather-keep n d t P r (put-reads n d t P c below words h 2 (inl refl)) before below before below 2 start 2 two-named (omega arith) (omega arith) Q rest-piece false rest-kept refl
+          gather-keep n d t P r (put-reads n d t P c below words h 2 (inl refl)) before below before below 2 start 2 two-named (omega arith)
+          (omega arith) Q rest-piece false rest-kept refl
           agenda (h .fitting .few) (rw whole room) long e same
 
       -- A slot for the second, and both placed.
       pub two-slot : SlotIn n (below + 1) (length agenda)
       two-slot =
-          gather-slot n d t P r (put-reads n d t P c below words h 2 (inl refl)) before below agenda (below + 1) 1 one 2 two-named (omega arith) (omega arith) R first-piece false first-kept refl
+          gather-slot n d t P r (put-reads n d t P c below words h 2 (inl refl)) before below agenda (below + 1) 1 one 2 two-named (omega arith)
+          (omega arith) R first-piece false first-kept refl
           (h .fitting .few) (rw whole room)
 
-      pub two-end : (after : List ℕ) → length (R .domains) ≡ 32 → after ≡ splice agenda ((below + 1) * (n + 2)) (slotWords n R) → length after ≡ length agenda
+      pub two-end : (after : List ℕ) → length (R .domains) ≡ 32 → after ≡ splice agenda ((below + 1) * (n + 2)) (slotWords n R)
+          → length after ≡ length agenda
           → Replaced n (pieces n (tableOf n d t) P r) below before after (below + 2)
       two-end after l w m =
           subst (λ (k : ℕ). Replaced n (pieces n (tableOf n d t) P r) below before after k) (omega arith)
           (gather-replaced n d t P r (put-reads n d t P c below words h 2 (inl refl)) before below after (below + 1 + 1) 0
-          (gather-keep n d t P r (put-reads n d t P c below words h 2 (inl refl)) before below agenda (below + 1) 1 one 2 two-named (omega arith) (omega arith) R first-piece false first-kept refl
+          (gather-keep n d t P r (put-reads n d t P c below words h 2 (inl refl)) before below agenda (below + 1) 1 one 2 two-named (omega arith)
+          (omega arith) R first-piece false first-kept refl
           after (h .fitting .few) (rw whole room) l w m) refl (omega (arith, ap length two-pieces)) (rw whole room))
 
 -- ---- room
@@ -144,7 +148,8 @@ module _ (n d : ℕ) (t : List ℕ) (P : Subproblem) (c : Choice) (below : ℕ) 
       go : (b : Bool) → c .lost ≡ b → kindBy n d t P (h .fitting) (h .regular) (h .runs) c (h .found) free ≡ cond b 2 3
       go true e = rw e refl
       go false e =
-          let few : length (pieces n (tableOf n d t) P (requestBy c 3)) ≤ free = rw (subst (λ (b : Bool). pieces n (tableOf n d t) P (requestBy c (cond b 2 3)) ≡ leftBy P c) e all) (omega (arith, some-free, left-few P c)) in
+          let few : length (pieces n (tableOf n d t) P (requestBy c 3)) ≤ free = rw
+          (subst (λ (b : Bool). pieces n (tableOf n d t) P (requestBy c (cond b 2 3)) ≡ leftBy P c) e all) (omega (arith, some-free, left-few P c)) in
           rw (e, le-ltb free _ few) refl
 
   -- Several.

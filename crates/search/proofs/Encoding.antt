@@ -26,7 +26,8 @@ holding-made n marked words D i e s =
 pub slot-none : (n : ℕ) → n ≤ 32 → slotWords n (record { domains = replicate 32 0; marked = 0 }) ≡ replicate (n + 2) 0
 unfolding slotWords
 slot-none n h =
-    let all : replicate {A = ℕ} 32 0 ≡ replicate n 0 ++ replicate (32 - n) 0 = sym (rw replicate-append-replicate (let e : n + (32 - n) ≡ 32 = omega arith in rw e refl)) in
+    let all : replicate {A = ℕ} 32 0 ≡ replicate n 0 ++ replicate (32 - n) 0 = sym
+    (rw replicate-append-replicate (let e : n + (32 - n) ≡ 32 = omega arith in rw e refl)) in
     rw (all, take-at {A = ℕ} (replicate n 0) (replicate (32 - n) 0) n (length-replicate n 0)) (replicate-append-replicate n 2 0)
 
 -- The words of slot k, as the code lends them.
@@ -43,12 +44,15 @@ pub slot-lies : (n k m : ℕ) (agenda words : List ℕ) → take n words ≡ tak
     → m ≡ getD agenda (k * (n + 2) + n) 0 * 65536 + getD agenda (k * (n + 2) + n + 1) 0 → holding n words m ≡ subproblemOf n (slotAt n agenda k)
 unfolding subproblemOf slotAt holding
 slot-lies n k m agenda words e s =
-    let front : take n words ≡ take n (take (n + 2) (drop (k * (n + 2)) agenda)) = e ∙ sym (take-take n (n + 2) (drop (k * (n + 2)) agenda) (omega arith)) in
+    let front : take n words ≡ take n (take (n + 2) (drop (k * (n + 2)) agenda)) = e ∙ sym
+    (take-take n (n + 2) (drop (k * (n + 2)) agenda) (omega arith)) in
     let one : getD (take (n + 2) (drop (k * (n + 2)) agenda)) n 0 ≡ getD agenda (k * (n + 2) + n) 0 =
     getD-take (n + 2) (drop (k * (n + 2)) agenda) n 0 (omega arith) ∙ getD-drop (k * (n + 2)) agenda n 0 in
     let two : getD (take (n + 2) (drop (k * (n + 2)) agenda)) (n + 1) 0 ≡ getD agenda (k * (n + 2) + n + 1) 0 =
-    getD-take (n + 2) (drop (k * (n + 2)) agenda) (n + 1) 0 (omega arith) ∙ getD-drop (k * (n + 2)) agenda (n + 1) 0 ∙ (let up : k * (n + 2) + (n + 1) ≡ k * (n + 2) + n + 1 = omega arith in ap (λ (x : ℕ). getD agenda x 0) up) in
-    let marks : m ≡ getD (take (n + 2) (drop (k * (n + 2)) agenda)) n 0 * 65536 + getD (take (n + 2) (drop (k * (n + 2)) agenda)) (n + 1) 0 = s ∙ rw (one, two) refl in
+    getD-take (n + 2) (drop (k * (n + 2)) agenda) (n + 1) 0 (omega arith) ∙ getD-drop (k * (n + 2)) agenda (n + 1) 0 ∙
+    (let up : k * (n + 2) + (n + 1) ≡ k * (n + 2) + n + 1 = omega arith in ap (λ (x : ℕ). getD agenda x 0) up) in
+    let marks : m ≡ getD (take (n + 2) (drop (k * (n + 2)) agenda)) n 0 * 65536 + getD (take (n + 2) (drop (k * (n + 2)) agenda)) (n + 1) 0 = s ∙ rw
+    (one, two) refl in
     λ i. record { domains = front i ++ replicate (32 - n) 0; marked = marks i }
 
 -- The same of the words of the slot alone.
@@ -143,7 +147,8 @@ words-back n ws e small =
 -- ---- a stack
 
 -- As many words as its subproblems ask.
-pub length-stack : (n : ℕ) (S : List Subproblem) → ((P : Subproblem) → List·Memᴰ P S → n ≤ length (P .domains)) → length (stackWords n S) ≡ length S * (n + 2)
+pub length-stack : (n : ℕ) (S : List Subproblem) → ((P : Subproblem) → List·Memᴰ P S → n ≤ length (P .domains))
+    → length (stackWords n S) ≡ length S * (n + 2)
 unfolding stackWords
 length-stack n [] h = sym (zero-mul (n + 2))
 length-stack n (P ∷ S) h =
@@ -173,8 +178,15 @@ stack-back n d (P ∷ S) zs few h =
     let wide : (Q : Subproblem) → List·Memᴰ Q S → n ≤ length (Q .domains) = λ Q m. let l = h Q (List·Memᴰ·tail m) .long in omega arith in
     let seam : length (stackWords n S) ≡ length S * (n + 2) = length-stack n S wide in
     let slot : take (n + 2) (drop (length S * (n + 2)) (stackWords n S ++ (slotWords n P ++ zs))) ≡ slotWords n P =
-    rw (drop-at (stackWords n S) (slotWords n P ++ zs) (length S * (n + 2)) seam) (take-at (slotWords n P) zs (n + 2) (length-slot n P (omega (arith, shape .long)))) in
-    rw (append-assoc (stackWords n S) (slotWords n P) zs, slot, slot-back n d P few shape, stack-back n d S (slotWords n P ++ zs) few (λ Q m. h Q (List·Memᴰ·tail m))) refl
+    rw (drop-at (stackWords n S) (slotWords n P ++ zs) (length S * (n + 2)) seam)
+    (take-at (slotWords n P) zs (n + 2) (length-slot n P (omega (arith, shape .long)))) in
+    rw (
+      append-assoc (stackWords n S) (slotWords n P) zs,
+      slot,
+      slot-back n d P few shape,
+      stack-back n d S (slotWords n P ++ zs) few (λ Q m. h Q (List·Memᴰ·tail m)),
+    )
+    refl
 
 -- The words of the stack that words hold are those words.
 pub stack-of-words : (n : ℕ) (agenda : List ℕ) (m : ℕ) → m * (n + 2) ≤ length agenda → ((i : ℕ) → getD agenda i 0 < 2 ^ 16)
@@ -185,12 +197,14 @@ stack-of-words n agenda (suc m) h small =
     let up : suc m * (n + 2) ≡ m * (n + 2) + (n + 2) = omega arith in
     let words : List ℕ = take (n + 2) (drop (m * (n + 2)) agenda) in
     let long : length words ≡ n + 2 = simp (length-take, length-drop) (omega arith) in
-    rw (stack-of-words n agenda m (omega arith) small, words-back n words long (part-small (n + 2) (m * (n + 2)) agenda small), up) (sym (take-add (m * (n + 2)) (n + 2) agenda))
+    rw (stack-of-words n agenda m (omega arith) small, words-back n words long (part-small (n + 2) (m * (n + 2)) agenda small), up)
+    (sym (take-add (m * (n + 2)) (n + 2) agenda))
 
 -- ---- an agenda
 
 -- An agenda holds the stack that was put into it.
-pub agenda-back : (n d L : ℕ) (S : List Subproblem) → n ≤ 32 → ((P : Subproblem) → List·Memᴰ P S → Shape n d P) → stackOf n (agendaOf n L S) (length S) ≡ S
+pub agenda-back : (n d L : ℕ) (S : List Subproblem) → n ≤ 32 → ((P : Subproblem) → List·Memᴰ P S → Shape n d P)
+    → stackOf n (agendaOf n L S) (length S) ≡ S
 unfolding agendaOf
 agenda-back n d L S few h = stack-back n d S _ few h
 
@@ -224,7 +238,8 @@ pub agenda-push : (n L a : ℕ) (T S : List Subproblem) → length (stackWords n
     → splice (agendaOf n L S) a (stackWords n T) ≡ agendaOf n L (T ++ S)
 unfolding agendaOf
 agenda-push n L a T S e fits =
-    let sum : length (stackWords n T) + (L - length (stackWords n S ++ stackWords n T)) ≡ L - length (stackWords n S) = simp length-append (omega arith) in
+    let sum : length (stackWords n T) + (L - length (stackWords n S ++ stackWords n T)) ≡ L - length (stackWords n S) = simp length-append
+    (omega arith) in
     let same : length (stackWords n T) ≡ length {A = ℕ} (replicate (length (stackWords n T)) 0) = simp length-replicate in
     rw (← sum, ← replicate-append-replicate {A = ℕ} (length (stackWords n T)) (L - length (stackWords n S ++ stackWords n T)) 0)
     (splice-between (stackWords n S) (replicate (length (stackWords n T)) 0) (replicate (L - length (stackWords n S ++ stackWords n T)) 0) (stackWords n T) a e same

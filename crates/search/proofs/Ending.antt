@@ -41,13 +41,15 @@ module _ (n d : ℕ) (domains tables : List ℕ) (room : ℕ) where
       go (P ∷ S) e = rw e refl
 
   -- The refusal by the top.
-  top-same : (r : List ℕ) (S : List Subproblem) → refusalOfTop (problemOf n d [] tables) room r S ≡ refusalOfTop (problemOf n d domains tables) room r S
+  top-same : (r : List ℕ) (S : List Subproblem)
+      → refusalOfTop (problemOf n d [] tables) room r S ≡ refusalOfTop (problemOf n d domains tables) room r S
   unfolding refusalOfTop splitTop
   top-same r [] = refl
   top-same r (P ∷ S) = refl
 
   -- The refusal of a request.
-  refusal-same : (r : List ℕ) (s : Search) → refusalOfRequest (problemOf n d [] tables) room r s ≡ refusalOfRequest (problemOf n d domains tables) room r s
+  refusal-same : (r : List ℕ) (s : Search)
+      → refusalOfRequest (problemOf n d [] tables) room r s ≡ refusalOfRequest (problemOf n d domains tables) room r s
   unfolding refusalOfRequest
   refusal-same r s = ap (cond (eqb (s .steps) 4294967295) 11) (top-same r (s .stack))
 
@@ -58,13 +60,15 @@ module _ (n d : ℕ) (domains tables : List ℕ) (room : ℕ) where
   chosen-same (P ∷ S) = refl
 
   -- A run.
-  pub run-same : (rs : List (List ℕ)) (s : Search) (k : ℕ) → runFrom (problemOf n d [] tables) room rs s k ≡ runFrom (problemOf n d domains tables) room rs s k
+  pub run-same : (rs : List (List ℕ)) (s : Search) (k : ℕ)
+      → runFrom (problemOf n d [] tables) room rs s k ≡ runFrom (problemOf n d domains tables) room rs s k
   unfolding runFrom
   run-same [] s k = refl
   run-same (r ∷ rs) s k = rw (refusal-same r s, step-same r s, run-same rs (step (problemOf n d domains tables) r s) (k + 1)) refl
 
   -- The chooser.
-  pub choose-same : (m : ℕ) (s : Search) (k : ℕ) → chooseFrom (problemOf n d [] tables) room m s k ≡ chooseFrom (problemOf n d domains tables) room m s k
+  pub choose-same : (m : ℕ) (s : Search) (k : ℕ)
+      → chooseFrom (problemOf n d [] tables) room m s k ≡ chooseFrom (problemOf n d domains tables) room m s k
   unfolding chooseFrom
   choose-same zero s k = refl
   choose-same (suc m) s k =
@@ -97,7 +101,8 @@ pub ends-stopped : (first n d : ℕ) (t before after : List ℕ) (s : State) (to
     → StopsAt n d t before after to stop → to ≡ stopped → r ≡ endedBy n after stop → Ends first n before after s stopped r
 ends-stopped first n d t before after s to stopped x stop r e z h same made =
     let yes : eqb first 0 ≡ true = eq-eqb first 0 (sym e ∙ z) in
-    let stack : stackOf n after (stop .state .subproblems) ≡ to .search .stack = ap (λ (q : Search). q .stack) (left-is n d t before after to stop h) in
+    let stack : stackOf n after (stop .state .subproblems) ≡ to .search .stack = ap (λ (q : Search). q .stack) (left-is n d t before after to stop h)
+    in
     rw (made, ← same)
     (record {
       verdict = rw (yes, stack) refl;
@@ -110,14 +115,16 @@ ends-stopped first n d t before after s to stopped x stop r e z h same made =
     })
 
 -- The memory that is left can be read.
-pub stops-used : (n d : ℕ) (t before after : List ℕ) (to : Stopped) (stop : Stop) → StopsAt n d t before after to stop → Used n (stop .state .subproblems) (length after)
+pub stops-used : (n d : ℕ) (t before after : List ℕ) (to : Stopped) (stop : Stop) → StopsAt n d t before after to stop
+    → Used n (stop .state .subproblems) (length after)
 stops-used n d t before after to stop h = ready-used n d t after (stop .state) (left-ready n d t before after to stop h)
 
 -- ---- opening
 
 module _ (n d : ℕ) (domains tables before : List ℕ) (x : ℕ) (e : x ≡ openRefusal n d domains tables before) where
   -- Refused, it changes nothing.
-  pub opens-refused : (s : State) → (x ≡ 0 → ⊥) → s ≡ record { counts = record { steps = record { 0 = 0 }; checks = record { 0 = 0 } }; subproblems = 0 }
+  pub opens-refused : (s : State) → (x ≡ 0 → ⊥)
+      → s ≡ record { counts = record { steps = record { 0 = 0 }; checks = record { 0 = 0 } }; subproblems = 0 }
       → Opens n d domains tables before before (record { refusal = x; state = s })
   opens-refused s h f =
       let no : eqb (openRefusal n d domains tables before) 0 ≡ false = ne-eqb (openRefusal n d domains tables before) 0 (λ z. h (e ∙ z)) in

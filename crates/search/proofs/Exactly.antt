@@ -52,7 +52,8 @@ lengths-few n d x y z = cond-few (eqb x n && eqb y (n * n * d) && wholeSlots n z
 numbers-few : (n d : ℕ) → refusalOfNumbers n d ≤ 6
 unfolding refusalOfNumbers
 numbers-few n d =
-    cond-few (ltb n 1 || ltb 32 n) 1 (cond (ltb d 1 || ltb 16 d) 2 0) 6 (omega arith) (cond-few (ltb d 1 || ltb 16 d) 2 0 6 (omega arith) (omega arith))
+    cond-few (ltb n 1 || ltb 32 n) 1 (cond (ltb d 1 || ltb 16 d) 2 0) 6 (omega arith)
+    (cond-few (ltb d 1 || ltb 16 d) 2 0 6 (omega arith) (omega arith))
 
 requests-few : (n words : ℕ) → refusalOfRequests n words ≤ 6
 unfolding refusalOfRequests
@@ -61,7 +62,8 @@ requests-few n words = cond-few (eqb (words % (n + 3)) 0) 0 3 6 (omega arith) (o
 else-few : (a b : ℕ) → a ≤ 6 → b ≤ 6 → orElse a b ≤ 6
 else-few a b h k = cond-few (eqb a 0) b a 6 k h
 
-pub search-refusal-few : (n d : ℕ) (domains tables agenda : List ℕ) (steps checks subproblems : ℕ) → searchRefusal n d domains tables agenda steps checks subproblems ≤ 6
+pub search-refusal-few : (n d : ℕ) (domains tables agenda : List ℕ) (steps checks subproblems : ℕ)
+    → searchRefusal n d domains tables agenda steps checks subproblems ≤ 6
 unfolding searchRefusal openRefusal
 search-refusal-few n d domains tables agenda steps checks subproblems =
     let p : Problem = problemOf n d domains tables in
@@ -108,7 +110,8 @@ request-late p room r s = cond-late (eqb (s .steps) 4294967295) 11 (refusalOfTop
     top [] = inl refl
     top (P ∷ S) =
         let full : Bool = ltb room (length (splitTop p r (P ∷ S))) in
-        cond-late (eqb (refusalOf (p .n) (p .d) P r) 0) (cond full 12 0) (refusalOf (p .n) (p .d) P r) (cond-late full 12 0 (inr (omega arith)) (inl refl))
+        cond-late (eqb (refusalOf (p .n) (p .d) P r) 0) (cond full 12 0) (refusalOf (p .n) (p .d) P r)
+        (cond-late full 12 0 (inr (omega arith)) (inl refl))
         (split-late (p .n) (p .d) P r)
 
 -- ---- of any call that ends so
@@ -150,7 +153,9 @@ module _ (first n : ℕ) (before after : List ℕ) (s : State) (x : Stopped) (r 
   exact most next few late there back = (
     (λ k some small. (
       (λ e. elim (ℕ-discrete first 0) [
-        | yes none ↦ let same = same-refusal none in ⊎-elim (λ z. absurd (omega (arith, z, same, e, some))) (λ z. absurd (omega (arith, z, same, e, small))) late
+        | yes none ↦
+            let same = same-refusal none in
+            ⊎-elim (λ z. absurd (omega (arith, z, same, e, some))) (λ z. absurd (omega (arith, z, same, e, small))) late
         | no h ↦ sym (refused-first h) ∙ e
       ]),
       (λ e. refused-first (λ z. omega (arith, z, e, some)) ∙ e),
@@ -173,7 +178,8 @@ module _ (first n : ℕ) (before after : List ℕ) (s : State) (x : Stopped) (r 
 stopped-late : (p : Problem) (room : ℕ) (rs : List (List ℕ)) (s : Search) → Late (run p room rs s .refusal)
 unfolding Late
 stopped-late p room rs s =
-    ⊎-elim (λ f. inl (f .refusal)) (λ k. ⊎-elim (λ f. rw (f .refusal) (request-late p room (getD rs (run p room rs s .taken) []) (run p room rs s .search))) (λ f. inl (f .refusal)) k)
+    ⊎-elim (λ f. inl (f .refusal))
+    (λ k. ⊎-elim (λ f. rw (f .refusal) (request-late p room (getD rs (run p room rs s .taken) []) (run p room rs s .search))) (λ f. inl (f .refusal)) k)
     (stops p room rs s .1)
 
 pub run-exact : Run-exact
@@ -206,7 +212,9 @@ data Ways (p : Problem) (room most : ℕ) (x : Stopped) : Type 0 where
 ways : (p : Problem) (room m : ℕ) (s : Search) (k : ℕ) → Ways p room (k + m) (chooseFrom p room m s k)
 unfolding chooseFrom
 ways p room zero s k = ended-there refl (omega arith)
-ways p room (suc m) s k = by (finished (p .n) (s .stack)) refl (eqb (refusalOfRequest p room (chosen p room (s .stack)) s) 0) refl (ways p room m (step p (chosen p room (s .stack)) s) (k + 1))
+ways p room (suc m) s k =
+    by (finished (p .n) (s .stack)) refl (eqb (refusalOfRequest p room (chosen p room (s .stack)) s) 0) refl
+    (ways p room m (step p (chosen p room (s .stack)) s) (k + 1))
   where
     stay : ℕ → Stopped
     stay refusal = record { search = s; refusal = refusal; taken = k }
@@ -220,7 +228,8 @@ ways p room (suc m) s k = by (finished (p .n) (s .stack)) refl (eqb (refusalOfRe
     by true e c f more = finished-there (λ h. finished-not (p .n) (s .stack) e (is-run-on (verdictOf (p .n) (s .stack)) h)) refl
     by false e true f more = let same : k + 1 + m ≡ k + suc m = omega arith in rw (← same) more
     by false e false f more =
-        refused-there (ap numberOf (running (p .n) (s .stack) e)) (omega arith) refl (eqb-false (refusalOfRequest p room (chosen p room (s .stack)) s) 0 f)
+        refused-there (ap numberOf (running (p .n) (s .stack) e)) (omega arith) refl
+        (eqb-false (refusalOfRequest p room (chosen p room (s .stack)) s) 0 f)
 
 chosen-late : (p : Problem) (room most : ℕ) (x : Stopped) → Ways p room most x → Late (x .refusal)
 unfolding Late

@@ -28,7 +28,8 @@ bit-under m s p h =
 unlike-digit : (a b mask s p : ℕ) → bit (unlike a b mask s) p ≡ min ((bit a (s + p) + bit b p) % 2) (bit mask p)
 unfolding unlike
 unlike-digit a b mask s p =
-    bit-common (bitXor (a / 2 ^ s) b) mask p ∙ ap (λ (x : ℕ). min x (bit mask p)) (bit-xor (a / 2 ^ s) b p ∙ ap (λ (x : ℕ). (x + bit b p) % 2) (bit-shr a s p))
+    bit-common (bitXor (a / 2 ^ s) b) mask p ∙ ap (λ (x : ℕ). min x (bit mask p))
+    (bit-xor (a / 2 ^ s) b p ∙ ap (λ (x : ℕ). (x + bit b p) % 2) (bit-shr a s p))
 
 unlike-lt : (a b mask s : ℕ) → mask < 2 ^ 64 → unlike a b mask s < 2 ^ 64
 unfolding unlike
@@ -113,7 +114,8 @@ pub risen-made : (a b mask s : ℕ) → a < 2 ^ 64
     → bitXor a (unlike a b mask s * 2 ^ s % 2 ^ 64) ≡ risen a b (2 ^ 64 - 1 - mask * 2 ^ s % 2 ^ 64) s
 unfolding risen
 risen-made a b mask s h =
-    changed-word a (b * 2 ^ s % 2 ^ 64) (unlike a b mask s * 2 ^ s % 2 ^ 64) (mask * 2 ^ s % 2 ^ 64) h (mod-lt (mask * 2 ^ s) (pow-pos 64)) (unlike-up a b mask s)
+    changed-word a (b * 2 ^ s % 2 ^ 64) (unlike a b mask s * 2 ^ s % 2 ^ 64) (mask * 2 ^ s % 2 ^ 64) h (mod-lt (mask * 2 ^ s) (pow-pos 64))
+    (unlike-up a b mask s)
 
 -- ---- within a word, where the places do not meet
 

@@ -104,7 +104,8 @@ module _ (D1 D2 D3 D4 D5 D6 : Type 0) where
     unfolding Clear
     is-5 =
         let both = is-first D (λ x. x) r o 5 (omega arith) in (
-          (λ e. let f = both .0 e in (f .deserved, f .before 1 (omega arith), f .before 2 (omega arith), f .before 3 (omega arith), f .before 4 (omega arith))),
+          (λ e. let f = both .0 e in
+              (f .deserved, f .before 1 (omega arith), f .before 2 (omega arith), f .before 3 (omega arith), f .before 4 (omega arith))),
           (λ t. both .1 (record { deserved = t .0; before = clear-5 (t .1) (t .2) (t .3) (t .4) })),
         )
 
@@ -112,7 +113,14 @@ module _ (D1 D2 D3 D4 D5 D6 : Type 0) where
     unfolding Clear
     is-6 =
         let both = is-first D (λ x. x) r o 6 (omega arith) in (
-          (λ e. let f = both .0 e in (f .deserved, f .before 1 (omega arith), f .before 2 (omega arith), f .before 3 (omega arith), f .before 4 (omega arith), f .before 5 (omega arith))),
+          (λ e. let f = both .0 e in (
+            f .deserved,
+            f .before 1 (omega arith),
+            f .before 2 (omega arith),
+            f .before 3 (omega arith),
+            f .before 4 (omega arith),
+            f .before 5 (omega arith),
+          )),
           (λ t. both .1 (record { deserved = t .0; before = clear-6 (t .1) (t .2) (t .3) (t .4) (t .5) })),
         )
 

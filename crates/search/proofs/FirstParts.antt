@@ -70,7 +70,8 @@ unfolding rowBothWays
 both-ways-once p =
     same-test (every (p .n) (rowBothWays (p .d) (p .allowed))) (symmetric p)
     (λ e. symmetric-is p (λ i j h k f. ⊎-elim
-    (λ l. turned p j i (pair-symmetric p j i (every-at (pairBothWays (p .d) (p .allowed) j) j i l (every-at (rowBothWays (p .d) (p .allowed)) (p .n) j k e))))
+    (λ l. turned p j i
+    (pair-symmetric p j i (every-at (pairBothWays (p .d) (p .allowed) j) j i l (every-at (rowBothWays (p .d) (p .allowed)) (p .n) j k e))))
     (λ l. pair-symmetric p i j (every-at (pairBothWays (p .d) (p .allowed) i) i j l (every-at (rowBothWays (p .d) (p .allowed)) (p .n) i h e)))
     (before i j f)))
     (λ e. every-all (rowBothWays (p .d) (p .allowed)) (p .n) (λ i h. every-all (pairBothWays (p .d) (p .allowed) i) i

@@ -155,7 +155,8 @@ module _ (n d : ℕ) (domains tables agenda : List ℕ) where
         let zeros : Bool = zerosFrom (subproblems * (n + 2)) agenda in
         let limit : Bool = leb checks (496 * steps) in
         let all : (room && rules && zeros && limit) ≡ true =
-        passes (room && rules && zeros && limit) (Deserves-6 p agenda steps checks subproblems) (refutes-6 p agenda steps checks subproblems (s .proper)) f in
+        passes (room && rules && zeros && limit) (Deserves-6 p agenda steps checks subproblems)
+        (refutes-6 p agenda steps checks subproblems (s .proper)) f in
         let three : (room && rules && zeros) ≡ true = and-left (room && rules && zeros) limit all in
         let two : (room && rules) ≡ true = and-left (room && rules) zeros three in
         record {
@@ -194,7 +195,8 @@ module _ (n d : ℕ) (domains tables agenda : List ℕ) where
         let list : Bool = eqb (length requests % (n + 3)) 0 in (
           (λ e. let t = none .0 e in (
             searched-of (passed-of (t .0) (t .1) (λ x. t .2 (inl x)) (t .3) (t .4)) (t .5),
-            requests-true n (length requests) (passes list (WholeRequests n (length requests) → ⊥) (refutes-requests n (length requests)) (λ x. t .2 (inr x))),
+            requests-true n (length requests)
+                (passes list (WholeRequests n (length requests) → ⊥) (refutes-requests n (length requests)) (λ x. t .2 (inr x))),
           )),
           (λ s. let q = s .0 .passed in
               none .1 (not-1 q, not-2 q, (λ x. ⊎-elim (not-3 q) (λ f. f (s .1)) x), not-4 q, not-5 q, not-6 (s .0))),

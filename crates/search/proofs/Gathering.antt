@@ -68,7 +68,8 @@ module _ (n d : ℕ) (t : List ℕ) (P : Subproblem) (r : List ℕ) (fits : read
       e ∙ rw (le-antisymm h l ∙ named-is named c, pieces-are n d t P r fits long) refl
 
   -- No more than are free, at the end.
-  pub within-free : (count free : ℕ) → count ≡ length (pieces n (tableOf n d t) P r) → count ≤ free → false ≡ ltb free (length (pieces n (tableOf n d t) P r))
+  pub within-free : (count free : ℕ) → count ≡ length (pieces n (tableOf n d t) P r) → count ≤ free
+      → false ≡ ltb free (length (pieces n (tableOf n d t) P r))
   within-free count free e h = rw (← e) (sym (le-ltb free count h))
 
   -- More than are free, before the last is seen.
@@ -85,10 +86,12 @@ module _ (n d : ℕ) (t : List ℕ) (P : Subproblem) (r : List ℕ) (fits : read
       → false ≡ ltb free (length (pieces n (tableOf n d t) P r))
   roomy named free long c h =
       rw (pieces-are n d t P r fits long, ← named-is named c)
-      (sym (le-ltb free (length (firsts n (candidate n (tableOf n d t) P r) named)) (omega (arith, firsts-le n (candidate n (tableOf n d t) P r) named))))
+      (sym
+      (le-ltb free (length (firsts n (candidate n (tableOf n d t) P r) named)) (omega (arith, firsts-le n (candidate n (tableOf n d t) P r) named))))
 
   -- At the start nothing is placed.
-  pub gather-none : (before : List ℕ) (from named : ℕ) → length (P .domains) ≡ 32 → Candidates n r named → Gathered n d t P r before from before from named
+  pub gather-none : (before : List ℕ) (from named : ℕ) → length (P .domains) ≡ 32 → Candidates n r named
+      → Gathered n d t P r before from before from named
   unfolding stackWords
   gather-none before from named long c = record {
     rest = [];
@@ -137,7 +140,8 @@ module _ (n d : ℕ) (t : List ℕ) (P : Subproblem) (r : List ℕ) (fits : read
           slot-below n at (from + length (pieces n (tableOf n d t) P r)) (length agenda) few (omega (arith, g .count)) (omega (arith, g .same))
 
       -- It is written there.
-      pub gather-keep : (after : List ℕ) → n ≤ 32 → (from + length (pieces n (tableOf n d t) P r)) * (n + 2) ≤ length before → length (Q .domains) ≡ 32
+      pub gather-keep : (after : List ℕ) → n ≤ 32 → (from + length (pieces n (tableOf n d t) P r)) * (n + 2) ≤ length before
+          → length (Q .domains) ≡ 32
           → after ≡ splice agenda (at * (n + 2)) (slotWords n Q) → length after ≡ length agenda → Gathered n d t P r before from after (at + 1) (k - 1)
       unfolding stackWords
       gather-keep after few room long e s =
@@ -149,7 +153,10 @@ module _ (n d : ℕ) (t : List ℕ) (P : Subproblem) (r : List ℕ) (fits : read
             all = more;
             count = omega (arith, g .count);
             sized = rw (length-append, g .sized, words) (omega arith);
-            words = e ∙ rw (g .words) (splice-splice before (from * (n + 2)) (stackWords n (g .rest)) (slotWords n Q) (at * (n + 2)) seam (omega (arith, slot .within, g .same)));
+            words =
+                e ∙ rw (g .words)
+                (splice-splice before (from * (n + 2)) (stackWords n (g .rest)) (slotWords n Q) (at * (n + 2)) seam
+                (omega (arith, slot .within, g .same)));
             same = s ∙ g .same;
           }
 
@@ -173,5 +180,8 @@ module _ (n d : ℕ) (t : List ℕ) (P : Subproblem) (r : List ℕ) (fits : read
       let inside : (from + length (g .rest)) * (n + 2) ≤ length before = rw rest at room in
       record {
         count = rw rest (g .count);
-        words = rw rest (g .words ∙ sym (splice-cover before (replicate (n + 2) 0) (stackWords n (g .rest)) (from * (n + 2)) (omega (arith, g .sized)) (omega (arith, g .sized))));
+        words =
+            rw rest
+            (g .words ∙ sym
+            (splice-cover before (replicate (n + 2) 0) (stackWords n (g .rest)) (from * (n + 2)) (omega (arith, g .sized)) (omega (arith, g .sized))));
       }

@@ -33,7 +33,8 @@ pub half-is : (set from : ℕ) → Half set from (set / 2 ^ from % 65536)
 half-is set from i h = bit-low 16 (set / 2 ^ from) i h ∙ bit-shr set from i
 
 -- A key by its half.
-pub key-in : (set from half m i : ℕ) → Half set from half → i < 16 → (v : ℕ) → v ≡ from + i → (k : ℕ) → k ≡ size m * 32 + v + 1024 * bit half i → k ≡ keyOf m set v
+pub key-in : (set from half m i : ℕ) → Half set from half → i < 16 → (v : ℕ) → v ≡ from + i → (k : ℕ) → k ≡ size m * 32 + v + 1024 * bit half i
+    → k ≡ keyOf m set v
 unfolding keyOf
 key-in set from half m i e h v s k f = f ∙ rw (e i h, ← s) refl
 
@@ -84,7 +85,8 @@ below-more l i b h = record {
 }
 
 -- One word more kept.
-pub kept-more : (lanes words r : List ℕ) (i x : ℕ) → KeptTo lanes words i r → i < 32 → Kept (getD words i 0) (getD lanes i 0) x → KeptTo lanes words (i + 1) (set r i x)
+pub kept-more : (lanes words r : List ℕ) (i x : ℕ) → KeptTo lanes words i r → i < 32 → Kept (getD words i 0) (getD lanes i 0) x
+    → KeptTo lanes words (i + 1) (set r i x)
 kept-more lanes words r i x k h e = record {
   long = length-set r i x ∙ k .long;
   each = λ j l. elim (ℕ-discrete j i) [
@@ -111,11 +113,15 @@ kept-holding n marked lanes words D few h b k = λ t. record { domains = same t;
 
     at : (i : ℕ) → i < length D → getD D i 0 ≡ getD (take n words ++ replicate (32 - n) 0) i 0
     at i l = elim (decLt i n) [
-      | yes q ↦ k .each i (omega (arith, k .long)) .0 (b .all i q) ∙ sym (List·getD-append (take n words) (replicate (32 - n) 0) 0 i (omega (arith, whole)) ∙ getD-take n words i 0 q)
+      | yes q ↦
+          k .each i (omega (arith, k .long)) .0 (b .all i q) ∙ sym
+          (List·getD-append (take n words) (replicate (32 - n) 0) 0 i (omega (arith, whole)) ∙ getD-take n words i 0 q)
       | no q ↦
           let up : i ≡ length (take n words) + (i - n) = omega (arith, whole) in
           k .each i (omega (arith, k .long)) .1 (b .none i (omega arith))
-          ∙ sym (ap (λ (x : ℕ). getD (take n words ++ replicate (32 - n) 0) x 0) up ∙ getD-append-add (take n words) (replicate (32 - n) 0) (i - n) 0 ∙ zeros-at (32 - n) (i - n))
+          ∙ sym
+          (ap (λ (x : ℕ). getD (take n words ++ replicate (32 - n) 0) x 0) up ∙ getD-append-add (take n words) (replicate (32 - n) 0) (i - n) 0 ∙
+          zeros-at (32 - n) (i - n))
     ]
 
     same : D ≡ take n words ++ replicate (32 - n) 0
@@ -127,8 +133,10 @@ pub slot-lanes : (n k : ℕ) (agenda lanes D : List ℕ) (m : ℕ) → SlotIn n 
     → m ≡ getD agenda (k * (n + 2) + n) 0 * 65536 + getD agenda (k * (n + 2) + n + 1) 0 → record { domains = D; marked = m } ≡ subproblemOf n (slotAt n agenda k)
 slot-lanes n k agenda lanes D m slot fits b kept e =
     let long : (k * (n + 2) + 32) - k * (n + 2) ≡ 32 = omega arith in
-    let inside : n ≤ length (take ((k * (n + 2) + 32) - k * (n + 2)) (drop (k * (n + 2)) agenda)) = rw (long, length-take, length-drop) (omega (arith, slot .few)) in
-    kept-holding n m lanes _ D (slot .few) inside b kept ∙ slot-lies n k m agenda _ (rw long (take-take n 32 (drop (k * (n + 2)) agenda) (slot .few))) e
+    let inside : n ≤ length (take ((k * (n + 2) + 32) - k * (n + 2)) (drop (k * (n + 2)) agenda)) = rw (long, length-take, length-drop)
+    (omega (arith, slot .few)) in
+    kept-holding n m lanes _ D (slot .few) inside b kept ∙ slot-lies n k m agenda _ (rw long (take-take n 32 (drop (k * (n + 2)) agenda) (slot .few)))
+    e
 
 -- ---- the piece for a variable
 
@@ -150,7 +158,9 @@ sides-more l i s h k = record {
 pub share-is : (mask from past : ℕ) → Share mask from past (bitOr (bitXor mask from) past)
 share-is mask from past = record {
   before = λ e f. rw (e, f, xor-zero-r, or-zero-r) refl;
-  own = λ e f m h. rw (e, f, or-zero-r) (bit-ext (common m (bitXor mask 65535)) (minus m mask) (λ v. rw (bit-common, bit-xor, bit-minus) (turned m h v)));
+  own =
+      λ e f m h. rw (e, f, or-zero-r)
+      (bit-ext (common m (bitXor mask 65535)) (minus m mask) (λ v. rw (bit-common, bit-xor, bit-minus) (turned m h v)));
   after = λ f m h. rw f (bit-ext (common m (bitOr (bitXor mask from) 65535)) m (λ v. rw (bit-common, bit-or) (whole m h v)));
 }
   where

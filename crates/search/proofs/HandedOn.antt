@@ -128,12 +128,14 @@ module _ (n d : ℕ) (domains tables before after : List ℕ) (s : State) (x : S
       → Leaves n d domains tables before after s x
   leaves passed passes shaped made steps checks count =
       let few : n ≤ 32 = passed .proper .variables in
-      let used : length (stackWords n (x .stack)) ≡ length (x .stack) * (n + 2) = length-stack n (x .stack) (λ P m. omega (arith, shaped P m .long)) in
+      let used : length (stackWords n (x .stack)) ≡ length (x .stack) * (n + 2) = length-stack n (x .stack) (λ P m. omega (arith, shaped P m .long))
+      in
       let whole : length before ≡ slotsIn n (length before) * (n + 2) = whole-slots n (length before) (passed .slots) in
       let room : length (x .stack) * (n + 2) ≤ slotsIn n (length before) * (n + 2) = mul-le-mul-right (n + 2) (passes .fits) in
       let long : length after ≡ length before = ap length made ∙ length-agenda n (length before) (x .stack) (omega arith) in
       let stack : stackOf n after (s .subproblems) ≡ x .stack =
-      ap (stackOf n after) count ∙ ap (λ (l : List ℕ). stackOf n l (length (x .stack))) made ∙ agenda-back n d (length before) (x .stack) few shaped in
+      ap (stackOf n after) count ∙ ap (λ (l : List ℕ). stackOf n l (length (x .stack))) made ∙ agenda-back n d (length before) (x .stack) few shaped
+      in
       record {
         handed = record {
           words = rw made (agenda-small n d (length before) (x .stack) (passed .proper .values) shaped);
@@ -220,10 +222,12 @@ run-leaves-so n d domains tables before after requests s r handed runs =
     let room : ℕ = slotsIn n (length before) in
     let both = run-is-passed n d domains tables before (s .counts .steps .0) (s .counts .checks .0) (s .subproblems) requests in (
       (λ whole.
-          ends-leaves n d domains tables before after s r _ (run p room (requestsIn n requests) (searchOf n before s)) handed runs (both .1 (k .passed, whole))
+          ends-leaves n d domains tables before after s r _ (run p room (requestsIn n requests) (searchOf n before s)) handed runs
+          (both .1 (k .passed, whole))
           (run-passes p room (requestsIn n requests) (searchOf n before s) (k .passes))
           (run-shaped n d domains tables room (k .fit) (requestsIn n requests) (searchOf n before s) (k .passes) (k .shaped))),
-      (λ none. ends-kept n d domains tables before after s r _ (run p room (requestsIn n requests) (searchOf n before s)) handed runs (λ e. none (both .0 e .1))),
+      (λ none. ends-kept n d domains tables before after s r _ (run p room (requestsIn n requests) (searchOf n before s)) handed runs
+          (λ e. none (both .0 e .1))),
     )
 
 pub chooser-leaves-so : (n d : ℕ) (domains tables before after : List ℕ) (limit : ℕ) (s : State) (r : Ran) → Handed n d domains tables before s
@@ -258,7 +262,8 @@ says n d domains tables before after x r left gives =
       verdict = same;
       solved = λ k.
           let (P, S, top, all) = solved-top n stack (sym same ∙ is-solved (r .verdict) k) in
-          let (values, solution) = shown (top-held (problemOf n d domains tables) _ P S (searchOf n after (r .state)) passes top) (all-instantiated n P all) in
+          let (values, solution) = shown (top-held (problemOf n d domains tables) _ P S (searchOf n after (r .state)) passes top)
+          (all-instantiated n P all) in
           (P, S, top, values, solution);
       unsolvable = (
         λ k. sym long ∙ ap length (unsolvable-if n stack .0 (sym same ∙ is-unsolvable (r .verdict) k)),
@@ -290,7 +295,8 @@ chooser-says-so n d domains tables before after limit s r handed chooses =
 pub some-slots : (n words : ℕ) → WholeSlots n words → 1 ≤ slotsIn n words
 some-slots n words w = let some : 0 < n + 2 = omega arith in rw (w .3, mul-div-cancel (w .0) some) (w .1)
 
-holding-shape : (n d : ℕ) (domains : List ℕ) → n ≤ 32 → length domains ≡ n → ((i : ℕ) → i < n → getD domains i 0 < 2 ^ d) → Shape n d (holding n domains 0)
+holding-shape : (n d : ℕ) (domains : List ℕ) → n ≤ 32 → length domains ≡ n → ((i : ℕ) → i < n → getD domains i 0 < 2 ^ d)
+    → Shape n d (holding n domains 0)
 unfolding holding
 holding-shape n d domains few long small =
     let past : (i : ℕ) → (i < n → ⊥) → length domains ≤ i = λ i h. omega arith in
@@ -307,7 +313,8 @@ holding-shape n d domains few long small =
     }
 
 -- what opening places has the shape of a slot
-opening-shaped : (n d : ℕ) (domains : List ℕ) → n ≤ 32 → length domains ≡ n → ((i : ℕ) → i < n → getD domains i 0 < 2 ^ d) → Shaped n d (opening n domains)
+opening-shaped : (n d : ℕ) (domains : List ℕ) → n ≤ 32 → length domains ≡ n → ((i : ℕ) → i < n → getD domains i 0 < 2 ^ d)
+    → Shaped n d (opening n domains)
 unfolding opening
 opening-shaped n d domains few long small = go (some n (λ i. eqb (getD domains i 0) 0))
   where

@@ -102,7 +102,8 @@ zeros-found words from b e =
 pub domains-found : (n d : ℕ) (domains : List ℕ) (b : ℕ) (r : Bool) → length domains ≡ n → b ≡ joined (length domains) (rowIn domains)
     → r ≡ ltb b (2 ^ d) → r ≡ every n (domainBelow d domains)
 unfolding domainBelow rowIn
-domains-found n d domains b r l e h = h ∙ ap (λ (x : ℕ). ltb x (2 ^ d)) (e ∙ ap (λ (k : ℕ). joined k (rowIn domains)) l) ∙ joined-below d n (rowIn domains)
+domains-found n d domains b r l e h =
+    h ∙ ap (λ (x : ℕ). ltb x (2 ^ d)) (e ∙ ap (λ (k : ℕ). joined k (rowIn domains)) l) ∙ joined-below d n (rowIn domains)
 
 -- ---- the masks of one variable with some in a row
 
@@ -156,7 +157,8 @@ span-found n d i from to t b r s h e q =
     ∙ every-same (λ x. ltb (getD part x 0) (2 ^ d)) (λ x. ltb (getD t (start + x) 0) (2 ^ d)) (count * d)
     (λ x l. ap (λ (y : ℕ). ltb y (2 ^ d)) (getD-take ((i * n + to) * d - start) (drop start t) x 0 (omega arith) ∙ getD-drop start t x 0))
     ∙ every-blocks count d (λ x. ltb (getD t (start + x) 0) (2 ^ d))
-    ∙ every-same (λ k. every d (λ a. ltb (getD t (start + (k * d + a)) 0) (2 ^ d))) (λ k. every d (λ a. ltb (tableOf n d t i (from + k) a) (2 ^ d))) count
+    ∙ every-same (λ k. every d (λ a. ltb (getD t (start + (k * d + a)) 0) (2 ^ d))) (λ k. every d (λ a. ltb (tableOf n d t i (from + k) a) (2 ^ d)))
+    count
     (λ k l. every-same (λ a. ltb (getD t (start + (k * d + a)) 0) (2 ^ d)) (λ a. ltb (tableOf n d t i (from + k) a) (2 ^ d)) d
     (λ a m. ap (λ (y : ℕ). ltb y (2 ^ d)) (ap (λ (y : ℕ). getD t y 0) (place k a) ∙ sym (word-at n d t i (from + k) a m))))
   where
@@ -179,10 +181,16 @@ unfolding spanBelow rowBelow pairBelow
 row-spans n d allowed i h =
     same-test (every (i - 0) before && every (n - (i + 1)) after) (every n (pairBelow d allowed i))
     (λ e. every-all (pairBelow d allowed i) n (λ j l. elim (decLt j i) [
-      | yes m ↦ simp (at j (every-at before (i - 0) j (omega arith) (and-left (every (i - 0) before) (every (n - (i + 1)) after) e)) (omega arith), or-true)
+      | yes m ↦
+          simp (at j (every-at before (i - 0) j (omega arith) (and-left (every (i - 0) before) (every (n - (i + 1)) after) e)) (omega arith), or-true)
       | no m ↦ elim (ℕ-discrete i j) [
         | yes s ↦ simp (eq-eqb i j s)
-        | no s ↦ simp (at j (every-at after (n - (i + 1)) (j - (i + 1)) (omega arith) (and-right (every (i - 0) before) (every (n - (i + 1)) after) e)) (omega arith), or-true)
+        | no s ↦
+            simp (
+              at j (every-at after (n - (i + 1)) (j - (i + 1)) (omega arith) (and-right (every (i - 0) before) (every (n - (i + 1)) after) e))
+                  (omega arith),
+              or-true,
+            )
       ]
     ]))
     (λ e. both (every (i - 0) before) (every (n - (i + 1)) after)

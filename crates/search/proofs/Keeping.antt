@@ -64,7 +64,8 @@ module _ (n d : ℕ) (t r : List ℕ) (fits : readable n d t r ≡ true) where
     written l i x e h = getD-set-same l i x 0 (omega (arith, low))
 
     -- Without the values of a mask that has them all.
-    none-left : (Q : Subproblem) (mask : ℕ) → length (Q .domains) ≡ 32 → domain Q (k - 1) ≡ domain P (k - 1) → eqb (minus (domain P (k - 1)) mask) 0 ≡ true
+    none-left : (Q : Subproblem) (mask : ℕ) → length (Q .domains) ≡ 32 → domain Q (k - 1) ≡ domain P (k - 1)
+        → eqb (minus (domain P (k - 1)) mask) 0 ≡ true
         → empty n (without Q (k - 1) mask) ≡ true
     unfolding without
     none-left Q mask e still z =
@@ -78,10 +79,12 @@ module _ (n d : ℕ) (t r : List ℕ) (fits : readable n d t r ≡ true) where
     keeps-none-5 x dom mask a p q e z =
         let front : Subproblem = atTargets P r (k - 1) in
         let still : domain front (k - 1) ≡ domain P (k - 1) = changed-after (k - 1) (λ i m. targetOf r i) (P .domains) (k - 1) (le-refl (k - 1)) in
-        rw (e, later) (none-left front (targetOf r (k - 1)) (length-changed (k - 1) (λ i m. targetOf r i) (P .domains) ∙ long) still (told x dom mask _ _ a p q z))
+        rw (e, later)
+        (none-left front (targetOf r (k - 1)) (length-changed (k - 1) (λ i m. targetOf r i) (P .domains) ∙ long) still (told x dom mask _ _ a p q z))
 
     -- IDC.
-    pub keeps-none-3 : (x dom mask : ℕ) → x ≡ minus dom mask → dom ≡ domain P (k - 1) → ((variableOf r ≡ k - 1 → ⊥) → mask ≡ tableOf n d t (variableOf r) (k - 1) (valueOf r)) → kindOf r ≡ 3
+    pub keeps-none-3 : (x dom mask : ℕ) → x ≡ minus dom mask → dom ≡ domain P (k - 1)
+        → ((variableOf r ≡ k - 1 → ⊥) → mask ≡ tableOf n d t (variableOf r) (k - 1) (valueOf r)) → kindOf r ≡ 3
         → TellsEmpty n d t P r k (eqb x 0)
     unfolding candidate inferred disjunct cut cutBeside without
     keeps-none-3 x dom mask a p q e z =
@@ -90,12 +93,16 @@ module _ (n d : ℕ) (t r : List ℕ) (fits : readable n d t r ≡ true) where
         elim (ℕ-discrete (k - 1) V′) [
           | yes s ↦
               let at : V′ < n = fits-3 e .a-variable in
-              rw (e, later, eq-eqb (k - 1) V′ s) (sym (empty-at n (cut P V′ 0) V′ at (written (P .domains) V′ (common (domain P V′) 0) long at ∙ common-none (domain P V′))))
+              rw (e, later, eq-eqb (k - 1) V′ s)
+              (sym (empty-at n (cut P V′ 0) V′ at (written (P .domains) V′ (common (domain P V′) 0) long at ∙ common-none (domain P V′))))
           | no s ↦
               let f : ℕ → ℕ → ℕ = λ i m. cond (eqb i V′) m (common m (tableOf n d t V′ i v)) in
               let rest : List ℕ = set (P .domains) V′ (minus (domain P V′) (single v)) in
               let front : Subproblem = cutBeside (tableOf n d t) (without P V′ (single v)) V′ v (k - 1) in
               let still : domain front (k - 1) ≡ domain P (k - 1) =
               changed-after (k - 1) f rest (k - 1) (le-refl (k - 1)) ∙ getD-set-other (P .domains) V′ (k - 1) (minus (domain P V′) (single v)) 0 s in
-              rw (e, later, ne-eqb (k - 1) V′ s) (none-left front (tableOf n d t V′ (k - 1) v) (length-changed (k - 1) f rest ∙ length-set (P .domains) V′ (minus (domain P V′) (single v)) ∙ long) still (told x dom mask _ _ a p (q (λ w. s (sym w))) z))
+              rw (e, later, ne-eqb (k - 1) V′ s)
+              (none-left front (tableOf n d t V′ (k - 1) v)
+              (length-changed (k - 1) f rest ∙ length-set (P .domains) V′ (minus (domain P V′) (single v)) ∙ long) still
+              (told x dom mask _ _ a p (q (λ w. s (sym w))) z))
         ]

@@ -115,7 +115,9 @@ module _ (n d : ℕ) (allowed : Table) (P : Subproblem) (V′ v : ℕ) (few : n 
       let less : List ℕ = set (P .domains) V′ (minus (domain P V′) (single v)) in
       let cut : List ℕ = changed j besides less in
       let still : getD cut V′ 0 ≡ 0 = elim (decLt V′ j) [
-        | yes l ↦ changed-before j besides less V′ l (omega (arith, length-set (P .domains) V′ (minus (domain P V′) (single v)), at-most V′ a-variable)) ∙ rw (eq-eqb V′ V′ refl) (nothing one)
+        | yes l ↦
+            changed-before j besides less V′ l (omega (arith, length-set (P .domains) V′ (minus (domain P V′) (single v)), at-most V′ a-variable)) ∙
+            rw (eq-eqb V′ V′ refl) (nothing one)
         | no l ↦ changed-after j besides less V′ (omega arith) ∙ nothing one
       ] in
       sym (empty-at n (disjunct allowed P V′ v j) V′ a-variable
@@ -128,17 +130,20 @@ module _ (n d : ℕ) (allowed : Table) (P : Subproblem) (V′ v : ℕ) (few : n 
   unfolding pieces filled named keep forwardChecking
   two-none e one = rw (e, rest-empty one) refl
 
-  pub two-rest : empty n (precluded n allowed P V′ v) ≡ true → (size (domain P V′) ≡ 1 → ⊥) → pieces n allowed P (request 2 V′ v) ≡ without P V′ (single v) ∷ []
+  pub two-rest : empty n (precluded n allowed P V′ v) ≡ true → (size (domain P V′) ≡ 1 → ⊥)
+      → pieces n allowed P (request 2 V′ v) ≡ without P V′ (single v) ∷ []
   unfolding pieces filled named keep forwardChecking
   two-rest e more = rw (e, rest-full more) refl
 
   -- Kind 3, where v is V's only value.
-  pub three-one : empty n (precluded n allowed P V′ v) ≡ false → size (domain P V′) ≡ 1 → pieces n allowed P (request 3 V′ v) ≡ precluded n allowed P V′ v ∷ []
+  pub three-one : empty n (precluded n allowed P V′ v) ≡ false → size (domain P V′) ≡ 1
+      → pieces n allowed P (request 3 V′ v) ≡ precluded n allowed P V′ v ∷ []
   unfolding pieces filled named keep idc
   three-one e one =
       rw (
         e,
         keep-none (λ Q. not (empty n Q)) (map (disjunct allowed P V′ v) (keep (λ j. not (eqb j V′)) (below n)))
-            (each-of (λ Q. not (empty n Q) ≡ false) (disjunct allowed P V′ v) (λ j. not (eqb j V′)) n (λ j l t. rw (further-empty one j (λ s. true-false (sym t ∙ rw (eq-eqb j V′ s) refl))) refl)),
+            (each-of (λ Q. not (empty n Q) ≡ false) (disjunct allowed P V′ v) (λ j. not (eqb j V′)) n
+            (λ j l t. rw (further-empty one j (λ s. true-false (sym t ∙ rw (eq-eqb j V′ s) refl))) refl)),
       )
       refl

@@ -172,9 +172,11 @@ module _ (n marked : ℕ) (slot : List ℕ) where
 
   pub held-start : (next : ℕ) → Next marked 0 next → HeldTo n marked slot next (replicate 32 0)
   held-start next k =
-      held-on (replicate 32 0) 0 next (record { long = refl; each = λ j l o. absurd (omega arith); past = λ j l. zeros-at 32 j; over = λ j l. zeros-at 32 j }) k
+      held-on (replicate 32 0) 0 next
+      (record { long = refl; each = λ j l o. absurd (omega arith); past = λ j l. zeros-at 32 j; over = λ j l. zeros-at 32 j }) k
 
-  pub held-next : (masks : List ℕ) (i next x : ℕ) → HeldTo n marked slot i masks → i < n → n ≤ 32 → bit marked i ≡ 1 → x ≡ getD slot i 0 → Next marked (i + 1) next
+  pub held-next : (masks : List ℕ) (i next x : ℕ) → HeldTo n marked slot i masks → i < n → n ≤ 32 → bit marked i ≡ 1 → x ≡ getD slot i 0
+      → Next marked (i + 1) next
       → HeldTo n marked slot next (set masks i x)
   held-next masks i next x h l few y e k = held-on (set masks i x) (i + 1) next (record {
     long = length-set masks i x ∙ h .long;
@@ -221,7 +223,8 @@ part-value d whole m small h e =
 domain-below : (n d : ℕ) (domains tables : List ℕ) → masksBelow (problemOf n d domains tables) ≡ true → (i : ℕ) → i < n → getD domains i 0 < 2 ^ d
 unfolding masksBelow
 domain-below n d domains tables e i l =
-    ltb-true (getD domains i 0) (2 ^ d) (every-at (λ k. ltb (getD domains k 0) (2 ^ d)) n i l (and-left (every n (λ k. ltb (getD domains k 0) (2 ^ d))) _ e))
+    ltb-true (getD domains i 0) (2 ^ d)
+    (every-at (λ k. ltb (getD domains k 0) (2 ^ d)) n i l (and-left (every n (λ k. ltb (getD domains k 0) (2 ^ d))) _ e))
 
 -- two masks of which all of the first lies within the second
 within-of : (m k : ℕ) → eqb (minus m k) 0 ≡ true → Part m k
@@ -236,16 +239,22 @@ module _ (allowed : Table) (P : Subproblem) (i j : ℕ) (f : i ≡ j → ⊥) (h
   agrees-held : lowest (domain P j) ∈ domain P j → eqb (minus (heldAt P j) (besideAt allowed P i j)) 0 ≡ true → pairAgrees allowed P i j ≡ true
   unfolding heldAt besideAt
   agrees-held m e =
-      let read : eqb (minus (domain P j) (allowed i j (lowest (domain P i)))) 0 ≡ true = rw (eq-eqb (bit (P .marked) j) 1 k, ne-eqb j i (λ z. f (sym z))) at e in
-      sym (agrees-both allowed P i j true (P .marked) refl h k f (sym (eq-eqb _ 1 (within-of (domain P j) (allowed i j (lowest (domain P i))) read (lowest (domain P j)) m))))
+      let read : eqb (minus (domain P j) (allowed i j (lowest (domain P i)))) 0 ≡ true = rw
+      (eq-eqb (bit (P .marked) j) 1 k, ne-eqb j i (λ z. f (sym z))) at e in
+      sym
+      (agrees-both allowed P i j true (P .marked) refl h k f
+      (sym (eq-eqb _ 1 (within-of (domain P j) (allowed i j (lowest (domain P i))) read (lowest (domain P j)) m))))
 
-  held-agrees : lowest (domain P j) ∈ domain P j → size (domain P j) ≡ 1 → pairAgrees allowed P i j ≡ true → eqb (minus (heldAt P j) (besideAt allowed P i j)) 0 ≡ true
+  held-agrees : lowest (domain P j) ∈ domain P j → size (domain P j) ≡ 1 → pairAgrees allowed P i j ≡ true
+      → eqb (minus (heldAt P j) (besideAt allowed P i j)) 0 ≡ true
   unfolding heldAt besideAt pairAgrees
   held-agrees m one e =
-      let bit-in : lowest (domain P j) ∈ allowed i j (lowest (domain P i)) = eqb-true _ 1 (rw (ne-eqb i j f, is-marked P (P .marked) i refl h, is-marked P (P .marked) j refl k) at e) in
+      let bit-in : lowest (domain P j) ∈ allowed i j (lowest (domain P i)) = eqb-true _ 1
+      (rw (ne-eqb i j f, is-marked P (P .marked) i refl h, is-marked P (P .marked) j refl k) at e) in
       let only : domain P j ≡ single (lowest (domain P j)) = single-of (domain P j) (lowest (domain P j)) one m in
       let none : minus (domain P j) (allowed i j (lowest (domain P i))) ≡ 0 =
-      ap (λ (x : ℕ). minus x (allowed i j (lowest (domain P i)))) only ∙ part-minus (single (lowest (domain P j))) (allowed i j (lowest (domain P i))) (part-single _ _ bit-in) in
+      ap (λ (x : ℕ). minus x (allowed i j (lowest (domain P i)))) only ∙ part-minus (single (lowest (domain P j))) (allowed i j (lowest (domain P i)))
+      (part-single _ _ bit-in) in
       rw (eq-eqb (bit (P .marked) j) 1 k, ne-eqb j i (λ z. f (sym z))) (eq-eqb _ 0 none)
 
 -- what is left where neither 4 nor 5 is deserved
@@ -280,7 +289,9 @@ module _ (n d : ℕ) (domains tables slot : List ℕ) (words : length domains �
 
     valued : (i : ℕ) → i < n → Valued d (getD slot i 0)
     unfolding wrongIn
-    valued i l = part-value d (getD domains i 0) (getD slot i 0) small (domain-below n d domains tables below i l) (every-at (λ k. eqb (wrongIn domains slot k) 0) n i l none)
+    valued i l =
+        part-value d (getD domains i 0) (getD slot i 0) small (domain-below n d domains tables below i l)
+        (every-at (λ k. eqb (wrongIn domains slot k) 0) n i l none)
 
     pub slot-values : (i : ℕ) → i < n → lowest (getD slot i 0) < d
     slot-values i l = valued i l .value
@@ -294,10 +305,13 @@ module _ (n d : ℕ) (domains tables slot : List ℕ) (words : length domains �
     slot-all =
         same-test (every n marks) (every n whole && every n rows)
         (λ x. both (every n whole) (every n rows)
-        (every-all whole n (λ i l. slot-parts i l ∙ both (eqb (wrongIn domains slot i) 0) (sized i) (every-at (λ k. eqb (wrongIn domains slot k) 0) n i l none) (is-sized i l (every-at marks n i l x))))
+        (every-all whole n
+        (λ i l. slot-parts i l ∙ both (eqb (wrongIn domains slot i) 0) (sized i) (every-at (λ k. eqb (wrongIn domains slot k) 0) n i l none)
+        (is-sized i l (every-at marks n i l x))))
         (every-all rows n (λ i l. every-all (pairs i) n (λ j k. pair-of i j l k (every-at marks n i l x)))))
         (λ x. every-all marks n (λ i l. mark-of i l
-        (λ j k. and-right (eqb (wrongIn domains slot j) 0) (sized j) (sym (slot-parts j k) ∙ every-at whole n j k (and-left (every n whole) (every n rows) x)))
+        (λ j k. and-right (eqb (wrongIn domains slot j) 0) (sized j)
+        (sym (slot-parts j k) ∙ every-at whole n j k (and-left (every n whole) (every n rows) x)))
         (every-at rows n i l (and-right (every n whole) (every n rows) x))))
       where
         t : Table
@@ -322,12 +336,16 @@ module _ (n d : ℕ) (domains tables slot : List ℕ) (words : length domains �
         both a b p q = rw p q
 
         -- what an instantiated variable and every other beside it hold
-        beside-all : (i : ℕ) → bit (P .marked) i ≡ 1 → markObeys n t P i ≡ true → (j : ℕ) → j < n → eqb (minus (heldAt P j) (besideAt t P i j)) 0 ≡ true
+        beside-all : (i : ℕ) → bit (P .marked) i ≡ 1 → markObeys n t P i ≡ true → (j : ℕ) → j < n
+            → eqb (minus (heldAt P j) (besideAt t P i j)) 0 ≡ true
         beside-all i h x j k = every-at (λ j. eqb (minus (heldAt P j) (besideAt t P i j)) 0) n j k (rw (is-marked P (P .marked) i refl h) at x)
 
         is-sized : (i : ℕ) → i < n → markObeys n t P i ≡ true → sized i ≡ true
         is-sized i l x = elim (ℕ-discrete (bit (P .marked) i) 1) [
-          | yes h ↦ rw (is-marked P (P .marked) i refl h) (eq-eqb (size (domain P i)) 1 (one-of (domain P i) (lowest-in i l) (rw (eq-eqb (bit (P .marked) i) 1 h, eq-eqb i i refl) at (beside-all i h x i l))))
+          | yes h ↦
+              rw (is-marked P (P .marked) i refl h)
+              (eq-eqb (size (domain P i)) 1
+              (one-of (domain P i) (lowest-in i l) (rw (eq-eqb (bit (P .marked) i) 1 h, eq-eqb i i refl) at (beside-all i h x i l))))
           | no h ↦ rw (eq-eqb (bit (P .marked) i) 0 (omega (arith, bit-le (P .marked) i))) refl
         ]
 
@@ -353,7 +371,8 @@ module _ (n d : ℕ) (domains tables slot : List ℕ) (words : length domains �
                 elim (ℕ-discrete i j) [
                   | yes s ↦
                       let only : domain P j ≡ single (lowest (domain P j)) = single-of (domain P j) (lowest (domain P j)) one (lowest-in j k) in
-                      rw (eq-eqb (bit (P .marked) j) 1 m, eq-eqb j i (sym s), s) (eq-eqb _ 0 (ap (λ (x : ℕ). minus x (single (lowest (domain P j)))) only ∙ minus-self (single (lowest (domain P j)))))
+                      rw (eq-eqb (bit (P .marked) j) 1 m, eq-eqb j i (sym s), s)
+                      (eq-eqb _ 0 (ap (λ (x : ℕ). minus x (single (lowest (domain P j)))) only ∙ minus-self (single (lowest (domain P j)))))
                   | no s ↦ held-agrees t P i j s h m (lowest-in j k) one (every-at (pairs i) n j k x)
                 ]
           ]))
@@ -381,7 +400,8 @@ module _ (n d : ℕ) (domains tables slot : List ℕ) (words : length domains �
       go false x = refl
 
   -- nothing is; the instantiated variables decide
-  pub slot-marked : (w : ℕ) (r : Bool) → refusalOfProblem (problemOf n d domains tables) ≡ 0 → d ≤ 16 → w ≡ joined (length domains) (wrongIn domains slot) → w ≡ 0 → subproblemOf n slot .marked < 2 ^ n
+  pub slot-marked : (w : ℕ) (r : Bool) → refusalOfProblem (problemOf n d domains tables) ≡ 0 → d ≤ 16
+      → w ≡ joined (length domains) (wrongIn domains slot) → w ≡ 0 → subproblemOf n slot .marked < 2 ^ n
       → r ≡ every n (markObeys n (tableOf n d tables) (subproblemOf n slot)) → r ≡ obeys (problemOf n d domains tables) (subproblemOf n slot)
   unfolding obeys
   slot-marked w r q small e z h s =

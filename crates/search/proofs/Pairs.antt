@@ -139,7 +139,24 @@ padded-row x d a f e h = elim (decLt a d) [
 matrix-same : (f g : ℕ → ℕ) → ((a : ℕ) → a < 16 → f a ≡ g a) → matrixOf f ≡ matrixOf g
 unfolding matrixOf four
 matrix-same f g h =
-    simp (h 0 (omega arith), h 1 (omega arith), h 2 (omega arith), h 3 (omega arith), h 4 (omega arith), h 5 (omega arith), h 6 (omega arith), h 7 (omega arith), h 8 (omega arith), h 9 (omega arith), h 10 (omega arith), h 11 (omega arith), h 12 (omega arith), h 13 (omega arith), h 14 (omega arith), h 15 (omega arith))
+    simp (
+      h 0 (omega arith),
+      h 1 (omega arith),
+      h 2 (omega arith),
+      h 3 (omega arith),
+      h 4 (omega arith),
+      h 5 (omega arith),
+      h 6 (omega arith),
+      h 7 (omega arith),
+      h 8 (omega arith),
+      h 9 (omega arith),
+      h 10 (omega arith),
+      h 11 (omega arith),
+      h 12 (omega arith),
+      h 13 (omega arith),
+      h 14 (omega arith),
+      h 15 (omega arith),
+    )
 
 module _ (n d i j : ℕ) (t : List ℕ) (fit : Sized n d t) (h : i < n) (k : j < n) where
   -- the masks of two of the variables stand within the tables

@@ -48,7 +48,8 @@ shift : (p : Problem) (room m : ℕ) (s : Search) (j : ℕ) →
 unfolding chooseFrom
 shift p room zero s j = let e : j ≡ j + 0 = omega arith in λ t. record { search = s; refusal = 0; taken = e t }
 shift p room (suc m) s j =
-    go (finished (p .n) (s .stack)) (eqb k₁ 0) (shift p room m (step p (chosen p room (s .stack)) s) (j + 1)) (shift p room m (step p (chosen p room (s .stack)) s) 1)
+    go (finished (p .n) (s .stack)) (eqb k₁ 0) (shift p room m (step p (chosen p room (s .stack)) s) (j + 1))
+    (shift p room m (step p (chosen p room (s .stack)) s) 1)
   where
     k₁ : ℕ
     k₁ = refusalOfRequest p room (chosen p room (s .stack)) s
@@ -67,13 +68,15 @@ shift p room (suc m) s j =
     go true b e f = stays 0
     go false true e f =
         let sum : (j + 1) + next 0 .taken ≡ j + (1 + next 0 .taken) = omega arith in
-        e ∙ (λ t. record { search = next 0 .search; refusal = next 0 .refusal; taken = sum t }) ∙ sym (ap (λ (c : Stopped). record { search = c .search; refusal = c .refusal; taken = j + c .taken }) f)
+        e ∙ (λ t. record { search = next 0 .search; refusal = next 0 .refusal; taken = sum t }) ∙ sym
+        (ap (λ (c : Stopped). record { search = c .search; refusal = c .refusal; taken = j + c .taken }) f)
     go false false e f = stays k₁
 
 -- What is left of a limit, after a stop.
 abbrev onward : Problem → ℕ → ℕ → Stopped → Stopped
 onward p room limit a =
-    let b : Stopped = chooseFrom p room (limit - a .taken) (a .search) 0 in record { search = b .search; refusal = b .refusal; taken = a .taken + b .taken }
+    let b : Stopped = chooseFrom p room (limit - a .taken) (a .search) 0 in
+    record { search = b .search; refusal = b .refusal; taken = a .taken + b .taken }
 
 module _ (p : Problem) (room k m : ℕ) (s : Search) where
   up : suc m + k ≡ suc (m + k)
@@ -84,9 +87,11 @@ module _ (p : Problem) (room k m : ℕ) (s : Search) where
       → chooseFrom p room (suc m + k) s 0 ≡ onward p room (suc m + k) (chooseFrom p room (suc m) s 0)
   stopped r ends =
       let rest : (suc m + k) - 0 ≡ suc (m + k) = omega arith in
-      let again : chooseFrom p room ((suc m + k) - 0) s 0 ≡ record { search = s; refusal = r; taken = 0 } = ap (λ (N : ℕ). chooseFrom p room N s 0) rest ∙ ends (m + k) in
+      let again : chooseFrom p room ((suc m + k) - 0) s 0 ≡ record { search = s; refusal = r; taken = 0 } = ap (λ (N : ℕ). chooseFrom p room N s 0)
+      rest ∙ ends (m + k) in
       ap (λ (N : ℕ). chooseFrom p room N s 0) up ∙ ends (m + k)
-      ∙ sym (ap (onward p room (suc m + k)) (ends m) ∙ ap (λ (b : Stopped). record { search = b .search; refusal = b .refusal; taken = 0 + b .taken }) again)
+      ∙ sym
+      (ap (onward p room (suc m + k)) (ends m) ∙ ap (λ (b : Stopped). record { search = b .search; refusal = b .refusal; taken = 0 + b .taken }) again)
 
   -- One step more before both.
   stepped : (t : Search) → ((N : ℕ) → chooseFrom p room (suc N) s 0 ≡ chooseFrom p room N t 1)
@@ -98,10 +103,15 @@ module _ (p : Problem) (room k m : ℕ) (s : Search) where
       let rest : (suc m + k) - (1 + a .taken) ≡ (m + k) - a .taken = omega arith in
       let sum : 1 + (a .taken + b .taken) ≡ (1 + a .taken) + b .taken = omega arith in
       let left : chooseFrom p room (suc m + k) s 0 ≡ record { search = b .search; refusal = b .refusal; taken = 1 + (a .taken + b .taken) } =
-      ap (λ (N : ℕ). chooseFrom p room N s 0) up ∙ goes (m + k) ∙ shift p room (m + k) t 1 ∙ ap (λ (c : Stopped). record { search = c .search; refusal = c .refusal; taken = 1 + c .taken }) so-far in
-      let right : onward p room (suc m + k) (chooseFrom p room (suc m) s 0) ≡ record { search = b .search; refusal = b .refusal; taken = (1 + a .taken) + b .taken } =
+      ap (λ (N : ℕ). chooseFrom p room N s 0) up ∙ goes (m + k) ∙ shift p room (m + k) t 1 ∙ ap
+      (λ (c : Stopped). record { search = c .search; refusal = c .refusal; taken = 1 + c .taken }) so-far in
+      let right : onward p room (suc m + k) (chooseFrom p room (suc m) s 0) ≡ record
+      { search = b .search; refusal = b .refusal; taken = (1 + a .taken) + b .taken } =
       ap (onward p room (suc m + k)) (goes m ∙ shift p room m t 1)
-      ∙ ap (λ (N : ℕ). let c : Stopped = chooseFrom p room N (a .search) 0 in record { search = c .search; refusal = c .refusal; taken = (1 + a .taken) + c .taken }) rest in
+      ∙ ap
+      (λ (N : ℕ). let c : Stopped = chooseFrom p room N (a .search) 0 in record
+      { search = c .search; refusal = c .refusal; taken = (1 + a .taken) + c .taken })
+      rest in
       left ∙ (λ i. record { search = b .search; refusal = b .refusal; taken = sum i }) ∙ sym right
 
 -- Up to m steps, and then up to k more.
@@ -256,7 +266,12 @@ module _ (p : Problem) (room : ℕ) (P : Subproblem) (S : List Subproblem) (held
           record {
             variable = few;
             value = low;
-            kind = inr (refl, ⊎-elim (λ w. eqb-false _ 0 (some-none (λ i. eqb (domain Q i) 0) (p .n) (w .0) (w .1) e) (w .2)) (λ w. omega (arith, length-append l S)));
+            kind =
+                inr (
+                  refl,
+                  ⊎-elim (λ w. eqb-false _ 0 (some-none (λ i. eqb (domain Q i) 0) (p .n) (w .0) (w .1) e) (w .2))
+                      (λ w. omega (arith, length-append l S)),
+                );
           }
 
   -- So it is accepted.

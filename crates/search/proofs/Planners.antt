@@ -33,6 +33,16 @@ unfolding runRefusal refusalOfNumbers refusalOfLengths wholeSlots refusalOfReque
     domainObeys valuesAgree zerosFrom tableOf stackOf subproblemOf slotAt agendaOf stackWords slotWords requestsIn cutInto
     holding runFrom finished refusalOfRequest refusalOfTop refusalOf refused-7 refused-8 refused-9 refused-10 bad someBad allSame
     step splitTop pieces named keep below backtracking forwardChecking idc halving extraction instantiate without cut cutBeside atTargets forbids
-    instantiatedOther forbidden precluded disjunct extract changed empty some every allInstantiated smallest smallerHalf minus bit ones onesIn trailingZeros
+    instantiatedOther forbidden precluded disjunct extract changed empty some every allInstantiated smallest smallerHalf minus bit ones onesIn
+    trailingZeros
     checks lookedAt others tried valuesIn total verdictOf
-says after r h = record { verdict = h .verdict; refusal = h .refusal; taken = h .taken; steps = h .steps; checks = h .checks; subproblems = h .subproblems; agenda = h .agenda }
+says after r h =
+    record {
+      verdict = h .verdict;
+      refusal = h .refusal;
+      taken = h .taken;
+      steps = h .steps;
+      checks = h .checks;
+      subproblems = h .subproblems;
+      agenda = h .agenda;
+    }

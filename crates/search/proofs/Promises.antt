@@ -95,11 +95,17 @@ picks p room limit s = Picking.picked p room limit s 0
 
 pub chosen-so : Chosen-so
 chosen-so p room P S s h top e =
-    rw top (Picking.chosen-so p room P S (Passing.top-held p room P S s h top) (sym (Verdicts.finished-top (p .n) P S) ∙ Verdicts.is-running (p .n) (P ∷ S) (Verdicts.is-run-on (verdictOf (p .n) (P ∷ S)) (rw top at e))) (rw top at (h .fits)))
+    rw top
+    (Picking.chosen-so p room P S (Passing.top-held p room P S s h top)
+    (sym (Verdicts.finished-top (p .n) P S) ∙ Verdicts.is-running (p .n) (P ∷ S) (Verdicts.is-run-on (verdictOf (p .n) (P ∷ S)) (rw top at e)))
+    (rw top at (h .fits)))
 
 pub chosen-accepted : Chosen-accepted
 chosen-accepted p room P S s h top e =
-    rw top (Picking.chosen-accepted p room P S (Passing.top-held p room P S s h top) (sym (Verdicts.finished-top (p .n) P S) ∙ Verdicts.is-running (p .n) (P ∷ S) (Verdicts.is-run-on (verdictOf (p .n) (P ∷ S)) (rw top at e))) (rw top at (h .fits)))
+    rw top
+    (Picking.chosen-accepted p room P S (Passing.top-held p room P S s h top)
+    (sym (Verdicts.finished-top (p .n) P S) ∙ Verdicts.is-running (p .n) (P ∷ S) (Verdicts.is-run-on (verdictOf (p .n) (P ∷ S)) (rw top at e)))
+    (rw top at (h .fits)))
 
 pub chooser-refusals : Chooser-refusals
 chooser-refusals p room limit s h = Picking.choose-refusals p room limit s 0 h
@@ -124,7 +130,8 @@ reached-solvable n d domains tables room s proper h = Reaching.reached-holds n d
 
 pub reached-unsolvable : Reached-unsolvable
 reached-unsolvable n d domains tables room s proper h e f =
-    Reaching.none-solvable (problemOf n d domains tables) (s .stack) (Verdicts.unsolvable-if n (s .stack) .0 (Verdicts.is-unsolvable (verdictOf n (s .stack)) e))
+    Reaching.none-solvable (problemOf n d domains tables) (s .stack)
+    (Verdicts.unsolvable-if n (s .stack) .0 (Verdicts.is-unsolvable (verdictOf n (s .stack)) e))
     (Reaching.reached-holds n d domains tables proper h .solvable .0 f)
 
 pub reached-steps : Reached-steps
@@ -212,46 +219,60 @@ open-refusal-none n d domains tables agenda =
     ((λ e. let t = none .0 e in (t .0, t .1, t .2, t .3, t .4)), (λ t. none .1 (t .0, t .1, t .2, t .3, t .4, (λ x. x))))
 
 pub search-refusal-1 : Search-refusal-1
-search-refusal-1 n d domains tables agenda steps checks subproblems = is-1 _ _ _ _ _ _ _ (search-ordered n d domains tables agenda steps checks subproblems)
+search-refusal-1 n d domains tables agenda steps checks subproblems =
+    is-1 _ _ _ _ _ _ _ (search-ordered n d domains tables agenda steps checks subproblems)
 
 pub search-refusal-2 : Search-refusal-2
-search-refusal-2 n d domains tables agenda steps checks subproblems = is-2 _ _ _ _ _ _ _ (search-ordered n d domains tables agenda steps checks subproblems)
+search-refusal-2 n d domains tables agenda steps checks subproblems =
+    is-2 _ _ _ _ _ _ _ (search-ordered n d domains tables agenda steps checks subproblems)
 
 pub search-refusal-3 : Search-refusal-3
-search-refusal-3 n d domains tables agenda steps checks subproblems = is-3 _ _ _ _ _ _ _ (search-ordered n d domains tables agenda steps checks subproblems)
+search-refusal-3 n d domains tables agenda steps checks subproblems =
+    is-3 _ _ _ _ _ _ _ (search-ordered n d domains tables agenda steps checks subproblems)
 
 pub search-refusal-4 : Search-refusal-4
-search-refusal-4 n d domains tables agenda steps checks subproblems = is-4 _ _ _ _ _ _ _ (search-ordered n d domains tables agenda steps checks subproblems)
+search-refusal-4 n d domains tables agenda steps checks subproblems =
+    is-4 _ _ _ _ _ _ _ (search-ordered n d domains tables agenda steps checks subproblems)
 
 pub search-refusal-5 : Search-refusal-5
-search-refusal-5 n d domains tables agenda steps checks subproblems = is-5 _ _ _ _ _ _ _ (search-ordered n d domains tables agenda steps checks subproblems)
+search-refusal-5 n d domains tables agenda steps checks subproblems =
+    is-5 _ _ _ _ _ _ _ (search-ordered n d domains tables agenda steps checks subproblems)
 
 pub search-refusal-6 : Search-refusal-6
-search-refusal-6 n d domains tables agenda steps checks subproblems = is-6 _ _ _ _ _ _ _ (search-ordered n d domains tables agenda steps checks subproblems)
+search-refusal-6 n d domains tables agenda steps checks subproblems =
+    is-6 _ _ _ _ _ _ _ (search-ordered n d domains tables agenda steps checks subproblems)
 
 pub search-refusal-none : Search-refusal-none
-search-refusal-none n d domains tables agenda steps checks subproblems = is-0 _ _ _ _ _ _ _ (search-ordered n d domains tables agenda steps checks subproblems)
+search-refusal-none n d domains tables agenda steps checks subproblems =
+    is-0 _ _ _ _ _ _ _ (search-ordered n d domains tables agenda steps checks subproblems)
 
 pub run-refusal-1 : Run-refusal-1
-run-refusal-1 n d domains tables agenda requests steps checks subproblems = is-1 _ _ _ _ _ _ _ (run-ordered n d domains tables agenda steps checks subproblems requests)
+run-refusal-1 n d domains tables agenda requests steps checks subproblems =
+    is-1 _ _ _ _ _ _ _ (run-ordered n d domains tables agenda steps checks subproblems requests)
 
 pub run-refusal-2 : Run-refusal-2
-run-refusal-2 n d domains tables agenda requests steps checks subproblems = is-2 _ _ _ _ _ _ _ (run-ordered n d domains tables agenda steps checks subproblems requests)
+run-refusal-2 n d domains tables agenda requests steps checks subproblems =
+    is-2 _ _ _ _ _ _ _ (run-ordered n d domains tables agenda steps checks subproblems requests)
 
 pub run-refusal-3 : Run-refusal-3
-run-refusal-3 n d domains tables agenda requests steps checks subproblems = is-3 _ _ _ _ _ _ _ (run-ordered n d domains tables agenda steps checks subproblems requests)
+run-refusal-3 n d domains tables agenda requests steps checks subproblems =
+    is-3 _ _ _ _ _ _ _ (run-ordered n d domains tables agenda steps checks subproblems requests)
 
 pub run-refusal-4 : Run-refusal-4
-run-refusal-4 n d domains tables agenda requests steps checks subproblems = is-4 _ _ _ _ _ _ _ (run-ordered n d domains tables agenda steps checks subproblems requests)
+run-refusal-4 n d domains tables agenda requests steps checks subproblems =
+    is-4 _ _ _ _ _ _ _ (run-ordered n d domains tables agenda steps checks subproblems requests)
 
 pub run-refusal-5 : Run-refusal-5
-run-refusal-5 n d domains tables agenda requests steps checks subproblems = is-5 _ _ _ _ _ _ _ (run-ordered n d domains tables agenda steps checks subproblems requests)
+run-refusal-5 n d domains tables agenda requests steps checks subproblems =
+    is-5 _ _ _ _ _ _ _ (run-ordered n d domains tables agenda steps checks subproblems requests)
 
 pub run-refusal-6 : Run-refusal-6
-run-refusal-6 n d domains tables agenda requests steps checks subproblems = is-6 _ _ _ _ _ _ _ (run-ordered n d domains tables agenda steps checks subproblems requests)
+run-refusal-6 n d domains tables agenda requests steps checks subproblems =
+    is-6 _ _ _ _ _ _ _ (run-ordered n d domains tables agenda steps checks subproblems requests)
 
 pub run-refusal-none : Run-refusal-none
-run-refusal-none n d domains tables agenda requests steps checks subproblems = is-0 _ _ _ _ _ _ _ (run-ordered n d domains tables agenda steps checks subproblems requests)
+run-refusal-none n d domains tables agenda requests steps checks subproblems =
+    is-0 _ _ _ _ _ _ _ (run-ordered n d domains tables agenda steps checks subproblems requests)
 
 -- ---- each part, and what passing gives
 

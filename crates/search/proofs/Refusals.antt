@@ -154,7 +154,8 @@ module _ (p : Problem) (room : ℕ) (P : Subproblem) (S : List Subproblem) (s : 
   unfolding whole part
   is-12 =
       exactly 12 ((Deserves-11 s → ⊥) × Accepted (p .n) (p .d) P r × Deserves-12 p room P S r) (λ w. neither (λ e. omega arith) (λ x. x .0 (w .full)))
-      (λ w. neither (λ e. omega (arith, few (p .n) (p .d) P r)) (λ x. w .some (accepts .1 (x .1)))) (λ w. both refl (w .free, accepts .0 (w .none), w .more))
+      (λ w. neither (λ e. omega (arith, few (p .n) (p .d) P r)) (λ x. w .some (accepts .1 (x .1))))
+      (λ w. both refl (w .free, accepts .0 (w .none), w .more))
       (λ w. neither (λ e. omega arith) (λ x. w .room-left (x .2)))
 
   -- None.
@@ -166,7 +167,8 @@ module _ (p : Problem) (room : ℕ) (P : Subproblem) (S : List Subproblem) (s : 
       (λ w. neither (λ e. omega arith) (λ x. x .2 (w .more))) (λ w. both refl (w .free, accepts .0 (w .none), w .room-left))
 
   -- A request that the splits accept meets only 11 and 12.
-  pub only-11-12 : Accepted (p .n) (p .d) P r → (refusalOfRequest p room r s ≡ 0) ⊎ (refusalOfRequest p room r s ≡ 11) ⊎ (refusalOfRequest p room r s ≡ 12)
+  pub only-11-12 : Accepted (p .n) (p .d) P r
+      → (refusalOfRequest p room r s ≡ 0) ⊎ (refusalOfRequest p room r s ≡ 11) ⊎ (refusalOfRequest p room r s ≡ 12)
   unfolding whole part
   only-11-12 a = go ways
     where

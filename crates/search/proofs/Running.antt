@@ -99,7 +99,8 @@ module _ (n d : ℕ) (t agenda : List ℕ) (s : State) (ready : Ready n d t agen
   taking P b h top tested e = record { ready = ready; some = omega arith; top = top; runs = sym tested ∙ not-true b e }
 
 -- The search that a step left is the one that its words hold.
-pub left-is : (n d : ℕ) (t before after : List ℕ) (to : Stopped) (r : Stop) → StopsAt n d t before after to r → searchOf n after (r .state) ≡ to .search
+pub left-is : (n d : ℕ) (t before after : List ℕ) (to : Stopped) (r : Stop) → StopsAt n d t before after to r
+    → searchOf n after (r .state) ≡ to .search
 left-is n d t before after to r h =
     let stack : stackOf n after (r .state .subproblems) ≡ to .search .stack =
     ap (stackOf n after) (h .subproblems) ∙ ap (λ (l : List ℕ). stackOf n l (length (to .search .stack))) (h .ready .words)
@@ -107,7 +108,8 @@ left-is n d t before after to r h =
     λ i. record { stack = stack i; steps = h .steps i; checks = h .checks i }
 
 -- It is ready for the next step.
-pub left-ready : (n d : ℕ) (t before after : List ℕ) (to : Stopped) (r : Stop) → StopsAt n d t before after to r → Ready n d t after (searchOf n after (r .state))
+pub left-ready : (n d : ℕ) (t before after : List ℕ) (to : Stopped) (r : Stop) → StopsAt n d t before after to r
+    → Ready n d t after (searchOf n after (r .state))
 left-ready n d t before after to r h = rw (left-is n d t before after to r h) (h .ready)
 
 -- ---- the requests of a list of words
@@ -140,7 +142,8 @@ pub record Going (n d : ℕ) (t requests before : List ℕ) (start : State) (age
       ≡ runFrom (problemOf n d [] t) (slotsIn n (length before)) (drop taken (requestsIn n requests)) (searchOf n agenda s) taken
 
 -- At the start none is taken.
-pub going-none : (n d : ℕ) (t requests before : List ℕ) (start : State) → Ready n d t before (searchOf n before start) → Going n d t requests before start before start 0
+pub going-none : (n d : ℕ) (t requests before : List ℕ) (start : State) → Ready n d t before (searchOf n before start)
+    → Going n d t requests before start before start 0
 going-none n d t requests before start h = record { ready = h; room = refl; same = refl }
 
 module _ (n d : ℕ) (t requests before : List ℕ) (start : State) (agenda : List ℕ) (s : State) (taken : ℕ) (g : Going n d t requests before start agenda s taken) where
@@ -184,7 +187,9 @@ module _ (n d : ℕ) (t requests before : List ℕ) (start : State) (agenda : Li
     going-on h = record {
       ready = left-ready n d t agenda after one stop one-stops;
       room = one-stops .same ∙ g .room;
-      same = from-here ∙ run-on (problemOf n d [] t) (slotsIn n (length before)) request (searchOf n agenda s) (drop (taken + 1) (requestsIn n requests)) taken
+      same =
+          from-here ∙ run-on (problemOf n d [] t) (slotsIn n (length before)) request (searchOf n agenda s) (drop (taken + 1) (requestsIn n requests))
+          taken
           (λ z. h (one-stops .taken ∙ z))
           ∙ rw (← left-is n d t agenda after one stop one-stops) refl;
     }
@@ -226,7 +231,8 @@ module _ (p : Problem) (room : ℕ) (s : Search) where
   choose-one = refl
 
   -- A step that was taken, and one that was not.
-  choose-on : (m k : ℕ) → (chooseFrom p room 1 s 0 .taken ≡ 0 → ⊥) → chooseFrom p room (suc m) s k ≡ chooseFrom p room m (chooseFrom p room 1 s 0 .search) (k + 1)
+  choose-on : (m k : ℕ) → (chooseFrom p room 1 s 0 .taken ≡ 0 → ⊥)
+      → chooseFrom p room (suc m) s k ≡ chooseFrom p room m (chooseFrom p room 1 s 0 .search) (k + 1)
   unfolding chooseFrom
   choose-on m k h = go (finished (p .n) (s .stack)) refl (eqb (refusalOfRequest p room (chosen p room (s .stack)) s) 0) refl
     where
@@ -305,7 +311,9 @@ module _ (n d : ℕ) (t : List ℕ) (limit : ℕ) (before : List ℕ) (start : S
     choosing-on h = record {
       ready = left-ready n d t agenda after one-step stop step-stops;
       room = step-stops .same ∙ g .room;
-      same = from-step ∙ choose-on (problemOf n d [] t) (slotsIn n (length before)) (searchOf n agenda s) (limit - (taken + 1)) taken (λ z. h (step-stops .taken ∙ z))
+      same =
+          from-step ∙ choose-on (problemOf n d [] t) (slotsIn n (length before)) (searchOf n agenda s) (limit - (taken + 1)) taken
+          (λ z. h (step-stops .taken ∙ z))
           ∙ rw (← left-is n d t agenda after one-step stop step-stops) refl;
     }
 
@@ -315,7 +323,9 @@ module _ (n d : ℕ) (t : List ℕ) (limit : ℕ) (before : List ℕ) (start : S
         (record { refusal = stop .refusal; taken = taken; state = stop .state })
     unfolding one-step
     choosing-stops h =
-        rw (from-step ∙ choose-stops (problemOf n d [] t) (slotsIn n (length before)) (searchOf n agenda s) (limit - (taken + 1)) taken (sym (step-stops .taken) ∙ h))
+        rw
+        (from-step ∙ choose-stops (problemOf n d [] t) (slotsIn n (length before)) (searchOf n agenda s) (limit - (taken + 1)) taken
+        (sym (step-stops .taken) ∙ h))
         (record {
           refusal = step-stops .refusal;
           taken = refl;

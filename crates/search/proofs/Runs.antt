@@ -108,8 +108,10 @@ module _ (p : Problem) (room : ℕ) where
   stops =
       run-ind (λ rs s x. (x .taken ≤ length rs) × (Finished p x ⊎ Refused p room rs x ⊎ Ended rs x))
       (λ s. (omega arith, inr (inr (record { refusal = refl; taken = refl }))))
-      (λ r rs s e. (omega arith, inl (record { verdict = λ h. finished-not (p .n) (s .stack) e (is-run-on (verdictOf (p .n) (s .stack)) h); refusal = refl })))
-      (λ r rs s e h. (omega arith, inr (inl (record { verdict = ap numberOf (running (p .n) (s .stack) e); request = omega arith; refusal = refl; refused = h }))))
+      (λ r rs s e.
+      (omega arith, inl (record { verdict = λ h. finished-not (p .n) (s .stack) e (is-run-on (verdictOf (p .n) (s .stack)) h); refusal = refl })))
+      (λ r rs s e h.
+      (omega arith, inr (inl (record { verdict = ap numberOf (running (p .n) (s .stack) e); request = omega arith; refusal = refl; refused = h }))))
       (λ r rs s x e h same. (omega (arith, same .0), more r rs x (same .1)))
     where
       more : (r : List ℕ) (rs : List (List ℕ)) (x : Stopped) → Finished p x ⊎ Refused p room rs x ⊎ Ended rs x

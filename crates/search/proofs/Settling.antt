@@ -97,7 +97,8 @@ module _ (n : ℕ) (P : Subproblem) (c : Choice) (before after : List ℕ) (belo
   pub settle-kept : not (c .lost) ≡ true → (Q : Subproblem) → Q ≡ precludedBy P (c .variable) (c .row) → length (Q .domains) ≡ 32
       → after ≡ splice before (below * (n + 2)) (slotWords n Q) → Replaced n (leftBy P c) below before after (below + 1)
   settle-kept b Q e long w =
-      subst (λ (l : List Subproblem). Replaced n l below before after (below + 1)) (ap (λ (R : Subproblem). R ∷ []) e ∙ sym (left-kept b)) (replaced-one Q long w)
+      subst (λ (l : List Subproblem). Replaced n l below before after (below + 1)) (ap (λ (R : Subproblem). R ∷ []) e ∙ sym (left-kept b))
+      (replaced-one Q long w)
 
   pub settle-none : not (c .lost) ≡ false → c .values ≡ 1 → after ≡ splice before (below * (n + 2)) (replicate (n + 2) 0)
       → Replaced n (leftBy P c) below before after below
@@ -106,14 +107,16 @@ module _ (n : ℕ) (P : Subproblem) (c : Choice) (before after : List ℕ) (belo
   pub settle-rest : not (c .lost) ≡ false → (c .values ≡ 1 → ⊥) → (Q : Subproblem) → Q ≡ without P (c .variable) (getD (c .row) (c .variable) 0)
       → length (Q .domains) ≡ 32 → after ≡ splice before (below * (n + 2)) (slotWords n Q) → Replaced n (leftBy P c) below before after (below + 1)
   settle-rest b k Q e long w =
-      subst (λ (l : List Subproblem). Replaced n l below before after (below + 1)) (ap (λ (R : Subproblem). R ∷ []) e ∙ sym (left-rest b k)) (replaced-one Q long w)
+      subst (λ (l : List Subproblem). Replaced n l below before after (below + 1)) (ap (λ (R : Subproblem). R ∷ []) e ∙ sym (left-rest b k))
+      (replaced-one Q long w)
 
 -- Of what is left there is one at most.
 pub left-few : (P : Subproblem) (c : Choice) → length (leftBy P c) ≤ 1
 unfolding leftBy
 left-few P c = go (c .lost) (eqb (c .values) 1)
   where
-    go : (b k : Bool) → length (cond b (cond k [] (without P (c .variable) (getD (c .row) (c .variable) 0) ∷ [])) (precludedBy P (c .variable) (c .row) ∷ [])) ≤ 1
+    go : (b k : Bool)
+        → length (cond b (cond k [] (without P (c .variable) (getD (c .row) (c .variable) 0) ∷ [])) (precludedBy P (c .variable) (c .row) ∷ [])) ≤ 1
     go true true = omega arith
     go true false = omega arith
     go false k = omega arith
@@ -181,7 +184,8 @@ module _ (n d : ℕ) (t : List ℕ) (P : Subproblem) (fit : Sized n d t) (reg : 
 
     -- The precluded piece.
     pub precluded-is : precludedBy P (c .variable) (c .row) ≡ precluded n (tableOf n d t) P (c .variable) (c .value)
-    precluded-is = by-row n (tableOf n d t) P (c .variable) (c .value) (c .row) (fit .few) (reg .shape .long) (reg .shape .past) variable-is value-is (h .row)
+    precluded-is =
+        by-row n (tableOf n d t) P (c .variable) (c .value) (c .row) (fit .few) (reg .shape .long) (reg .shape .past) variable-is value-is (h .row)
 
     -- One piece at most.
     pub left-is : several c ≡ false → pieces n (tableOf n d t) P (requestBy c (cond (c .lost) 2 3)) ≡ leftBy P c
@@ -199,7 +203,8 @@ module _ (n d : ℕ) (t : List ℕ) (P : Subproblem) (fit : Sized n d t) (reg : 
             → pieces n (tableOf n d t) P (request (cond b 2 3) (c .variable) (c .value))
             ≡ cond b (cond k [] (without P (c .variable) (getD (c .row) (c .variable) 0) ∷ [])) (precludedBy P (c .variable) (c .row) ∷ [])
         go true e true k s = two-none n d (tableOf n d t) P (c .variable) (c .value) (fit .few) reg variable-is value-is e (one k)
-        go true e false k s = rw (h .row .own) (two-rest n d (tableOf n d t) P (c .variable) (c .value) (fit .few) reg variable-is value-is e (more k))
+        go true e false k s =
+            rw (h .row .own) (two-rest n d (tableOf n d t) P (c .variable) (c .value) (fit .few) reg variable-is value-is e (more k))
         go false e true k s =
             three-one n d (tableOf n d t) P (c .variable) (c .value) (fit .few) reg variable-is value-is e (one k)
             ∙ ap (λ (Q : Subproblem). Q ∷ []) (sym precluded-is)
@@ -211,13 +216,16 @@ module _ (n d : ℕ) (t : List ℕ) (P : Subproblem) (fit : Sized n d t) (reg : 
     checks-by k e = ⊎-elim (λ (q : k ≡ 2). rw q refl) (λ (q : k ≡ 3). rw q refl) e
 
     pub counted : (c .values ≤ total 32 (λ i. size (domain P i))) × (total 32 (λ i. size (domain P i)) - c .values ≡ valuesIn (others (c .variable)) n P)
-    counted = let sum = values-are n d P (fit .few) (fit .small) reg (c .variable) variable-is in (omega (arith, sum, h .values), omega (arith, sum, h .values))
+    counted =
+        let sum = values-are n d P (fit .few) (fit .small) reg (c .variable) variable-is in
+        (omega (arith, sum, h .values), omega (arith, sum, h .values))
 
     -- Both are accepted.
     pub accepted-by : (k : ℕ) → (k ≡ 2) ⊎ (k ≡ 3) → refusalOf n d P (requestBy c k) ≡ 0
     accepted-by k e =
         is-none n d P (requestBy c k) .1
-        (accepted n d P (requestBy c k) e variable-is (rw (h .variable) (fewest-is n P runs .uninstantiated)) (rw (h .value) (value-below n d t P (c .variable) fit reg variable-is)) value-is)
+        (accepted n d P (requestBy c k) e variable-is (rw (h .variable) (fewest-is n P runs .uninstantiated))
+        (rw (h .value) (value-below n d t P (c .variable) fit reg variable-is)) value-is)
 
     -- The one that the rule chooses: kind 2 where the precluded piece is empty or kind 3 has no room, else kind 3.
     unfoldable pub kindBy : ℕ → ℕ
@@ -245,13 +253,15 @@ module _ (n d : ℕ) (t agenda : List ℕ) (P : Subproblem) (s : State) (h : Tak
   -- It has its slot, which is free for its pieces.
   pub taking-slot : SlotIn n (s .subproblems - 1) (length agenda)
   taking-slot =
-      slot-below n (s .subproblems - 1) (slotsIn n (length agenda)) (length agenda) (h .ready .fitting .few) (omega (arith, in-slots n d t agenda P [] s h, h .some)) (omega (arith, h .ready .whole))
+      slot-below n (s .subproblems - 1) (slotsIn n (length agenda)) (length agenda) (h .ready .fitting .few)
+      (omega (arith, in-slots n d t agenda P [] s h, h .some)) (omega (arith, h .ready .whole))
 
   -- At the last count of steps nothing is taken.
   pub chosen-refused : s .counts .steps .0 ≡ 4294967295 → TakesChosen n d t P agenda agenda s (record { refusal = 11; taken = 0; state = s })
   chosen-refused e =
       take-refused n d t agenda P _ s h 11
-      (refused-at-11 n d t P (chosenFor n d t P (slotsIn n (length agenda) - (s .subproblems - 1))) (s .counts .steps .0) (slotsIn n (length agenda) - (s .subproblems - 1)) e)
+      (refused-at-11 n d t P (chosenFor n d t P (slotsIn n (length agenda) - (s .subproblems - 1))) (s .counts .steps .0)
+      (slotsIn n (length agenda) - (s .subproblems - 1)) e)
       (λ z. omega arith)
 
   -- It stands there, with what is found of it.
@@ -276,7 +286,8 @@ module _ (n d : ℕ) (t agenda : List ℕ) (P : Subproblem) (s : State) (h : Tak
     its-refusal : l .refusal ≡ refusalFor n d t P (chosenFor n d t P free) (s .counts .steps .0) free
     unfolding refusalFor
     its-refusal =
-        let taken : refusalOf n d P (chosenFor n d t P free) ≡ 0 = rw is-chosen (accepted-by n d t P (h .ready .fitting) taking-regular (h .runs) c f kind its-kind) in
+        let taken : refusalOf n d P (chosenFor n d t P free) ≡ 0 = rw is-chosen
+        (accepted-by n d t P (h .ready .fitting) taking-regular (h .runs) c f kind its-kind) in
         put .refusal ∙ rw (ne-eqb (s .counts .steps .0) 4294967295 go-on, eq-eqb (refusalOf n d P (chosenFor n d t P free)) 0 taken) refl
 
     -- Refused, or taken.
@@ -288,12 +299,18 @@ module _ (n d : ℕ) (t agenda : List ℕ) (P : Subproblem) (s : State) (h : Tak
 
     pub chosen-taken : l .refusal ≡ 0 → (k : ℕ) → k ≡ s .counts .checks .0 + (total 32 (λ i. size (domain P i)) - c .values)
         → TakesChosen n d t P agenda after s
-        (record { refusal = 0; taken = 1; state = record { counts = record { steps = record { 0 = s .counts .steps .0 + 1 }; checks = record { 0 = k } }; subproblems = l .subproblems } })
+        (record {
+          refusal = 0;
+          taken = 1;
+          state = record
+              { counts = record { steps = record { 0 = s .counts .steps .0 + 1 }; checks = record { 0 = k } }; subproblems = l .subproblems };
+        })
     chosen-taken z k e =
         let sum : total 32 (λ i. size (domain P i)) - c .values ≡ checks n (tableOf n d t) P (chosenFor n d t P free) =
         counted n d t P (h .ready .fitting) taking-regular (h .runs) c f .1
         ∙ sym (rw is-chosen (checks-by n d t P (h .ready .fitting) taking-regular (h .runs) c f kind its-kind)) in
-        take-taken n d t agenda P _ s h (l .refusal) its-refusal z after (l .subproblems) k (put .placed z) (e ∙ ap (λ (x : ℕ). s .counts .checks .0 + x) sum)
+        take-taken n d t agenda P _ s h (l .refusal) its-refusal z after (l .subproblems) k (put .placed z)
+        (e ∙ ap (λ (x : ℕ). s .counts .checks .0 + x) sum)
 
 -- ---- the pieces put
 
@@ -330,4 +347,6 @@ module _ (n d : ℕ) (t : List ℕ) (P : Subproblem) (c : Choice) (below words :
   put-kept s = sym (h .found .lost) ∙ several-kept c s
 
   pub put-rest : several c ≡ true → empty n (without P (c .variable) (single (c .value))) ≡ false
-  put-rest s = rest-full n d (tableOf n d t) P (c .variable) (c .value) (h .fitting .few) (h .regular) put-variable put-member (several-more n d t P c (h .found) s)
+  put-rest s =
+      rest-full n d (tableOf n d t) P (c .variable) (c .value) (h .fitting .few) (h .regular) put-variable put-member
+      (several-more n d t P c (h .found) s)

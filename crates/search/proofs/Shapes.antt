@@ -93,7 +93,8 @@ module _ (n d : ℕ) (few : n ≤ 32) (P : Subproblem) (s : Shape n d P) (allowe
   shape-disjunct : (V′ v j : ℕ) → Shape n d (disjunct allowed P V′ v j)
   unfolding disjunct
   shape-disjunct V′ v j =
-      shape-without n d few _ (shape-beside n d few (without P V′ (single v)) (shape-without n d few P s V′ (single v)) allowed V′ v j) j (allowed V′ j v)
+      shape-without n d few _ (shape-beside n d few (without P V′ (single v)) (shape-without n d few P s V′ (single v)) allowed V′ v j) j
+      (allowed V′ j v)
 
   -- A further piece of extraction.
   shape-extract : (r : List ℕ) (j : ℕ) → j ≤ n → ((i : ℕ) → i < n → Part (targetOf r i) (domain P i)) → Shape n d (extract P r j)
@@ -140,7 +141,8 @@ module _ (n d : ℕ) (t : List ℕ) (P : Subproblem) (r : List ℕ) (fit : Sized
   -- The precluded piece of an accepted request.
   first : (kind : ℕ) → kindOf r ≡ kind → kind ≤ 3 → Shape n d (precluded n (tableOf n d t) P (variableOf r) (valueOf r))
   first kind e l =
-      shape-precluded n d (fit .few) P s (tableOf n d t) (variableOf r) (valueOf r) (its-variable n d P r accepted kind e (omega arith)) (its-value n d P r accepted kind e l)
+      shape-precluded n d (fit .few) P s (tableOf n d t) (variableOf r) (valueOf r) (its-variable n d P r accepted kind e (omega arith))
+      (its-value n d P r accepted kind e l)
 
   -- Kind by kind.
   of-1 : (k : ℕ) → kindOf r ≡ 1 → Shaped k

@@ -80,7 +80,9 @@ module _ (n d : ℕ) (t : List ℕ) (P : Subproblem) (c : Choice) (below words :
 
   less-some : (i : ℕ) → i < n → getD less i 0 ≡ 0 → ⊥
   less-some i l z = elim (ℕ-discrete i (c .variable)) [
-    | yes e ↦ some-left n d (tableOf n d t) P (c .variable) (c .value) few (h .regular) below-n (put-member n d t P c below words h) (several-more n d t P c (h .found) s)
+    | yes e ↦
+        some-left n d (tableOf n d t) P (c .variable) (c .value) few (h .regular) below-n (put-member n d t P c below words h)
+        (several-more n d t P c (h .found) s)
         (sym less-own ∙ rw e at z)
     | no k ↦ h .regular .filled i l (sym (less-other i k) ∙ z)
   ]
@@ -124,7 +126,9 @@ module _ (n d : ℕ) (t : List ℕ) (P : Subproblem) (c : Choice) (below words :
     rest-domains = ap (λ (Q : Subproblem). Q .domains) rest-is
 
     row-own : getD (f .row) (c .variable) 0 ≡ 65535
-    row-own = ap (λ (l : List ℕ). getD l (c .variable) 0) (its .row) ∙ getD-set-same (c .row) (c .variable) 65535 0 (omega (arith, below-n, few, h .found .row .long))
+    row-own =
+        ap (λ (l : List ℕ). getD l (c .variable) 0) (its .row) ∙ getD-set-same (c .row) (c .variable) 65535 0
+        (omega (arith, below-n, few, h .found .row .long))
 
     row-other : (i : ℕ) → i < n → (i ≡ c .variable → ⊥) → getD (f .row) i 0 ≡ tableOf n d t (c .variable) i (c .value)
     row-other i l k = ap (λ (l : List ℕ). getD l i 0) (its .row) ∙ getD-set-other (c .row) (c .variable) i 65535 0 k ∙ h .found .row .other i l k
@@ -132,7 +136,9 @@ module _ (n d : ℕ) (t : List ℕ) (P : Subproblem) (c : Choice) (below words :
     -- A domain is a word of 16 bits.
     less-word : (i : ℕ) → getD less i 0 < 65536
     less-word i = elim (ℕ-discrete i (c .variable)) [
-      | yes e ↦ rw (e, less-own) (part-lt 16 _ _ (minus-part (domain P (c .variable)) (single (c .value))) (word n d P few (h .fitting .small) (h .regular) (c .variable)))
+      | yes e ↦
+          rw (e, less-own)
+          (part-lt 16 _ _ (minus-part (domain P (c .variable)) (single (c .value))) (word n d P few (h .fitting .small) (h .regular) (c .variable)))
       | no k ↦ rw (less-other i k) (word n d P few (h .fitting .small) (h .regular) i)
     ]
 
@@ -182,7 +188,8 @@ module _ (n d : ℕ) (t : List ℕ) (P : Subproblem) (c : Choice) (below words :
           getD-set-same (cutDown (j - 1)) (j - 1) _ 0 (rw (cut-is (j - 1), length-changed (j - 1) besides less) (omega (arith, long, few)))
           ∙ ap (λ (m : ℕ). minus m (tableOf n d t (c .variable) (j - 1) (c .value))) (rw (cut-is (j - 1)) (changed-next (j - 1) besides less))
 
-      elsewhere : (i : ℕ) → (i ≡ j - 1 → ⊥) → domain (disjunct (tableOf n d t) P (c .variable) (c .value) (j - 1)) i ≡ getD (changed (j - 1) besides less) i 0
+      elsewhere : (i : ℕ) → (i ≡ j - 1 → ⊥)
+          → domain (disjunct (tableOf n d t) P (c .variable) (c .value) (j - 1)) i ≡ getD (changed (j - 1) besides less) i 0
       unfolding disjunct without
       elsewhere i k = getD-set-other (cutDown (j - 1)) (j - 1) i _ 0 k ∙ rw (cut-is (j - 1)) refl
 
@@ -190,7 +197,9 @@ module _ (n d : ℕ) (t : List ℕ) (P : Subproblem) (c : Choice) (below words :
       none-left : rest ≡ 0 → empty n (candidate n (tableOf n d t) P r j) ≡ true
       none-left z = elim (ℕ-discrete (j - 1) (c .variable)) [
         | yes e ↦ rw (candidate-own e) own-empty
-        | no k ↦ rw (candidate-other k) (sym (empty-at n (disjunct (tableOf n d t) P (c .variable) (c .value) (j - 1)) (j - 1) (omega arith) (here ∙ sym (other-rest k) ∙ z)))
+        | no k ↦
+            rw (candidate-other k)
+            (sym (empty-at n (disjunct (tableOf n d t) P (c .variable) (c .value) (j - 1)) (j - 1) (omega arith) (here ∙ sym (other-rest k) ∙ z)))
       ]
 
       -- It is not where something is.
@@ -228,14 +237,17 @@ module _ (n d : ℕ) (t : List ℕ) (P : Subproblem) (c : Choice) (below words :
         made-at i b =
             changed-before 32 (λ i m. common m (getD masks i 0)) less i b (omega (arith, long)) ∙ q .1 .each i b (getD less i 0) (less-word i)
             ∙ elim (decLt i (j - 1)) [
-              | yes u ↦ rw (lt-ltb i (j - 1) u) (cut-at u) ∙ sym (changed-before (j - 1) besides less i u (omega (arith, long))) ∙ sym (elsewhere i (λ e. omega arith))
+              | yes u ↦
+                  rw (lt-ltb i (j - 1) u) (cut-at u) ∙ sym (changed-before (j - 1) besides less i u (omega (arith, long))) ∙ sym
+                  (elsewhere i (λ e. omega arith))
               | no u ↦ rw (le-ltb i (j - 1) (omega arith)) (elim (ℕ-discrete i (j - 1)) [
                 | yes e ↦ rw (eq-eqb i (j - 1) e) (rw (e, row-other (j - 1) (omega arith) (rest-other k)) (sym here))
                 | no w ↦ rw (ne-eqb i (j - 1) w) (sym (changed-after (j - 1) besides less i (omega arith)) ∙ sym (elsewhere i w))
               ])
             ]
           where
-            cut-at : i < j - 1 → common (getD less i 0) (getD (f .row) i 0) ≡ cond (eqb i (c .variable)) (getD less i 0) (common (getD less i 0) (tableOf n d t (c .variable) i (c .value)))
+            cut-at : i < j - 1
+                → common (getD less i 0) (getD (f .row) i 0) ≡ cond (eqb i (c .variable)) (getD less i 0) (common (getD less i 0) (tableOf n d t (c .variable) i (c .value)))
             cut-at u = elim (ℕ-discrete i (c .variable)) [
               | yes e ↦ rw (eq-eqb i (c .variable) e) (rw (e, row-own) (all-common (getD less (c .variable) 0) (less-word (c .variable))))
               | no w ↦ rw (ne-eqb i (c .variable) w, row-other i (omega arith) w) refl
@@ -252,7 +264,8 @@ module _ (n d : ℕ) (t : List ℕ) (P : Subproblem) (c : Choice) (below words :
         unfolding cutEach disjunct without cutBeside
         made-is =
             let all : made ≡ disjunct (tableOf n d t) P (c .variable) (c .value) (j - 1) .domains =
-            ext-getD 0 _ _ (made-long ∙ sym (length-set (cutDown (j - 1)) (j - 1) _ ∙ rw (cut-is (j - 1), length-changed (j - 1) besides less) long)) (λ i b. made-at i (omega (arith, made-long))) in
+            ext-getD 0 _ _ (made-long ∙ sym (length-set (cutDown (j - 1)) (j - 1) _ ∙ rw (cut-is (j - 1), length-changed (j - 1) besides less) long))
+            (λ i b. made-at i (omega (arith, made-long))) in
             let marks : f .rest .marked ≡ P .marked = ap (λ (R : Subproblem). R .marked) rest-is in
             let same : cutEach (f .rest) masks ≡ disjunct (tableOf n d t) P (c .variable) (c .value) (j - 1) =
             λ i. record { domains = (ap (changed 32 (λ i m. common m (getD masks i 0))) rest-domains ∙ all) i; marked = marks i } in
@@ -270,7 +283,8 @@ module _ (n d : ℕ) (t : List ℕ) (P : Subproblem) (c : Choice) (below words :
         spread-drop z =
             subst (λ (k : ℕ). Gathered n d t P r before below agenda at k) down
             (gather-drop n d t P r reads before below agenda at (j + 1) so-far (n + 1) its-named (omega arith) (omega arith)
-            (candidate n (tableOf n d t) P r j) (subst (λ (k : ℕ). Piece P n d t r k (candidate n (tableOf n d t) P r j)) (sym back) (piece-of j _ (omega arith) refl))
+            (candidate n (tableOf n d t) P r j)
+            (subst (λ (k : ℕ). Piece P n d t r k (candidate n (tableOf n d t) P r j)) (sym back) (piece-of j _ (omega arith) refl))
             true (sym (none-left z)) refl)
 
         module _ (Q : Subproblem) (q : FurtherPiece f (j - 1) Q) (k : rest ≡ 0 → ⊥) where
@@ -282,7 +296,8 @@ module _ (n d : ℕ) (t : List ℕ) (P : Subproblem) (c : Choice) (below words :
 
           pub spread-slot : SlotIn n at (length agenda)
           spread-slot =
-              gather-slot n d t P r reads before below agenda at (j + 1) so-far (n + 1) its-named (omega arith) (omega arith) Q its-piece false its-filled refl few
+              gather-slot n d t P r reads before below agenda at (j + 1) so-far (n + 1) its-named (omega arith) (omega arith) Q its-piece false
+              its-filled refl few
               (rw whole room)
 
           pub spread-keep : (after : List ℕ) → after ≡ splice agenda (at * (n + 2)) (slotWords n Q) → length after ≡ length agenda
@@ -309,20 +324,27 @@ module _ (n d : ℕ) (t : List ℕ) (P : Subproblem) (c : Choice) (below words :
       first-filled = sym (rw (q ∙ put-precluded n d t P c below words h) (put-kept n d t P c below words h s))
 
       pub spread-last : SlotIn n at (length agenda)
-      spread-last = gather-slot n d t P r reads before below agenda at 1 first (n + 1) its-named (omega arith) (omega arith) Q (piece-of 0 Q (omega arith) is-first) false first-filled refl few (rw whole room)
+      spread-last =
+          gather-slot n d t P r reads before below agenda at 1 first (n + 1) its-named (omega arith) (omega arith) Q
+          (piece-of 0 Q (omega arith) is-first) false first-filled refl few (rw whole room)
 
       some : 1 ≤ length (pieces n (tableOf n d t) P r)
       some =
-          let all : length (pieces n (tableOf n d t) P r) ≡ length (firsts n (candidate n (tableOf n d t) P r) 1) + length (first .rest) = ap length (first .all) ∙ simp length-append in
+          let all : length (pieces n (tableOf n d t) P r) ≡ length (firsts n (candidate n (tableOf n d t) P r) 1) + length (first .rest) = ap length
+          (first .all) ∙ simp length-append in
           let one : length (firsts n (candidate n (tableOf n d t) P r) 1) ≡ 1 =
-          ap length (firsts-keep n (candidate n (tableOf n d t) P r) 0 (rw is-first at (sym first-filled))) ∙ rw (length-append, firsts-start n (candidate n (tableOf n d t) P r)) refl in
+          ap length (firsts-keep n (candidate n (tableOf n d t) P r) 0 (rw is-first at (sym first-filled))) ∙ rw
+          (length-append, firsts-start n (candidate n (tableOf n d t) P r)) refl in
           omega arith
 
-      pub spread-end : (after : List ℕ) → length (Q .domains) ≡ 32 → after ≡ splice agenda (at * (n + 2)) (slotWords n Q) → length after ≡ length agenda
+      pub spread-end : (after : List ℕ) → length (Q .domains) ≡ 32 → after ≡ splice agenda (at * (n + 2)) (slotWords n Q)
+          → length after ≡ length agenda
           → Replaced n (pieces n (tableOf n d t) P r) below before after (at + 1)
       spread-end after l w m =
           gather-replaced n d t P r reads before below after (at + 1) 0
-          (gather-keep n d t P r reads before below agenda at 1 first (n + 1) its-named (omega arith) (omega arith) Q (piece-of 0 Q (omega arith) is-first) false first-filled refl after few (rw whole room) l w m) refl
+          (gather-keep n d t P r reads before below agenda at 1 first (n + 1) its-named (omega arith) (omega arith) Q
+          (piece-of 0 Q (omega arith) is-first) false first-filled refl after few (rw whole room) l w m)
+          refl
           some (rw whole room)
 
   -- ---- how many they are
@@ -368,4 +390,6 @@ module _ (n d : ℕ) (t : List ℕ) (P : Subproblem) (c : Choice) (below words :
     unfolding candidates
     count-three =
         let end : n + (32 - n) ≡ 32 = omega (arith, few) in
-        ap length (pieces-are n d t P r reads (h .regular .shape .long)) ∙ (let up : n + 1 ≡ suc n = omega arith in ap (λ (x : ℕ). length (firsts n (candidate n (tableOf n d t) P r) x)) up) ∙ so-many n (le-refl n) ∙ ap (λ (k : ℕ). k + 1) (sym (rw end at (past-none (32 - n) (omega arith))))
+        ap length (pieces-are n d t P r reads (h .regular .shape .long)) ∙
+        (let up : n + 1 ≡ suc n = omega arith in ap (λ (x : ℕ). length (firsts n (candidate n (tableOf n d t) P r) x)) up) ∙ so-many n (le-refl n) ∙
+        ap (λ (k : ℕ). k + 1) (sym (rw end at (past-none (32 - n) (omega arith))))

@@ -120,7 +120,8 @@ module _ (p : Problem) (room : ℕ) (r : List ℕ) (s : Search) where
 
   module _ (runs : finished (p .n) (s .stack) ≡ false) where
     -- A refused request leaves the search.
-    pub one-refused : (x : ℕ) → x ≡ refusalOfRequest p room r s → (x ≡ 0 → ⊥) → runFrom p room (r ∷ []) s 0 ≡ record { search = s; refusal = x; taken = 0 }
+    pub one-refused : (x : ℕ) → x ≡ refusalOfRequest p room r s → (x ≡ 0 → ⊥)
+        → runFrom p room (r ∷ []) s 0 ≡ record { search = s; refusal = x; taken = 0 }
     unfolding runFrom
     one-refused x e h = rw (e, runs, ne-eqb (refusalOfRequest p room r s) 0 (λ z. h (e ∙ z))) refl
 
@@ -147,7 +148,8 @@ room-shift room a b h = elim (decLt (room - a) b) [
 ]
 
 -- The refusal by the free slots is the refusal by all of them.
-pub refusal-same : (n d : ℕ) (t : List ℕ) (room : ℕ) (r : List ℕ) (s : Search) (P : Subproblem) (S : List Subproblem) → s .stack ≡ P ∷ S → length S ≤ room
+pub refusal-same : (n d : ℕ) (t : List ℕ) (room : ℕ) (r : List ℕ) (s : Search) (P : Subproblem) (S : List Subproblem) → s .stack ≡ P ∷ S
+    → length S ≤ room
     → refusalFor n d t P r (s .steps) (room - length S) ≡ refusalOfRequest (problemOf n d [] t) room r s
 unfolding refusalFor refusalOfRequest refusalOfTop splitTop
 refusal-same n d t room r s P S top h =
@@ -235,7 +237,8 @@ module _ (n d : ℕ) (t agenda : List ℕ) (P : Subproblem) (r : List ℕ) (s : 
     sized : length (stackWords n (pieces n (tableOf n d t) P r)) ≡ length (pieces n (tableOf n d t) P r) * (n + 2)
     sized =
         length-stack n (pieces n (tableOf n d t) P r)
-        (λ Q m. omega (arith, pieces-regular n d t P r (h .ready .fitting) (top-regular .shape) (told .accepted) Q m .shape .long, h .ready .fitting .few))
+        (λ Q m. omega
+        (arith, pieces-regular n d t P r (h .ready .fitting) (top-regular .shape) (told .accepted) Q m .shape .long, h .ready .fitting .few))
 
     -- What lies below the top stays regular.
     rest-regular : (Q : Subproblem) → List·Memᴰ Q (stackOf n agenda (s .subproblems - 1)) → Regular n d Q
@@ -256,14 +259,17 @@ module _ (n d : ℕ) (t agenda : List ℕ) (P : Subproblem) (r : List ℕ) (s : 
         let whole : agenda ≡ agendaOf n (length agenda) (P ∷ S) = h .ready .words ∙ ap (agendaOf n (length agenda)) top-is in
         let pop : splice agenda a (replicate (n + 2) 0) ≡ agendaOf n (length agenda) S =
         ap (λ (l : List ℕ). splice l a (replicate (n + 2) 0)) whole
-        ∙ agenda-pop n (length agenda) a P S (omega (arith, top-regular .shape .long, h .ready .fitting .few)) rest-sized (omega (arith, take-slot)) in
+        ∙ agenda-pop n (length agenda) a P S (omega (arith, top-regular .shape .long, h .ready .fitting .few)) rest-sized (omega (arith, take-slot))
+        in
         m .words ∙ rw pop (agenda-push n (length agenda) a (pieces n (tableOf n d t) P r) S rest-sized (omega (arith, take-room, sized)))
 
     -- As many words as before.
-    made-length : (after : List ℕ) (count : ℕ) → Replaced n (pieces n (tableOf n d t) P r) (s .subproblems - 1) agenda after count → length after ≡ length agenda
+    made-length : (after : List ℕ) (count : ℕ) → Replaced n (pieces n (tableOf n d t) P r) (s .subproblems - 1) agenda after count
+        → length after ≡ length agenda
     made-length after count m =
         let short : length (stackWords n (pieces n (tableOf n d t) P r ++ stackOf n agenda (s .subproblems - 1))) ≤ length agenda =
-        rw (stack-append n (pieces n (tableOf n d t) P r) (stackOf n agenda (s .subproblems - 1)), length-append) (omega (arith, rest-sized, sized, take-room)) in
+        rw (stack-append n (pieces n (tableOf n d t) P r) (stackOf n agenda (s .subproblems - 1)), length-append)
+        (omega (arith, rest-sized, sized, take-room)) in
         ap length (made-words after count m)
         ∙ length-agenda n (length agenda) (pieces n (tableOf n d t) P r ++ stackOf n agenda (s .subproblems - 1)) short
 
@@ -291,7 +297,11 @@ module _ (n d : ℕ) (t agenda : List ℕ) (P : Subproblem) (r : List ℕ) (s : 
     pub take-taken : (after : List ℕ) (count c : ℕ) → Replaced n (pieces n (tableOf n d t) P r) (s .subproblems - 1) agenda after count
         → c ≡ s .counts .checks .0 + checks n (tableOf n d t) P r
         → StopsAt n d t agenda after (runFrom (problemOf n d [] t) (slotsIn n (length agenda)) (r ∷ []) (searchOf n agenda s) 0)
-        (record { refusal = 0; taken = 1; state = record { counts = record { steps = record { 0 = s .counts .steps .0 + 1 }; checks = record { 0 = c } }; subproblems = count } })
+        (record {
+          refusal = 0;
+          taken = 1;
+          state = record { counts = record { steps = record { 0 = s .counts .steps .0 + 1 }; checks = record { 0 = c } }; subproblems = count };
+        })
     take-taken after count c m k =
         rw (
           one-taken (problemOf n d [] t) (slotsIn n (length agenda)) r (searchOf n agenda s) runs (sym none ∙ e ∙ its-refusal),

@@ -52,11 +52,27 @@ bit-not (suc w) b (suc v) h l =
 -- of a word joined of two by a third: the first where the third has a digit, else the second
 joined-kept : (a x k p : ℕ) → k < 2 ^ 64 → p < 64 → bit k p ≡ 1 → bit (bitOr (bitAnd a k) (bitAnd x (2 ^ 64 - 1 - k))) p ≡ bit a p
 joined-kept a x k p h l e =
-    omega (arith, bit-or (bitAnd a k) (bitAnd x (2 ^ 64 - 1 - k)) p, bit-common a k p, bit-common x (2 ^ 64 - 1 - k) p, bit-not 64 k p h l, bit-le a p, bit-le x p)
+    omega (
+      arith,
+      bit-or (bitAnd a k) (bitAnd x (2 ^ 64 - 1 - k)) p,
+      bit-common a k p,
+      bit-common x (2 ^ 64 - 1 - k) p,
+      bit-not 64 k p h l,
+      bit-le a p,
+      bit-le x p,
+    )
 
 joined-other : (a x k p : ℕ) → k < 2 ^ 64 → p < 64 → bit k p ≡ 0 → bit (bitOr (bitAnd a k) (bitAnd x (2 ^ 64 - 1 - k))) p ≡ bit x p
 joined-other a x k p h l e =
-    omega (arith, bit-or (bitAnd a k) (bitAnd x (2 ^ 64 - 1 - k)) p, bit-common a k p, bit-common x (2 ^ 64 - 1 - k) p, bit-not 64 k p h l, bit-le a p, bit-le x p)
+    omega (
+      arith,
+      bit-or (bitAnd a k) (bitAnd x (2 ^ 64 - 1 - k)) p,
+      bit-common a k p,
+      bit-common x (2 ^ 64 - 1 - k) p,
+      bit-not 64 k p h l,
+      bit-le a p,
+      bit-le x p,
+    )
 
 -- what is not moved in comes from within the other word
 unfoldable riseFits : ℕ → ℕ → Bool
@@ -191,7 +207,8 @@ sink-cell m k s q o p h f l =
     sink-digit (quarter m q) (quarter m o) k s p h l
     ∙ pick-same (bit k p) (bit (quarter m q) p) (bit (quarter m o) (s + p)) (cell m (q * 64 + p)) (cell m (o * 64 + (s + p)))
     (λ e. sym (cell-at m q p l))
-    (λ e. sym (cell-at m o (s + p) (ltb-true (s + p) 64 (other-test (bit k p) (ltb (s + p) 64) e (every-at (λ x. eqb (bit k x) 1 || ltb (s + x) 64) 64 p l f)))))
+    (λ e. sym
+    (cell-at m o (s + p) (ltb-true (s + p) 64 (other-test (bit k p) (ltb (s + p) 64) e (every-at (λ x. eqb (bit k x) 1 || ltb (s + x) 64) 64 p l f)))))
     (bit-le k p)
     ∙ push (cell m) (eqb (bit k p) 1) (q * 64 + p) (o * 64 + (s + p))
 

@@ -131,7 +131,8 @@ running-if n (P ∷ S) = go (allInstantiated n P)
 
 -- ---- what "solved" shows
 
-pub solved-top : (n : ℕ) (S : List Subproblem) → verdictOf n S ≡ Solved → (P : Subproblem) × (T : List Subproblem) × (S ≡ P ∷ T) × (allInstantiated n P ≡ true)
+pub solved-top : (n : ℕ) (S : List Subproblem) → verdictOf n S ≡ Solved
+    → (P : Subproblem) × (T : List Subproblem) × (S ≡ P ∷ T) × (allInstantiated n P ≡ true)
 unfolding verdictOf
 solved-top n [] e = absurd (unsolvable-solved e)
 solved-top n (P ∷ T) e = (P, T, refl, top-solved n P T e)

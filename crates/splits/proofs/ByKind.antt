@@ -87,7 +87,8 @@ unfolding readable
 few n d t r fits =
     let ranged : inside n d t (variableOf r) (valueOf r) ≡ true → n ≤ 32 = λ h. inside-true n d t (variableOf r) (valueOf r) h .fit .few in
     let alone : leb n 32 ≡ true → n ≤ 32 = leb-true n 32 in
-    kind-any (kindOf r) _ _ _ _ _ _ (λ b. b ≡ true → n ≤ 32) ranged ranged ranged (λ h. alone (and-left (leb n 32) (ltb (variableOf r) n) h)) alone alone fits
+    kind-any (kindOf r) _ _ _ _ _ _ (λ b. b ≡ true → n ≤ 32) ranged ranged ranged (λ h. alone (and-left (leb n 32) (ltb (variableOf r) n) h)) alone
+    alone fits
 
 -- of a request with its kind, V and v as the code has them
 module _ (n d : ℕ) (t r : List ℕ) (P : Subproblem) (V′ v : ℕ) (its-variable : V′ ≡ variableOf r) (its-value : v ≡ valueOf r) where

@@ -95,7 +95,8 @@ pub at-most-496 : (p : Problem) (P : Subproblem) (r : List ℕ) → Splits p P r
 unfolding checks
 at-most-496 p P r s =
     five
-    (λ k. kindOf r ≡ k → byKind k (tried (others x) (p .n) (p .allowed) P x v) (valuesIn (others x) (p .n) P) (valuesIn (others x) (p .n) P) 0 0 0 ≤ 496)
+    (λ k. kindOf r ≡ k → byKind k (tried (others x) (p .n) (p .allowed) P x v) (valuesIn (others x) (p .n) P) (valuesIn (others x) (p .n) P) 0 0 0 ≤
+    496)
     (kindOf r) (s .accepted .not-7)
     (λ e. tried-most p P x v (s .proper .variables) (ranged (omega arith) (omega arith)))
     (λ e. values-most p P x v (s .proper .variables) (ranged (omega arith) (omega arith)) small)
@@ -113,4 +114,5 @@ at-most-496 p P r s =
 
     small : (i : ℕ) → i < p .n → size (domain P i) ≤ 16
     small i l =
-        le-trans (ones-le (p .d) (domain P i) (part-lt (p .d) (domain P i) (p .domain i) (s .rules .part i l) (s .proper .domains i l))) (s .proper .values)
+        le-trans (ones-le (p .d) (domain P i) (part-lt (p .d) (domain P i) (p .domain i) (s .rules .part i l) (s .proper .domains i l)))
+        (s .proper .values)

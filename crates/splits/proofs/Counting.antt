@@ -89,7 +89,9 @@ module _ (n : ℕ) (allowed : Table) (P : Subproblem) (V′ v : ℕ) where
     look-stop q f m e h k l =
         let looked : instantiatedOther P V′ i ≡ true = sym e ∙ h in
         record {
-          counted = ap (λ (x : ℕ). x + 1) (so-far .passed) ∙ looked-stop (instantiatedOther P V′) (forbids allowed P V′ v) n i m (so-far .none) looked (sym k ∙ l);
+          counted =
+              ap (λ (x : ℕ). x + 1) (so-far .passed) ∙ looked-stop (instantiatedOther P V′) (forbids allowed P V′ v) n i m (so-far .none) looked
+              (sym k ∙ l);
           met = sym (some-at (λ j. instantiatedOther P V′ j && forbids allowed P V′ v j) n i m (rw (looked, ← k) l));
         }
 

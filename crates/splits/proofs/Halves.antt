@@ -19,7 +19,8 @@ module _ (k m : ℕ) (word : m < 2 ^ 16) (more : k < size m) where
   some-left : rest ≡ 0 → ⊥
   unfolding rest
   some-left e =
-      let split : size (smallest k m) + size rest ≡ size m = ap (λ (x : ℕ). size x + size rest) (sym (part-common (smallest k m) m (smallest-part k m word (le-of-lt more)))) ∙ size-split m (smallest k m) in
+      let split : size (smallest k m) + size rest ≡ size m = ap (λ (x : ℕ). size x + size rest)
+      (sym (part-common (smallest k m) m (smallest-part k m word (le-of-lt more)))) ∙ size-split m (smallest k m) in
       let none : size rest ≡ 0 = ap size e ∙ size-of-none in
       let kept : size (smallest k m) ≡ k = smallest-size k m word (le-of-lt more) in
       omega arith
@@ -38,7 +39,8 @@ module _ (k m : ℕ) (word : m < 2 ^ 16) (more : k < size m) where
   unfolding rest smallest
   next-kept =
       let apart : bit (smallest k m) (lowest rest) ≡ 0 = omega (arith, bit-minus m (smallest k m) (lowest rest), next, bit-le m (lowest rest)) in
-      rw (left, add-one, smallest-rest k m word (le-of-lt more)) (or-disjoint (smallest k m) (single (lowest rest)) (common-single (smallest k m) (lowest rest) apart))
+      rw (left, add-one, smallest-rest k m word (le-of-lt more))
+      (or-disjoint (smallest k m) (single (lowest rest)) (common-single (smallest k m) (lowest rest) apart))
 
   -- the same in the code's own words: `l` is the next value and `b` its mask
   pub turn-lt : (half l : ℕ) → half ≡ smallest k m → l ≡ lowest (bitAnd m (65535 - half)) → l < 16

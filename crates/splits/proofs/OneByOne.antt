@@ -127,7 +127,8 @@ pub all-one-by-one : (n d : ℕ) (allowed : Table) (P : Subproblem) (r : List �
 unfolding candidate candidates pieces named
 all-one-by-one n d allowed P r h =
     five
-    (λ k. kindOf r ≡ k → filled n (map (λ m. byKind k (backtracked n allowed P x v m) (checked n allowed P x v m) (inferred n allowed P x v m) (halved P x m) (extracted n P r m) P) (below (byKind k 2 2 (n + 1) 2 (n + 1) 0)))
+    (λ k. kindOf r ≡ k → filled n
+    (map (λ m. byKind k (backtracked n allowed P x v m) (checked n allowed P x v m) (inferred n allowed P x v m) (halved P x m) (extracted n P r m) P) (below (byKind k 2 2 (n + 1) 2 (n + 1) 0)))
     ≡ filled n (byKind k (backtracking n allowed P x v) (forwardChecking n allowed P x v) (idc n allowed P x v) (halving P x) (extraction n P r) []))
     (kindOf r) (h .not-7)
     (λ e. one-1 n allowed P x v (variable-lt n d P r h (omega arith) (omega arith)))

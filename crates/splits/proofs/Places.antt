@@ -73,7 +73,8 @@ module _ (n : ℕ) (allowed : Table) (P : Subproblem) (V′ v k : ℕ) (Q : Subp
       → Q ≡ inferred n allowed P V′ v k
   unfolding inferred disjunct
   inferred-later g m o R r S s a l e =
-      e ∙ ap (without S (k - 1)) l ∙ ap (λ (X : Subproblem). without X (k - 1) (allowed V′ (k - 1) v)) (s ∙ ap (λ (X : Subproblem). cutBeside allowed X V′ v (k - 1)) (r ∙ ap (without P V′) o))
+      e ∙ ap (without S (k - 1)) l ∙ ap (λ (X : Subproblem). without X (k - 1) (allowed V′ (k - 1) v))
+      (s ∙ ap (λ (X : Subproblem). cutBeside allowed X V′ v (k - 1)) (r ∙ ap (without P V′) o))
       ∙ sym (passed _ _ _ (ne-eqb (k - 1) V′ g)) ∙ later k _ _ f
 
 module _ (P : Subproblem) (V′ k m h : ℕ) (Q : Subproblem) (own : m ≡ domain P V′) (half : h ≡ smallerHalf m) where

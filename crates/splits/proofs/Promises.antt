@@ -77,7 +77,8 @@ weak-overlaps = (
 )
 
 pub one-value-lies : One-value-lies
-one-value-lies = (pair-proper, pair-rules, λ i k. ap size (pair-domains i k) ∙ size-single 0, both-zero 2 1 (1 ∷ 1 ∷ []) pair-top (le-refl 2) refl refl)
+one-value-lies =
+    (pair-proper, pair-rules, λ i k. ap size (pair-domains i k) ∙ size-single 0, both-zero 2 1 (1 ∷ 1 ∷ []) pair-top (le-refl 2) refl refl)
 
 pub dropping-loses : Dropping-loses
 unfolding untargeted filled keep below extract atTargets without changed empty some minus

@@ -38,7 +38,13 @@ inside-true n d t V′ v e =
 pub inside-is : (n d : ℕ) (t : List ℕ) (V′ v : ℕ) → Inside n d t V′ v → inside n d t V′ v ≡ true
 unfolding inside sized
 inside-is n d t V′ v h =
-    simp (lt-ltb V′ n (h .a-variable), lt-ltb v d (h .a-value), le-leb n 32 (h .fit .few), le-leb d 16 (h .fit .small), eq-eqb (length t) (n * n * d) (h .fit .words))
+    simp (
+      lt-ltb V′ n (h .a-variable),
+      lt-ltb v d (h .a-value),
+      le-leb n 32 (h .fit .few),
+      le-leb d 16 (h .fit .small),
+      eq-eqb (length t) (n * n * d) (h .fit .words),
+    )
 
 -- the word of i, j and a is one of the n × n × d, and what is worked out on the way is as small
 pub record Within (n d i j a : ℕ) (t : List ℕ) : Type 0 where

@@ -247,7 +247,8 @@ module _ (n d : ℕ) (P : Subproblem) (r : List ℕ) where
   unfolding refusalOf
   is-9 =
       Iff·trans
-      (later says-7 7 _ 9 refl (λ f. later (says-8 f) 8 _ 9 refl (λ g. here (says-9 f) 9 _ (neither (refused-10 n P r) 10 0 9 refl (eqb-false 0 9 refl)))))
+      (later says-7 7 _ 9 refl
+      (λ f. later (says-8 f) 8 _ 9 refl (λ g. here (says-9 f) 9 _ (neither (refused-10 n P r) 10 0 9 refl (eqb-false 0 9 refl)))))
       (λ w. (w .0 .0, w .1, w .0 .1), λ w. ((w .0, w .2), w .1))
 
   pub is-10 : (refusalOf n d P r ≡ 10) ↔ (Deserves-10 n P r × (Deserves-7 r → ⊥) × (Deserves-8 n P r → ⊥) × (Deserves-9 d P r → ⊥))
@@ -345,12 +346,14 @@ module _ (n : ℕ) (P : Subproblem) (r s : List ℕ) (h : Agree n r s) where
   pub same-checks : (allowed : Table) → checks n allowed P r ≡ checks n allowed P s
   unfolding checks
   same-checks allowed =
-      words-same (λ V′ v. tried (others V′) n allowed P V′ v) (λ V′ v. valuesIn (others V′) n P) (λ V′ v. valuesIn (others V′) n P) (λ V′. 0) (λ q. 0) 0
+      words-same (λ V′ v. tried (others V′) n allowed P V′ v) (λ V′ v. valuesIn (others V′) n P) (λ V′ v. valuesIn (others V′) n P) (λ V′. 0) (λ q. 0)
+      0
       n r s h (λ i. refl)
 
   pub same-refusal : (d : ℕ) → refusalOf n d P r ≡ refusalOf n d P s
   same-refusal d =
-      kinds (λ k. kindOf r ≡ k → refusalOf n d P r ≡ refusalOf n d P s) (λ e. four (omega arith) (omega arith)) (λ e. four (omega arith) (omega arith))
+      kinds (λ k. kindOf r ≡ k → refusalOf n d P r ≡ refusalOf n d P s) (λ e. four (omega arith) (omega arith))
+      (λ e. four (omega arith) (omega arith))
       (λ e. four (omega arith) (omega arith)) (λ e. four (omega arith) (omega arith))
       (λ e. sym (of-targets n d P r (kindOf r) refl e) ∙ bad-same n P r s (h .targets e) ∙ of-targets n d P s (kindOf r) (h .kind) e)
       (λ k o e. is-7 n d P r .1 (rw e o) ∙ sym (is-7 n d P s .1 (rw (sym (h .kind) ∙ e) o))) (kindOf r) refl

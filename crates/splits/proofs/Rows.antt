@@ -74,7 +74,8 @@ module _ (n : ℕ) (allowed : Table) (P : Subproblem) (V′ v : ℕ) (row : List
   all : changed 32 (λ j m. common m (getD row j 0)) (P .domains) ≡ set (changed n besides (P .domains)) V′ (single v)
   all =
       ext-getD 0 _ _
-      (length-changed 32 (λ j m. common m (getD row j 0)) (P .domains) ∙ long ∙ sym (length-set (changed n besides (P .domains)) V′ (single v) ∙ cut-long))
+      (length-changed 32 (λ j m. common m (getD row j 0)) (P .domains) ∙ long ∙ sym
+      (length-set (changed n besides (P .domains)) V′ (single v) ∙ cut-long))
       (λ i l.
       let k : i < 32 = omega (arith, length-changed 32 (λ j m. common m (getD row j 0)) (P .domains), long) in
       changed-before 32 (λ j m. common m (getD row j 0)) (P .domains) i k (omega (arith, long)) ∙ at i k)

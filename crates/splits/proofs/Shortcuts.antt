@@ -94,7 +94,8 @@ not-7 r l u (inr h) = omega arith
 -- A request of kind 3 is accepted if V is a variable not instantiated that has v.
 accepted-3 : (n d : ℕ) (P : Subproblem) (r : List ℕ) → kindOf r ≡ 3 → variableOf r < n → (Instantiated P (variableOf r) → ⊥)
     → valueOf r < d → valueOf r ∈ domain P (variableOf r) → Accepted n d P r
-accepted-3 n d P r e k new l m = record { not-7 = not-7 r (omega arith) (omega arith); not-8 = not-8; not-9 = not-9; not-10 = λ h. omega (arith, h .0) }
+accepted-3 n d P r e k new l m =
+    record { not-7 = not-7 r (omega arith) (omega arith); not-8 = not-8; not-9 = not-9; not-10 = λ h. omega (arith, h .0) }
   where
     not-8 : Deserves-8 n P r → ⊥
     not-8 (_, inl h) = omega arith

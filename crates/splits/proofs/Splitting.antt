@@ -56,7 +56,13 @@ module _ {p : Problem} {P : Subproblem} where
       → ((Q : Subproblem) → List·Memᴰ Q l → Piece p P Q)
       → ((w : Weight) → weights w (p .n) l ≡ weight w (p .n) P) → Split p P kind l
   even kind l free each same =
-      record { free = free; each = each; most = λ w. le-of-eq (same w); size-sum = inl (same bySize); fit-sum = λ f s. inl (same (fits f) ∙ fits-whole p P f s) }
+      record {
+        free = free;
+        each = each;
+        most = λ w. le-of-eq (same w);
+        size-sum = inl (same bySize);
+        fit-sum = λ f s. inl (same (fits f) ∙ fits-whole p P f s);
+      }
 
   -- A piece that marks nothing and has a smaller domain.
   pub shrunk : (Q : Subproblem) (i : ℕ) → Q .marked ≡ P .marked → Within (Q .domains) (P .domains) → i < p .n

@@ -158,5 +158,10 @@ precluded-empty n allowed P V′ v e h k = some-same _ _ n (λ i l. go i l (ℕ-
         (sym (ne-eqb (single v) 0 (λ z. lt-irrefl 0 (rw z at (pow-pos v)))))
     go i l (no s) =
         let short : i < length (P .domains) = rw e (le-trans l k) in
-        rw (ne-eqb i V′ s, getD-set-other (changed n besides′ (P .domains)) V′ i (single v) 0 s, changed-before n besides′ (P .domains) i l short, ne-eqb i V′ s)
+        rw (
+          ne-eqb i V′ s,
+          getD-set-other (changed n besides′ (P .domains)) V′ i (single v) 0 s,
+          changed-before n besides′ (P .domains) i l short,
+          ne-eqb i V′ s,
+        )
         refl

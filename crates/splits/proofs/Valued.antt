@@ -332,10 +332,12 @@ module _ {p : Problem} {P : Subproblem} {x v : ℕ} (held : Held p P) (at : Valu
       ]
 
   -- What the peel takes off is the consistent subproblem.
-  pub peel-3 : (w : Weight) → weights w (p .n) (idc (p .n) (p .allowed) P x v) + weight w (p .n) (without (cutBeside (p .allowed) P x v (p .n)) x (single v))
+  pub peel-3 : (w : Weight)
+      → weights w (p .n) (idc (p .n) (p .allowed) P x v) + weight w (p .n) (without (cutBeside (p .allowed) P x v (p .n)) x (single v))
       ≡ weight w (p .n) precl + weight w (p .n) rest
   unfolding idc sum rows others weigh
   peel-3 w =
-      let same : weight w (p .n) (without (cutBeside (p .allowed) P x v (p .n)) x (single v)) ≡ weigh w (p .n) (changed (p .n) beside (rest .domains)) =
+      let same : weight w (p .n) (without (cutBeside (p .allowed) P x v (p .n)) x (single v)) ≡ weigh w (p .n) (changed (p .n) beside (rest .domains))
+      =
       product-same (p .n) _ _ (λ i k. ap (w .of i) (cut-rest i k)) in
       omega (arith, same, rest-peel w)

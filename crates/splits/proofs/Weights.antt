@@ -65,9 +65,11 @@ module _ (w : Weight) where
   unfolding weigh
   weigh-peel n kept f x l long cuts same =
       product-peel n kept _ _ _ (record {
-        split = λ j k e. ap₂ _+_ (ap (w .of j) (first j k ∙ cuts j k e)) (ap (w .of j) (row-here f x l j (omega arith))) ∙ w .split j (getD l j 0) (x j);
+        split =
+            λ j k e. ap₂ _+_ (ap (w .of j) (first j k ∙ cuts j k e)) (ap (w .of j) (row-here f x l j (omega arith))) ∙ w .split j (getD l j 0) (x j);
         same = λ j k e. ap (w .of j) (first j k ∙ same j k e);
-        before = λ j i k h. ap (w .of i) (row-other f x l j i (λ e. omega arith) ∙ changed-before j f l i h (omega arith) ∙ sym (first i (omega arith)));
+        before =
+            λ j i k h. ap (w .of i) (row-other f x l j i (λ e. omega arith) ∙ changed-before j f l i h (omega arith) ∙ sym (first i (omega arith)));
         after = λ j i k h. ap (w .of i) (row-other f x l j i (λ e. omega arith) ∙ changed-after j f l i (omega arith));
       })
     where

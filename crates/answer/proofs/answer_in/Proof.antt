@@ -36,7 +36,11 @@ same-length-3 c = search needs
 returns : tie.Need-returns
 returns c =
     held-answers _ _ _
-    (answer-refused _ _ (c .before .before .before .before .before .before .before .before .before .before .load .ensures .refusal ∙ same-refusal _ _ _ _ (c .before .before .before .before .before .before .before .before .before .before .before .before .before .before .before .before .before .before .pre)) (c .before .before .if1 .taken))
+    (answer-refused _ _
+    (c .before .before .before .before .before .before .before .before .before .before .load .ensures .refusal ∙ same-refusal _ _ _ _
+    (c .before .before .before .before .before .before .before .before .before .before .before .before .before .before .before .before .before .before
+    .pre))
+    (c .before .before .if1 .taken))
     (line-made _ _ _ (c .before .start .ensures) (c .with-refusal .ensures .0) (omega (arith, c .with-refusal .ensures .1)))
 
 choose-requires : tie.Need-choose-requires
@@ -44,7 +48,16 @@ choose-requires c κs = search needs
 
 text-of-requires : tie.Need-text-of-requires
 text-of-requires c κs =
-    chosen-shows _ _ _ _ _ _ _ _ _ _ (λ i. omega (arith, c .before .before .before .before .before .before .before .before .before .before .before .before .before .before .before .before .before .before .before .before .before .before .shared-slice-known .given i)) (c .before .before .before .before .before .before .before .before .before .before .before .before .before .before .before .before .before .before .before .before .before .before .before .pre) (c .before .before .before .before .before .before .before .before .before .before .before .before .before .before .before .load .ensures) (c .before .before .before .before .before .before .before .if1 .left) (c .before .before .before .choose .ensures)
+    chosen-shows _ _ _ _ _ _ _ _ _ _
+    (λ i. omega (
+      arith,
+      c .before .before .before .before .before .before .before .before .before .before .before .before .before .before .before .before .before .before
+          .before .before .before .before .shared-slice-known .given i,
+    ))
+    (c .before .before .before .before .before .before .before .before .before .before .before .before .before .before .before .before .before .before
+    .before .before .before .before .before .pre)
+    (c .before .before .before .before .before .before .before .before .before .before .before .before .before .before .before .load .ensures)
+    (c .before .before .before .before .before .before .before .if1 .left) (c .before .before .before .choose .ensures)
 
 same-length-4 : tie.Need-same-length-4
 same-length-4 c = search needs
@@ -58,7 +71,16 @@ same-length-6 c = search needs
 returns-2 : tie.Need-returns-2
 returns-2 c =
     held-answers _ _ _
-    (chosen-text _ _ _ _ _ _ _ _ _ _ (λ i. omega (arith, c .before .before .before .before .before .before .before .before .before .before .before .before .before .before .before .before .before .before .before .before .before .before .before .shared-slice-known .given i)) (c .before .before .before .before .before .before .before .before .before .before .before .before .before .before .before .before .before .before .before .before .before .before .before .before .pre) (c .before .before .before .before .before .before .before .before .before .before .before .before .before .before .before .before .load .ensures) (c .before .before .before .before .before .before .before .before .if1 .left) (c .before .before .before .before .choose .ensures))
+    (chosen-text _ _ _ _ _ _ _ _ _ _
+    (λ i. omega (
+      arith,
+      c .before .before .before .before .before .before .before .before .before .before .before .before .before .before .before .before .before .before
+          .before .before .before .before .before .shared-slice-known .given i,
+    ))
+    (c .before .before .before .before .before .before .before .before .before .before .before .before .before .before .before .before .before .before
+    .before .before .before .before .before .before .pre)
+    (c .before .before .before .before .before .before .before .before .before .before .before .before .before .before .before .before .load .ensures)
+    (c .before .before .before .before .before .before .before .before .if1 .left) (c .before .before .before .before .choose .ensures))
     (c .text-of .ensures)
 
 pub answer-in-spec : {M : Type 1} → statement M

@@ -53,28 +53,43 @@ array-borrow-prefix-domains : tie.Need-array-borrow-prefix-domains
 array-borrow-prefix-domains c = search needs
 
 slice-aggregate-answer-in : tie.Need-slice-aggregate-answer-in
-slice-aggregate-answer-in c = part-length _ 32 _ (c .before .before .before .room-for-domains .ensures) (c .before .before .before .before .before .before .at-most .ensures .1)
+slice-aggregate-answer-in c =
+    part-length _ 32 _ (c .before .before .before .room-for-domains .ensures) (c .before .before .before .before .before .before .at-most .ensures .1)
 
 array-borrow-prefix-tables : tie.Need-array-borrow-prefix-tables
-array-borrow-prefix-tables c = let few = masks-few _ _ (c .before .before .before .before .before .before .at-most .ensures .1) (c .before .before .before .before .at-most2 .ensures .1) in search (needs, few)
+array-borrow-prefix-tables c =
+    let few = masks-few _ _ (c .before .before .before .before .before .before .at-most .ensures .1)
+    (c .before .before .before .before .at-most2 .ensures .1) in
+    search (needs, few)
 
 slice-aggregate-answer-in-2 : tie.Need-slice-aggregate-answer-in-2
-slice-aggregate-answer-in-2 c = part-length _ 16384 _ (c .before .before .before .room-for-tables .ensures) (masks-few _ _ (c .before .before .before .before .before .before .before .at-most .ensures .1) (c .before .before .before .before .before .at-most2 .ensures .1))
+slice-aggregate-answer-in-2 c =
+    part-length _ 16384 _ (c .before .before .before .room-for-tables .ensures)
+    (masks-few _ _ (c .before .before .before .before .before .before .before .at-most .ensures .1)
+    (c .before .before .before .before .before .at-most2 .ensures .1))
 
 array-borrow-prefix-agenda : tie.Need-array-borrow-prefix-agenda
 array-borrow-prefix-agenda c = search needs
 
 slice-aggregate-answer-in-3 : tie.Need-slice-aggregate-answer-in-3
-slice-aggregate-answer-in-3 c = let few = c .before .before .before .before .before .before .before .before .at-most .ensures .1 in part-length _ 17408 _ (c .before .before .before .room-for-agenda .ensures) (omega (arith, few))
+slice-aggregate-answer-in-3 c =
+    let few = c .before .before .before .before .before .before .before .before .at-most .ensures .1 in
+    part-length _ 17408 _ (c .before .before .before .room-for-agenda .ensures) (omega (arith, few))
 
 answer-in-requires : tie.Need-answer-in-requires
 answer-in-requires c κs =
     let n-is = c .before .before .before .before .before .before .before .before .before .n .ensures in
     let d-is = c .before .before .before .before .before .before .before .d .ensures in
-    lent (c .before .before .before .before .before .before .before .before .before .before .before .args .file .now) (c .before .before .before .before .before .before .before .before .at-most .result) (c .before .before .before .before .before .before .at-most2 .result) (c .before .before .before .before .before .room-for-domains .result) (c .before .before .before .before .room-for-tables .result) (c .before .before .before .room-for-agenda .result)
-    (λ h. c .before .before .before .before .before .before .before .before .at-most .ensures .0 (omega (arith, n-is, h)) ∙ n-is) (λ h. c .before .before .before .before .before .before .at-most2 .ensures .0 (omega (arith, d-is, h)) ∙ d-is)
-    (c .before .before .before .before .before .before .before .before .at-most .ensures .1) (c .before .before .before .before .before .before .at-most2 .ensures .1)
-    (c .before .before .before .before .before .room-for-domains .ensures) (c .before .before .before .before .room-for-tables .ensures) (c .before .before .before .room-for-agenda .ensures)
+    lent (c .before .before .before .before .before .before .before .before .before .before .before .args .file .now)
+    (c .before .before .before .before .before .before .before .before .at-most .result)
+    (c .before .before .before .before .before .before .at-most2 .result) (c .before .before .before .before .before .room-for-domains .result)
+    (c .before .before .before .before .room-for-tables .result) (c .before .before .before .room-for-agenda .result)
+    (λ h. c .before .before .before .before .before .before .before .before .at-most .ensures .0 (omega (arith, n-is, h)) ∙ n-is)
+    (λ h. c .before .before .before .before .before .before .at-most2 .ensures .0 (omega (arith, d-is, h)) ∙ d-is)
+    (c .before .before .before .before .before .before .before .before .at-most .ensures .1)
+    (c .before .before .before .before .before .before .at-most2 .ensures .1)
+    (c .before .before .before .before .before .room-for-domains .ensures) (c .before .before .before .before .room-for-tables .ensures)
+    (c .before .before .before .room-for-agenda .ensures)
 
 returns : tie.Need-returns
 returns c = c .before .before .before .answer-in .ensures

@@ -33,7 +33,8 @@ with-refusal-requires c κs = search needs
 returns : tie.Need-returns
 returns c =
     from-refused _ _ _ _ (c .before .if1 .taken)
-    (text-made _ _ _ _ _ _ _ _ (c .before .before .before .before .before .start .ensures) (c .before .before .before .before .with-verdict .ensures) (c .before .before .before .with-counts .ensures) (c .with-refusal .ensures .0) (omega (arith, c .with-refusal .ensures .1)))
+    (text-made _ _ _ _ _ _ _ _ (c .before .before .before .before .before .start .ensures) (c .before .before .before .before .with-verdict .ensures)
+    (c .before .before .before .with-counts .ensures) (c .with-refusal .ensures .0) (omega (arith, c .with-refusal .ensures .1)))
 
 is-solved-requires : tie.Need-is-solved-requires
 is-solved-requires c κs = search needs
@@ -46,15 +47,20 @@ with-top-requires c κs =
 returns-2 : tie.Need-returns-2
 returns-2 c =
     let shows = c .before .before .before .before .before .before .before .before .before .pre in
-    from-lines _ _ _ _ _ (c .before .before .before .if1 .left) (solved-lines _ _ _ _ (shows .verdict) (sym (c .before .if2 .taken) ∙ c .before .before .is-solved .ensures) .1)
-    (text-made _ _ _ _ _ _ _ _ (c .before .before .before .before .before .before .before .start .ensures) (c .before .before .before .before .before .before .with-verdict .ensures) (c .before .before .before .before .before .with-counts .ensures) (c .with-top .ensures)
+    from-lines _ _ _ _ _ (c .before .before .before .if1 .left)
+    (solved-lines _ _ _ _ (shows .verdict) (sym (c .before .if2 .taken) ∙ c .before .before .is-solved .ensures) .1)
+    (text-made _ _ _ _ _ _ _ _ (c .before .before .before .before .before .before .before .start .ensures)
+    (c .before .before .before .before .before .before .with-verdict .ensures) (c .before .before .before .before .before .with-counts .ensures)
+    (c .with-top .ensures)
     (plan-room _ _ (λ i. lowest-small _) (shows .few)))
 
 returns-3 : tie.Need-returns-3
 returns-3 c =
     let shows = c .before .before .before .before .before .before .before .before .pre in
     from-lines _ _ _ _ _ (c .before .before .if1 .left) (other-lines _ _ _ _ (shows .verdict) (sym (c .if2 .left) ∙ c .before .is-solved .ensures))
-    (text-made _ _ _ _ _ _ _ _ (c .before .before .before .before .before .before .start .ensures) (c .before .before .before .before .before .with-verdict .ensures) (c .before .before .before .before .with-counts .ensures) (adds-none _) (omega arith))
+    (text-made _ _ _ _ _ _ _ _ (c .before .before .before .before .before .before .start .ensures)
+    (c .before .before .before .before .before .with-verdict .ensures) (c .before .before .before .before .with-counts .ensures) (adds-none _)
+    (omega arith))
 
 pub text-of-spec : {M : Type 1} → statement M
 text-of-spec =

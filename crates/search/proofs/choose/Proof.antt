@@ -37,7 +37,12 @@ same-length-2 : tie.Need-same-length-2
 same-length-2 c = search needs
 
 returns-2 : tie.Need-returns-2
-returns-2 c = ends-stopped _ _ _ _ _ _ _ _ _ _ _ _ (c .before .before .before .before .before .before .before .search-refusal .ensures) (c .before .before .before .before .before .before .if1 .left) (c .before .before .before .before .choose-on .ensures) (choose-same _ _ (c .before .before .before .before .before .before .before .before .before .before .before .before .args .domains .now) (c .before .before .before .before .before .before .before .before .before .before .before .before .args .tables .now) _ _ _ _) (c .ended .ensures)
+returns-2 c =
+    ends-stopped _ _ _ _ _ _ _ _ _ _ _ _ (c .before .before .before .before .before .before .before .search-refusal .ensures)
+    (c .before .before .before .before .before .before .if1 .left) (c .before .before .before .before .choose-on .ensures)
+    (choose-same _ _ (c .before .before .before .before .before .before .before .before .before .before .before .before .args .domains .now)
+    (c .before .before .before .before .before .before .before .before .before .before .before .before .args .tables .now) _ _ _ _)
+    (c .ended .ensures)
 
 pub choose-spec : {M : Type 1} → statement M
 choose-spec =

@@ -11,7 +11,8 @@ use Rattle.search.proofs.choose_on.Statement.{statement}
 use Rattle.search.proofs.choose_on.Tie as tie
 
 abbrev Inv-loop : tie.InvT-loop
-Inv-loop n d tables agenda₀ limit state₀ taken₀ rows₀ below agenda state taken rows = (taken ≤ limit) × (GoingChosen n d tables limit agenda₀ state₀ agenda state taken × Rows 16 n d tables rows)
+Inv-loop n d tables agenda₀ limit state₀ taken₀ rows₀ below agenda state taken rows =
+    (taken ≤ limit) × (GoingChosen n d tables limit agenda₀ state₀ agenda state taken × Rows 16 n d tables rows)
 
 abbrev μ-loop : tie.MeasureT-loop
 μ-loop n d tables agenda₀ limit state₀ taken₀ rows₀ below agenda state taken rows = limit - taken
@@ -26,13 +27,21 @@ slice-aggregate-step-chosen : tie.Need-slice-aggregate-step-chosen Inv-loop μ-l
 slice-aggregate-step-chosen c = search needs
 
 step-chosen-requires : tie.Need-step-chosen-requires Inv-loop μ-loop
-step-chosen-requires c κs = (c .before .before .before .loop .inv .1 .0 .ready, (c .before .before .before .loop .inv .1 .1, c .before .before .before .before .below .ensures))
+step-chosen-requires c κs = (
+  c .before .before .before .loop .inv .1 .0 .ready,
+  (c .before .before .before .loop .inv .1 .1, c .before .before .before .before .below .ensures),
+)
 
 same-length : tie.Need-same-length Inv-loop μ-loop
-same-length c = c .before .before .before .before .before .before .step-chosen .ensures .0 .same ∙ c .before .before .before .before .before .before .before .before .before .before .loop .inv .1 .0 .room
+same-length c =
+    c .before .before .before .before .before .before .step-chosen .ensures .0 .same ∙ c .before .before .before .before .before .before .before
+    .before .before .before .loop .inv .1 .0 .room
 
 returns : tie.Need-returns Inv-loop μ-loop
-returns c = choosing-stops _ _ _ _ _ _ _ _ _ (c .before .before .before .before .before .before .before .before .before .before .loop .inv .1 .0) (c .before .before .before .before .before .before .before .before .before .loop-test .taken) _ _ (c .before .before .before .before .before .before .step-chosen .ensures .0) (c .if1 .taken)
+returns c =
+    choosing-stops _ _ _ _ _ _ _ _ _ (c .before .before .before .before .before .before .before .before .before .before .loop .inv .1 .0)
+    (c .before .before .before .before .before .before .before .before .before .loop-test .taken) _ _
+    (c .before .before .before .before .before .before .step-chosen .ensures .0) (c .if1 .taken)
 
 add-taken : tie.Need-add-taken Inv-loop μ-loop
 add-taken c = omega arith
@@ -41,7 +50,15 @@ loop-less : tie.Need-loop-less Inv-loop μ-loop
 loop-less c = omega arith
 
 loop-again : tie.Need-loop-again Inv-loop μ-loop
-loop-again c = (omega arith, (choosing-on _ _ _ _ _ _ _ _ _ (c .before .before .before .before .before .before .before .before .before .before .loop .inv .1 .0) (c .before .before .before .before .before .before .before .before .before .loop-test .taken) _ _ (c .before .before .before .before .before .before .step-chosen .ensures .0) (c .if1 .left), c .before .before .before .before .before .before .step-chosen .ensures .1))
+loop-again c = (
+  omega arith,
+  (
+    choosing-on _ _ _ _ _ _ _ _ _ (c .before .before .before .before .before .before .before .before .before .before .loop .inv .1 .0)
+        (c .before .before .before .before .before .before .before .before .before .loop-test .taken) _ _
+        (c .before .before .before .before .before .before .step-chosen .ensures .0) (c .if1 .left),
+    c .before .before .before .before .before .before .step-chosen .ensures .1,
+  ),
+)
 
 same-length-2 : tie.Need-same-length-2 Inv-loop μ-loop
 same-length-2 c = c .before .loop .inv .1 .0 .room

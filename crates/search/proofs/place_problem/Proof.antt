@@ -22,10 +22,16 @@ same-length : tie.Need-same-length
 same-length c = search needs
 
 returns : tie.Need-returns
-returns c = opens-none _ _ _ (c .before .before .before .before .before .before .before .before .before .pre) _ (c .before .before .holding .ensures) _ (c .before .is-empty .ensures) _ (c .before .before .before .before .before .clear .ensures) (c .if1 .taken)
+returns c =
+    opens-none _ _ _ (c .before .before .before .before .before .before .before .before .before .pre) _ (c .before .before .holding .ensures) _
+    (c .before .is-empty .ensures) _ (c .before .before .before .before .before .clear .ensures) (c .if1 .taken)
 
 write-slot-requires : tie.Need-write-slot-requires
-write-slot-requires c κs = first-slot _ (c .before .before .before .before .before .before .before .before .before .before .args .domains .now) (c .before .before .before .before .before .before .before .before .before .before .args .agenda .now) (c .before .before .before .before .before .before .before .before .before .before .pre) _ (ap length (c .before .before .before .before .before .before .clear .ensures) ∙ length-replicate _ 0)
+write-slot-requires c κs =
+    first-slot _ (c .before .before .before .before .before .before .before .before .before .before .args .domains .now)
+    (c .before .before .before .before .before .before .before .before .before .before .args .agenda .now)
+    (c .before .before .before .before .before .before .before .before .before .before .pre) _
+    (ap length (c .before .before .before .before .before .before .clear .ensures) ∙ length-replicate _ 0)
 
 same-length-2 : tie.Need-same-length-2
 same-length-2 c = search needs
@@ -34,8 +40,12 @@ returns-2 : tie.Need-returns-2
 returns-2 c =
     let P = c .before .before .before .before .before .before .holding .result in
     let long : length (P .domains) ≡ 32 = search needs in
-    let slot = length-slot (c .before .before .before .before .before .before .before .before .before .before .before .before .before .args .n) P (omega (arith, c .before .before .before .before .before .before .before .before .before .before .before .before .before .pre .few)) in
-    opens-one _ _ _ (c .before .before .before .before .before .before .before .before .before .before .before .before .before .pre) _ (c .before .before .before .before .before .before .holding .ensures) _ (c .before .before .before .before .before .is-empty .ensures) _ (c .before .before .before .before .before .before .before .before .before .clear .ensures) _ (c .before .before .before .before .if1 .left) (c .before .before .write-slot .ensures) slot
+    let slot = length-slot (c .before .before .before .before .before .before .before .before .before .before .before .before .before .args .n) P
+    (omega (arith, c .before .before .before .before .before .before .before .before .before .before .before .before .before .pre .few)) in
+    opens-one _ _ _ (c .before .before .before .before .before .before .before .before .before .before .before .before .before .pre) _
+    (c .before .before .before .before .before .before .holding .ensures) _ (c .before .before .before .before .before .is-empty .ensures) _
+    (c .before .before .before .before .before .before .before .before .before .clear .ensures) _ (c .before .before .before .before .if1 .left)
+    (c .before .before .write-slot .ensures) slot
 
 pub place-problem-spec : {M : Type 1} → statement M
 place-problem-spec =

@@ -10,7 +10,8 @@ use Rattle.search.proofs.run_on.Statement.{statement}
 use Rattle.search.proofs.run_on.Tie as tie
 
 abbrev Inv-loop : tie.InvT-loop
-Inv-loop n d tables agenda₀ requests count state₀ taken₀ agenda state taken = (taken ≤ count) × Going n d tables requests agenda₀ state₀ agenda state taken
+Inv-loop n d tables agenda₀ requests count state₀ taken₀ agenda state taken =
+    (taken ≤ count) × Going n d tables requests agenda₀ state₀ agenda state taken
 
 abbrev μ-loop : tie.MeasureT-loop
 μ-loop n d tables agenda₀ requests count state₀ taken₀ agenda state taken = count - taken
@@ -31,19 +32,41 @@ step-by-requires : tie.Need-step-by-requires Inv-loop μ-loop
 step-by-requires c κs = c .before .before .before .loop .inv .1 .ready
 
 same-length : tie.Need-same-length Inv-loop μ-loop
-same-length c = c .before .before .before .before .before .step-by .ensures .same ∙ c .before .before .before .before .before .before .before .before .before .loop .inv .1 .room
+same-length c =
+    c .before .before .before .before .before .step-by .ensures .same ∙ c .before .before .before .before .before .before .before .before .before
+    .loop .inv .1 .room
 
 returns : tie.Need-returns Inv-loop μ-loop
-returns c = going-stops _ _ _ _ _ _ _ _ _ (c .before .before .before .before .before .before .before .before .before .loop .inv .1) (c .before .before .before .before .before .before .before .before .loop-test .taken) _ _ _ (c .before .before .before .before .before .before .before .request-at .ensures) (c .before .before .before .before .before .step-by .ensures) (c .if1 .taken)
+returns c =
+    going-stops _ _ _ _ _ _ _ _ _ (c .before .before .before .before .before .before .before .before .before .loop .inv .1)
+    (c .before .before .before .before .before .before .before .before .loop-test .taken) _ _ _
+    (c .before .before .before .before .before .before .before .request-at .ensures) (c .before .before .before .before .before .step-by .ensures)
+    (c .if1 .taken)
 
 add-taken : tie.Need-add-taken Inv-loop μ-loop
-add-taken c = record { fits = omega (arith, request-within (c .before .before .before .before .before .before .before .before .before .before .before .before .before .args .n) (c .before .before .before .before .before .before .before .before .before .loop .taken) (length (c .before .before .before .before .before .before .before .before .before .before .before .before .before .args .requests .now)) (c .before .before .before .before .before .before .before .before .loop-test .taken), c .before .before .before .before .before .before .before .before .before .before .before .before .before .good) }
+add-taken c =
+    record {
+      fits = omega (
+        arith,
+        request-within (c .before .before .before .before .before .before .before .before .before .before .before .before .before .args .n)
+            (c .before .before .before .before .before .before .before .before .before .loop .taken)
+            (length (c .before .before .before .before .before .before .before .before .before .before .before .before .before .args .requests .now))
+            (c .before .before .before .before .before .before .before .before .loop-test .taken),
+        c .before .before .before .before .before .before .before .before .before .before .before .before .before .good,
+      );
+    }
 
 loop-less : tie.Need-loop-less Inv-loop μ-loop
 loop-less c = search needs
 
 loop-again : tie.Need-loop-again Inv-loop μ-loop
-loop-again c = (omega arith, going-on _ _ _ _ _ _ _ _ _ (c .before .before .before .before .before .before .before .before .before .loop .inv .1) (c .before .before .before .before .before .before .before .before .loop-test .taken) _ _ _ (c .before .before .before .before .before .before .before .request-at .ensures) (c .before .before .before .before .before .step-by .ensures) (c .if1 .left))
+loop-again c = (
+  omega arith,
+  going-on _ _ _ _ _ _ _ _ _ (c .before .before .before .before .before .before .before .before .before .loop .inv .1)
+      (c .before .before .before .before .before .before .before .before .loop-test .taken) _ _ _
+      (c .before .before .before .before .before .before .before .request-at .ensures) (c .before .before .before .before .before .step-by .ensures)
+      (c .if1 .left),
+)
 
 same-length-2 : tie.Need-same-length-2 Inv-loop μ-loop
 same-length-2 c = c .before .loop .inv .1 .room

@@ -10,13 +10,19 @@ sub-read-slot : tie.Need-sub-read-slot
 sub-read-slot c = search needs
 
 read-slot-requires : tie.Need-read-slot-requires
-read-slot-requires c κs = used-slot _ _ _ (ready-used _ _ (c .before .before .before .before .before .args .tables .now) _ _ (c .before .before .before .before .before .pre)) (c .before .if1 .taken)
+read-slot-requires c κs =
+    used-slot _ _ _
+    (ready-used _ _ (c .before .before .before .before .before .args .tables .now) _ _ (c .before .before .before .before .before .pre))
+    (c .before .if1 .taken)
 
 all-instantiated-requires : tie.Need-all-instantiated-requires
 all-instantiated-requires c κs = search needs
 
 take-requires : tie.Need-take-requires
-take-requires c κs = taking _ _ _ _ _ (c .before .before .before .before .before .before .before .before .before .pre) _ _ (c .before .before .before .before .before .if1 .taken) (c .before .before .before .read-slot .ensures) (c .before .before .all-instantiated .ensures) (c .before .if2 .taken)
+take-requires c κs =
+    taking _ _ _ _ _ (c .before .before .before .before .before .before .before .before .before .pre) _ _
+    (c .before .before .before .before .before .if1 .taken) (c .before .before .before .read-slot .ensures)
+    (c .before .before .all-instantiated .ensures) (c .before .if2 .taken)
 
 same-length : tie.Need-same-length
 same-length c = search needs

@@ -11,13 +11,22 @@ sub-read-lanes : tie.Need-sub-read-lanes
 sub-read-lanes c = omega arith
 
 read-lanes-requires : tie.Need-read-lanes-requires
-read-lanes-requires c κs = (used-slot _ _ _ (ready-used _ _ (c .before .before .before .before .args .tables .now) _ _ (c .before .before .before .before .pre .0)) (c .before .if1 .taken), c .before .before .before .before .pre .1 .1)
+read-lanes-requires c κs = (
+  used-slot _ _ _ (ready-used _ _ (c .before .before .before .before .args .tables .now) _ _ (c .before .before .before .before .pre .0))
+      (c .before .if1 .taken),
+  c .before .before .before .before .pre .1 .1,
+)
 
 all-instantiated-requires : tie.Need-all-instantiated-requires
 all-instantiated-requires c κs = tt
 
 take-chosen-requires : tie.Need-take-chosen-requires
-take-chosen-requires c κs = (taking _ _ _ _ _ (c .before .before .before .before .before .before .before .before .before .pre .0) _ _ (c .before .before .before .before .before .before .if1 .taken) (c .before .before .before .before .read-lanes .ensures) (c .before .before .before .all-instantiated .ensures) (c .before .before .if2 .taken), c .before .before .before .before .before .before .before .before .before .pre .1 .0)
+take-chosen-requires c κs = (
+  taking _ _ _ _ _ (c .before .before .before .before .before .before .before .before .before .pre .0) _ _
+      (c .before .before .before .before .before .before .if1 .taken) (c .before .before .before .before .read-lanes .ensures)
+      (c .before .before .before .all-instantiated .ensures) (c .before .before .if2 .taken),
+  c .before .before .before .before .before .before .before .before .before .pre .1 .0,
+)
 
 same-length : tie.Need-same-length
 same-length c = omega arith
@@ -26,7 +35,13 @@ same-length-2 : tie.Need-same-length-2
 same-length-2 c = omega arith
 
 returns : tie.Need-returns
-returns c = (chosen-stops _ _ _ _ _ (c .before .before .before .before .before .before .before .before .before .before .before .before .before .pre .0) _ (c .before .before .before .before .before .before .before .before .before .before .if1 .taken) (c .before .before .before .before .before .before .before .before .read-lanes .ensures) _ _ _ refl (c .before .before .before .take-chosen .ensures .0), c .before .before .before .take-chosen .ensures .1)
+returns c = (
+  chosen-stops _ _ _ _ _ (c .before .before .before .before .before .before .before .before .before .before .before .before .before .pre .0) _
+      (c .before .before .before .before .before .before .before .before .before .before .if1 .taken)
+      (c .before .before .before .before .before .before .before .before .read-lanes .ensures) _ _ _ refl
+      (c .before .before .before .take-chosen .ensures .0),
+  c .before .before .before .take-chosen .ensures .1,
+)
 
 stopped-requires : tie.Need-stopped-requires
 stopped-requires c κs = tt

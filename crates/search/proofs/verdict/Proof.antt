@@ -18,10 +18,14 @@ all-instantiated-requires : tie.Need-all-instantiated-requires
 all-instantiated-requires c κs = search needs
 
 returns-2 : tie.Need-returns-2
-returns-2 c = verdict-solved _ _ _ (c .before .before .before .if1 .left) _ (c .before .before .read-slot .ensures) _ (c .before .all-instantiated .ensures) (c .if2 .taken)
+returns-2 c =
+    verdict-solved _ _ _ (c .before .before .before .if1 .left) _ (c .before .before .read-slot .ensures) _ (c .before .all-instantiated .ensures)
+    (c .if2 .taken)
 
 returns-3 : tie.Need-returns-3
-returns-3 c = verdict-running _ _ _ (c .before .before .before .if1 .left) _ (c .before .before .read-slot .ensures) _ (c .before .all-instantiated .ensures) (c .if2 .left)
+returns-3 c =
+    verdict-running _ _ _ (c .before .before .before .if1 .left) _ (c .before .before .read-slot .ensures) _ (c .before .all-instantiated .ensures)
+    (c .if2 .left)
 
 pub verdict-spec : {M : Type 1} → statement M
 verdict-spec =

@@ -37,7 +37,9 @@ same-length : tie.Need-same-length Inv-loop μ-loop
 same-length c = omega arith
 
 returns : tie.Need-returns Inv-loop μ-loop
-returns c = let end : c .before .loop .k ≡ length (c .before .before .args .agenda .now) = omega arith in zeros-end _ _ _ (c .before .loop .inv .1 .1) end
+returns c =
+    let end : c .before .loop .k ≡ length (c .before .before .args .agenda .now) = omega arith in
+    zeros-end _ _ _ (c .before .loop .inv .1 .1) end
 
 pub clear-spec : {M : Type 1} → statement M
 clear-spec =

@@ -38,7 +38,10 @@ loop-less : tie.Need-loop-less Inv-loop μ-loop
 loop-less c = omega arith
 
 loop-again : tie.Need-loop-again Inv-loop μ-loop
-loop-again c = let inv = c .before .loop .inv in let long : length (c .before .before .args .t3) ≡ 32 = search needs in (omega arith, (simp length-set (inv .1 .0), copy-more _ _ _ _ _ (inv .1 .1) refl (omega arith) (omega arith)))
+loop-again c =
+    let inv = c .before .loop .inv in
+    let long : length (c .before .before .args .t3) ≡ 32 = search needs in
+    (omega arith, (simp length-set (inv .1 .0), copy-more _ _ _ _ _ (inv .1 .1) refl (omega arith) (omega arith)))
 
 same-length : tie.Need-same-length Inv-loop μ-loop
 same-length c = omega arith

@@ -36,7 +36,11 @@ same-length : tie.Need-same-length
 same-length c = search needs
 
 returns : tie.Need-returns
-returns c = let long : length (c .before .before .before .before .before .before .before .before .args .p .domains) ≡ 32 = search needs in slot-filled (c .before .before .before .before .before .before .before .before .args .n) (c .before .before .before .before .before .before .before .before .args .p) _ _ (c .before .before .before .before .put-domains .ensures) (omega arith) (omega arith)
+returns c =
+    let long : length (c .before .before .before .before .before .before .before .before .args .p .domains) ≡ 32 = search needs in
+    slot-filled (c .before .before .before .before .before .before .before .before .args .n)
+    (c .before .before .before .before .before .before .before .before .args .p) _ _ (c .before .before .before .before .put-domains .ensures)
+    (omega arith) (omega arith)
 
 pub put-each-spec : {M : Type 1} → statement M
 put-each-spec =

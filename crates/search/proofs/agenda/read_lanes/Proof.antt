@@ -43,7 +43,9 @@ marked-at-requires : tie.Need-marked-at-requires
 marked-at-requires c κs = omega (arith, c .before .before .before .before .pre .0 .within)
 
 returns-2 : tie.Need-returns-2
-returns-2 c = slot-lanes _ _ _ _ _ _ (c .before .before .before .before .before .pre .0) (omega arith) (c .before .before .before .before .before .pre .1) (c .before .kept-words .ensures) (c .marked-at .ensures)
+returns-2 c =
+    slot-lanes _ _ _ _ _ _ (c .before .before .before .before .before .pre .0) (omega arith) (c .before .before .before .before .before .pre .1)
+    (c .before .kept-words .ensures) (c .marked-at .ensures)
 
 pub read-lanes-spec : {M : Type 1} → statement M
 read-lanes-spec =

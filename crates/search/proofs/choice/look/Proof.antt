@@ -29,7 +29,8 @@ mul-row c = omega arith
 add-row : tie.Need-add-row
 add-row c =
     let k = c .before .before .before .before .before .before .before .before .pre in
-    let inside = found-inside _ _ _ _ (k .0) (k .1 .0) (k .1 .1 .0) _ _ _ _ _ (c .before .before .before .before .before .beyond .ensures) (c .before .before .before .least-key .ensures) refl (c .before .before .domain .ensures) (c .before .lowest .ensures) in
+    let inside = found-inside _ _ _ _ (k .0) (k .1 .0) (k .1 .1 .0) _ _ _ _ _ (c .before .before .before .before .before .beyond .ensures)
+    (c .before .before .before .least-key .ensures) refl (c .before .before .domain .ensures) (c .before .lowest .ensures) in
     let value = inside .a-value in
     let small = inside .fit .small in
     search needs
@@ -37,7 +38,8 @@ add-row c =
 row-requires : tie.Need-row-requires
 row-requires c κs =
     let k = c .before .before .before .before .before .before .before .before .pre in
-    let inside = found-inside _ _ _ _ (k .0) (k .1 .0) (k .1 .1 .0) _ _ _ _ _ (c .before .before .before .before .before .beyond .ensures) (c .before .before .before .least-key .ensures) refl (c .before .before .domain .ensures) (c .before .lowest .ensures) in
+    let inside = found-inside _ _ _ _ (k .0) (k .1 .0) (k .1 .1 .0) _ _ _ _ _ (c .before .before .before .before .before .beyond .ensures)
+    (c .before .before .before .least-key .ensures) refl (c .before .before .domain .ensures) (c .before .lowest .ensures) in
     let place = its-place _ _ _ _ _ inside in
     (inside, row-at _ _ _ _ _ _ _ (k .1 .1 .1) (place .0) (place .1))
 

@@ -10,7 +10,9 @@ use Rattle.search.proofs.choice.put_two.Statement.{statement}
 use Rattle.search.proofs.choice.put_two.Tie as tie
 
 rest-requires : tie.Need-rest-requires
-rest-requires c κs = let v = put-variable _ _ _ _ _ _ _ (c .before .before .before .pre .0) in omega (arith, c .before .before .before .pre .0 .fitting .few)
+rest-requires c κs =
+    let v = put-variable _ _ _ _ _ _ _ (c .before .before .before .pre .0) in
+    omega (arith, c .before .before .before .pre .0 .fitting .few)
 
 write-slot-requires : tie.Need-write-slot-requires
 write-slot-requires c κs = c .before .before .before .before .pre .0 .slot
@@ -19,10 +21,16 @@ add-write-slot : tie.Need-add-write-slot
 add-write-slot c = omega arith
 
 precluded-requires : tie.Need-precluded-requires
-precluded-requires c κs = let v = put-variable _ _ _ _ _ _ _ (c .before .before .before .before .before .before .before .before .pre .0) in omega (arith, c .before .before .before .before .before .before .before .before .pre .0 .fitting .few)
+precluded-requires c κs =
+    let v = put-variable _ _ _ _ _ _ _ (c .before .before .before .before .before .before .before .before .pre .0) in
+    omega (arith, c .before .before .before .before .before .before .before .before .pre .0 .fitting .few)
 
 write-slot-requires-2 : tie.Need-write-slot-requires-2
-write-slot-requires-2 c κs = let k = c .before .before .before .before .before .before .before .before .before .pre in let long : length (c .before .before .before .before .before .rest .result .domains) ≡ 32 = search needs in two-slot _ _ _ _ _ _ _ (k .0) (k .1 .1) _ (omega arith) (k .1 .0) _ (c .before .before .before .before .before .rest .ensures) _ (c .precluded .ensures) _ long (c .before .before .before .before .write-slot .ensures) (omega arith)
+write-slot-requires-2 c κs =
+    let k = c .before .before .before .before .before .before .before .before .before .pre in
+    let long : length (c .before .before .before .before .before .rest .result .domains) ≡ 32 = search needs in
+    two-slot _ _ _ _ _ _ _ (k .0) (k .1 .1) _ (omega arith) (k .1 .0) _ (c .before .before .before .before .before .rest .ensures) _
+    (c .precluded .ensures) _ long (c .before .before .before .before .write-slot .ensures) (omega arith)
 
 add-result : tie.Need-add-result
 add-result c = omega arith
@@ -31,7 +39,14 @@ same-length : tie.Need-same-length
 same-length c = omega arith
 
 returns : tie.Need-returns
-returns c = let k = c .before .before .before .before .before .before .before .before .before .before .before .before .pre in let long : length (c .before .before .before .before .before .before .before .before .rest .result .domains) ≡ 32 = search needs in let last : length (c .before .before .before .precluded .result .domains) ≡ 32 = search needs in two-end _ _ _ _ _ _ _ (k .0) (k .1 .1) _ (omega arith) (k .1 .0) _ (c .before .before .before .before .before .before .before .before .rest .ensures) _ (c .before .before .before .precluded .ensures) _ long (c .before .before .before .before .before .before .before .write-slot .ensures) (omega arith) _ last (c .before .before .write-slot2 .ensures) (omega arith)
+returns c =
+    let k = c .before .before .before .before .before .before .before .before .before .before .before .before .pre in
+    let long : length (c .before .before .before .before .before .before .before .before .rest .result .domains) ≡ 32 = search needs in
+    let last : length (c .before .before .before .precluded .result .domains) ≡ 32 = search needs in
+    two-end _ _ _ _ _ _ _ (k .0) (k .1 .1) _ (omega arith) (k .1 .0) _
+    (c .before .before .before .before .before .before .before .before .rest .ensures) _ (c .before .before .before .precluded .ensures) _ long
+    (c .before .before .before .before .before .before .before .write-slot .ensures) (omega arith) _ last (c .before .before .write-slot2 .ensures)
+    (omega arith)
 
 pub put-two-spec : {M : Type 1} → statement M
 put-two-spec =

@@ -21,7 +21,11 @@ same-length : tie.Need-same-length
 same-length c = omega arith
 
 returns : tie.Need-returns
-returns c = let long : length (c .before .before .before .precluded .result .domains) ≡ 32 = search needs in settle-kept _ _ _ _ _ _ (c .before .before .before .before .before .before .before .before .pre .1) (c .before .before .before .before .before .if1 .taken) _ (c .before .before .before .precluded .ensures) long (c .before .before .write-slot .ensures)
+returns c =
+    let long : length (c .before .before .before .precluded .result .domains) ≡ 32 = search needs in
+    settle-kept _ _ _ _ _ _ (c .before .before .before .before .before .before .before .before .pre .1)
+    (c .before .before .before .before .before .if1 .taken) _ (c .before .before .before .precluded .ensures) long
+    (c .before .before .write-slot .ensures)
 
 clear-slot-requires : tie.Need-clear-slot-requires
 clear-slot-requires c κs = c .before .before .before .before .before .before .pre .1
@@ -30,7 +34,10 @@ same-length-2 : tie.Need-same-length-2
 same-length-2 c = omega arith
 
 returns-2 : tie.Need-returns-2
-returns-2 c = settle-none _ _ _ _ _ _ (c .before .before .before .before .before .before .before .before .before .pre .1) (c .before .before .before .before .before .before .if1 .left) (c .before .before .before .before .if2 .taken) (c .before .before .clear-slot .ensures)
+returns-2 c =
+    settle-none _ _ _ _ _ _ (c .before .before .before .before .before .before .before .before .before .pre .1)
+    (c .before .before .before .before .before .before .if1 .left) (c .before .before .before .before .if2 .taken)
+    (c .before .before .clear-slot .ensures)
 
 rest-requires : tie.Need-rest-requires
 rest-requires c κs = c .before .before .before .before .before .before .pre .0
@@ -45,7 +52,11 @@ same-length-3 : tie.Need-same-length-3
 same-length-3 c = omega arith
 
 returns-3 : tie.Need-returns-3
-returns-3 c = let long : length (c .before .before .before .rest .result .domains) ≡ 32 = search needs in settle-rest _ _ _ _ _ _ (c .before .before .before .before .before .before .before .before .before .before .pre .1) (c .before .before .before .before .before .before .before .if1 .left) (c .before .before .before .before .before .if2 .left) _ (c .before .before .before .rest .ensures) long (c .before .before .write-slot2 .ensures)
+returns-3 c =
+    let long : length (c .before .before .before .rest .result .domains) ≡ 32 = search needs in
+    settle-rest _ _ _ _ _ _ (c .before .before .before .before .before .before .before .before .before .before .pre .1)
+    (c .before .before .before .before .before .before .before .if1 .left) (c .before .before .before .before .before .if2 .left) _
+    (c .before .before .before .rest .ensures) long (c .before .before .write-slot2 .ensures)
 
 pub settle-spec : {M : Type 1} → statement M
 settle-spec =

@@ -14,11 +14,15 @@ unfolding openRefusal
 returns c = sizes-first _ _ _ _ _ _ _ (c .before .sizes-refusal .ensures) (c .if1 .taken)
 
 refusal-of-problem-requires : tie.Need-refusal-of-problem-requires
-refusal-of-problem-requires c κs = let p = sizes-pass _ _ _ _ _ (sym (c .before .sizes-refusal .ensures) ∙ c .if1 .left) in lengths-pass _ _ _ _ _ (p .0) (p .1)
+refusal-of-problem-requires c κs =
+    let p = sizes-pass _ _ _ _ _ (sym (c .before .sizes-refusal .ensures) ∙ c .if1 .left) in
+    lengths-pass _ _ _ _ _ (p .0) (p .1)
 
 returns-2 : tie.Need-returns-2
 unfolding openRefusal
-returns-2 c = let p = sizes-pass _ _ _ _ _ (sym (c .before .before .sizes-refusal .ensures) ∙ c .before .if1 .left) in else-rest _ _ _ (p .0) (else-rest _ _ _ (p .1) (c .refusal-of-problem .ensures))
+returns-2 c =
+    let p = sizes-pass _ _ _ _ _ (sym (c .before .before .sizes-refusal .ensures) ∙ c .before .if1 .left) in
+    else-rest _ _ _ (p .0) (else-rest _ _ _ (p .1) (c .refusal-of-problem .ensures))
 
 pub open-refusal-spec : {M : Type 1} → statement M
 open-refusal-spec =

@@ -29,7 +29,12 @@ whole-slots-requires c κs = search needs
 
 returns-3 : tie.Need-returns-3
 unfolding refusalOfLengths
-returns-3 c = simp (eq-eqb _ _ (c .before .before .before .if1 .left), eq-eqb _ _ (c .before .before .if2 .left), sym (c .before .whole-slots .ensures) ∙ c .if3 .taken)
+returns-3 c =
+    simp (
+      eq-eqb _ _ (c .before .before .before .if1 .left),
+      eq-eqb _ _ (c .before .before .if2 .left),
+      sym (c .before .whole-slots .ensures) ∙ c .if3 .taken,
+    )
 
 returns-4 : tie.Need-returns-4
 unfolding refusalOfLengths

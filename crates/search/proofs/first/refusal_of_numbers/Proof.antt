@@ -24,7 +24,13 @@ returns-4 c = simp (le-ltb _ _ (c .before .before .before .if1 .left), le-ltb _ 
 
 returns-5 : tie.Need-returns-5
 unfolding refusalOfNumbers
-returns-5 c = simp (le-ltb _ _ (c .before .before .before .if1 .left), le-ltb _ _ (c .before .before .if2 .left), le-ltb _ _ (c .before .if3 .left), le-ltb _ _ (c .if4 .left))
+returns-5 c =
+    simp (
+      le-ltb _ _ (c .before .before .before .if1 .left),
+      le-ltb _ _ (c .before .before .if2 .left),
+      le-ltb _ _ (c .before .if3 .left),
+      le-ltb _ _ (c .if4 .left),
+    )
 
 pub refusal-of-numbers-spec : {M : Type 1} → statement M
 refusal-of-numbers-spec = tie.close (tie.spec returns returns-2 returns-3 returns-4 returns-5)

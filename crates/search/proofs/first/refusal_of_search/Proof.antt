@@ -34,16 +34,31 @@ zeros-from-requires : tie.Need-zeros-from-requires
 zeros-from-requires c κs = slots-within _ _ _ (c .before .before .before .before .if1 .left)
 
 returns-3 : tie.Need-returns-3
-returns-3 c = search-zeros _ _ (c .before .before .before .before .before .before .before .before .before .before .before .args .domains .now) _ _ _ _ _ _ (c .before .zeros-from .ensures) (c .if3 .taken)
+returns-3 c =
+    search-zeros _ _ (c .before .before .before .before .before .before .before .before .before .before .before .args .domains .now) _ _ _ _ _ _
+    (c .before .zeros-from .ensures) (c .if3 .taken)
 
 all-obey-requires : tie.Need-all-obey-requires
-all-obey-requires c κs = (c .before .before .before .before .before .before .before .before .before .before .before .pre, slots-within _ _ _ (c .before .before .before .before .before .before .if1 .left))
+all-obey-requires c κs = (
+  c .before .before .before .before .before .before .before .before .before .before .before .pre,
+  slots-within _ _ _ (c .before .before .before .before .before .before .if1 .left),
+)
 
 returns-4 : tie.Need-returns-4
-returns-4 c = rw (c .if4 .taken) at (search-last _ _ (c .before .before .before .before .before .before .before .before .before .before .before .before .before .args .domains .now) (c .before .before .before .before .before .before .before .before .before .before .before .before .before .args .tables .now) _ _ _ _ _ _ (c .before .before .before .before .before .before .before .before .if1 .left) (c .before .before .before .before .before .if2 .left) (c .before .before .before .zeros-from .ensures) (c .before .before .if3 .left) (c .before .all-obey .ensures))
+returns-4 c =
+    rw (c .if4 .taken) at
+    (search-last _ _ (c .before .before .before .before .before .before .before .before .before .before .before .before .before .args .domains .now)
+    (c .before .before .before .before .before .before .before .before .before .before .before .before .before .args .tables .now) _ _ _ _ _ _
+    (c .before .before .before .before .before .before .before .before .if1 .left) (c .before .before .before .before .before .if2 .left)
+    (c .before .before .before .zeros-from .ensures) (c .before .before .if3 .left) (c .before .all-obey .ensures))
 
 returns-5 : tie.Need-returns-5
-returns-5 c = rw (c .if4 .left) at (search-last _ _ (c .before .before .before .before .before .before .before .before .before .before .before .before .before .args .domains .now) (c .before .before .before .before .before .before .before .before .before .before .before .before .before .args .tables .now) _ _ _ _ _ _ (c .before .before .before .before .before .before .before .before .if1 .left) (c .before .before .before .before .before .if2 .left) (c .before .before .before .zeros-from .ensures) (c .before .before .if3 .left) (c .before .all-obey .ensures))
+returns-5 c =
+    rw (c .if4 .left) at
+    (search-last _ _ (c .before .before .before .before .before .before .before .before .before .before .before .before .before .args .domains .now)
+    (c .before .before .before .before .before .before .before .before .before .before .before .before .before .args .tables .now) _ _ _ _ _ _
+    (c .before .before .before .before .before .before .before .before .if1 .left) (c .before .before .before .before .before .if2 .left)
+    (c .before .before .before .zeros-from .ensures) (c .before .before .if3 .left) (c .before .all-obey .ensures))
 
 pub refusal-of-search-spec : {M : Type 1} → statement M
 refusal-of-search-spec =

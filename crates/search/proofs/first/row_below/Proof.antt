@@ -18,7 +18,9 @@ span-below-requires-2 : tie.Need-span-below-requires-2
 span-below-requires-2 c κs = search needs
 
 returns-2 : tie.Need-returns-2
-returns-2 c = row-last _ _ _ _ _ _ (c .before .before .before .before .pre .1) (c .before .before .span-below .ensures) (c .before .if1 .left) (c .span-below2 .ensures)
+returns-2 c =
+    row-last _ _ _ _ _ _ (c .before .before .before .before .pre .1) (c .before .before .span-below .ensures) (c .before .if1 .left)
+    (c .span-below2 .ensures)
 
 pub row-below-spec : {M : Type 1} → statement M
 row-below-spec =

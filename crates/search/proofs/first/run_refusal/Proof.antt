@@ -18,14 +18,20 @@ refusal-of-requests-requires c κs = numbers-pass _ _ (sizes-pass _ _ _ _ _ (sym
 
 returns-2 : tie.Need-returns-2
 unfolding runRefusal
-returns-2 c = let p = sizes-pass _ _ _ _ _ (sym (c .before .before .before .sizes-refusal .ensures) ∙ c .before .before .if1 .left) in else-rest _ _ _ (p .0) (else-rest _ _ _ (p .1) (else-first _ _ _ (c .before .refusal-of-requests .ensures) (c .if2 .taken)))
+returns-2 c =
+    let p = sizes-pass _ _ _ _ _ (sym (c .before .before .before .sizes-refusal .ensures) ∙ c .before .before .if1 .left) in
+    else-rest _ _ _ (p .0) (else-rest _ _ _ (p .1) (else-first _ _ _ (c .before .refusal-of-requests .ensures) (c .if2 .taken)))
 
 search-refusal-requires : tie.Need-search-refusal-requires
 search-refusal-requires c κs = tt
 
 returns-3 : tie.Need-returns-3
 unfolding openRefusal searchRefusal runRefusal
-returns-3 c = let p = sizes-pass _ _ _ _ _ (sym (c .before .before .before .before .sizes-refusal .ensures) ∙ c .before .before .before .if1 .left) in else-rest _ _ _ (p .0) (else-rest _ _ _ (p .1) (else-rest _ _ _ (sym (c .before .before .refusal-of-requests .ensures) ∙ c .before .if2 .left) (rw (p .0, p .1) at (c .search-refusal .ensures))))
+returns-3 c =
+    let p = sizes-pass _ _ _ _ _ (sym (c .before .before .before .before .sizes-refusal .ensures) ∙ c .before .before .before .if1 .left) in
+    else-rest _ _ _ (p .0)
+    (else-rest _ _ _ (p .1)
+    (else-rest _ _ _ (sym (c .before .before .refusal-of-requests .ensures) ∙ c .before .if2 .left) (rw (p .0, p .1) at (c .search-refusal .ensures))))
 
 pub run-refusal-spec : {M : Type 1} → statement M
 run-refusal-spec =

@@ -15,7 +15,9 @@ unfolding searchRefusal
 returns c = else-first _ _ _ (c .before .open-refusal .ensures) (c .if1 .taken)
 
 refusal-of-search-requires : tie.Need-refusal-of-search-requires
-refusal-of-search-requires c κs = let e = sym (c .before .open-refusal .ensures) ∙ c .if1 .left in record { fitting = open-pass _ _ _ _ _ e; passed = open-parts _ _ _ _ _ e .2 }
+refusal-of-search-requires c κs =
+    let e = sym (c .before .open-refusal .ensures) ∙ c .if1 .left in
+    record { fitting = open-pass _ _ _ _ _ e; passed = open-parts _ _ _ _ _ e .2 }
 
 returns-2 : tie.Need-returns-2
 unfolding searchRefusal

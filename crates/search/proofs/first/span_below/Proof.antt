@@ -31,7 +31,8 @@ sub-bits-of : tie.Need-sub-bits-of
 sub-bits-of c = omega (arith, in-span _ _ _ _ _ _ (c .before .pre .0) (c .before .pre .1 .0) (c .before .pre .1 .1 .0) (c .before .pre .1 .1 .1))
 
 part-bits-of-start : tie.Need-part-bits-of-start
-part-bits-of-start c = omega (arith, in-span _ _ _ _ _ _ (c .before .pre .0) (c .before .pre .1 .0) (c .before .pre .1 .1 .0) (c .before .pre .1 .1 .1))
+part-bits-of-start c =
+    omega (arith, in-span _ _ _ _ _ _ (c .before .pre .0) (c .before .pre .1 .0) (c .before .pre .1 .1 .0) (c .before .pre .1 .1 .1))
 
 part-bits-of-end : tie.Need-part-bits-of-end
 part-bits-of-end c = omega (arith, in-span _ _ _ _ _ _ (c .before .pre .0) (c .before .pre .1 .0) (c .before .pre .1 .1 .0) (c .before .pre .1 .1 .1))
@@ -43,7 +44,11 @@ is-below-requires : tie.Need-is-below-requires
 is-below-requires c κs = search needs
 
 returns : tie.Need-returns
-returns c = span-found _ _ _ _ _ _ _ _ (in-span _ _ _ _ _ _ (c .before .before .before .before .pre .0) (c .before .before .before .before .pre .1 .0) (c .before .before .before .before .pre .1 .1 .0) (c .before .before .before .before .pre .1 .1 .1)) (c .before .before .before .before .pre .1 .1 .0) (c .before .bits-of .ensures) (c .is-below .ensures)
+returns c =
+    span-found _ _ _ _ _ _ _ _
+    (in-span _ _ _ _ _ _ (c .before .before .before .before .pre .0) (c .before .before .before .before .pre .1 .0)
+    (c .before .before .before .before .pre .1 .1 .0) (c .before .before .before .before .pre .1 .1 .1))
+    (c .before .before .before .before .pre .1 .1 .0) (c .before .bits-of .ensures) (c .is-below .ensures)
 
 pub span-below-spec : {M : Type 1} → statement M
 span-below-spec =

@@ -64,7 +64,12 @@ loop-less : tie.Need-loop-less Inv-loop μ-loop
 loop-less c = search needs
 
 loop-again : tie.Need-loop-again Inv-loop μ-loop
-loop-again c = let k = c .before .before .before .before .before .before .pre in (omega arith, further-more _ _ _ _ _ _ (c .before .before .before .before .loop .inv .1) (k .1) (c .before .before .before .loop-test .taken) (k .0) (c .share .ensures))
+loop-again c =
+    let k = c .before .before .before .before .before .before .pre in (
+      omega arith,
+      further-more _ _ _ _ _ _ (c .before .before .before .before .loop .inv .1) (k .1) (c .before .before .before .loop-test .taken) (k .0)
+          (c .share .ensures),
+    )
 
 returns : tie.Need-returns Inv-loop μ-loop
 returns c = let end : c .before .loop .i ≡ 32 = omega arith in rw end at (c .before .loop .inv .1)

@@ -61,7 +61,15 @@ loop-less : tie.Need-loop-less Inv-loop μ-loop
 loop-less c = omega arith
 
 loop-again : tie.Need-loop-again Inv-loop μ-loop
-loop-again c = (omega arith, least-more _ _ _ _ _ _ _ _ (c .before .before .before .before .loop-test .taken) (c .before .before .before .before .before .loop .inv .1) (key-in _ _ _ _ _ (c .before .before .before .before .before .before .before .half .ensures) (c .before .before .before .before .loop-test .taken) _ (omega arith) _ (c .before .before .before .key .ensures)) (key-in _ _ _ _ _ (c .before .before .before .before .before .before .half2 .ensures) (c .before .before .before .before .loop-test .taken) _ (omega arith) _ (c .before .key2 .ensures)) (c .before .before .least .ensures) (c .least2 .ensures))
+loop-again c = (
+  omega arith,
+  least-more _ _ _ _ _ _ _ _ (c .before .before .before .before .loop-test .taken) (c .before .before .before .before .before .loop .inv .1)
+      (key-in _ _ _ _ _ (c .before .before .before .before .before .before .before .half .ensures) (c .before .before .before .before .loop-test .taken)
+      _ (omega arith) _ (c .before .before .before .key .ensures))
+      (key-in _ _ _ _ _ (c .before .before .before .before .before .before .half2 .ensures) (c .before .before .before .before .loop-test .taken) _
+      (omega arith) _ (c .before .key2 .ensures))
+      (c .before .before .least .ensures) (c .least2 .ensures),
+)
 
 returns : tie.Need-returns Inv-loop μ-loop
 returns c = let end : c .before .loop .i ≡ 16 = omega arith in rw (← end) (c .before .loop .inv .1)

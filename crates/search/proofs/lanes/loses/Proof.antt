@@ -44,7 +44,8 @@ loop-less : tie.Need-loop-less Inv-loop μ-loop
 loop-less c = omega arith
 
 loop-again : tie.Need-loop-again Inv-loop μ-loop
-loop-again c = (omega arith, some-turn _ (c .before .before .loop .i) (c .before .before .loop .lost) _ (c .before .before .loop .inv .1) (c .loss .ensures))
+loop-again c =
+    (omega arith, some-turn _ (c .before .before .loop .i) (c .before .before .loop .lost) _ (c .before .before .loop .inv .1) (c .loss .ensures))
 
 returns : tie.Need-returns Inv-loop μ-loop
 unfolding loses

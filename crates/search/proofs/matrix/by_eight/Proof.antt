@@ -21,7 +21,8 @@ sunk-requires-2 c κs = search needs
 returns : tie.Need-returns
 unfolding byEight
 returns c =
-    words-are _ _ _ _ _ (c .before .before .before .risen .ensures) (c .before .before .risen2 .ensures) (c .before .sunk .ensures) (c .sunk2 .ensures)
+    words-are _ _ _ _ _ (c .before .before .before .risen .ensures) (c .before .before .risen2 .ensures) (c .before .sunk .ensures)
+    (c .sunk2 .ensures)
 
 pub by-eight-spec : {M : Type 1} → statement M
 by-eight-spec =

@@ -20,8 +20,11 @@ four-requires-4 c κs = search needs
 
 returns : tie.Need-returns
 unfolding matrixOf
-returns c =
-    (words-are _ _ _ _ _ (c .before .before .before .four .ensures .0) (c .before .before .four2 .ensures .0) (c .before .four3 .ensures .0) (c .four4 .ensures .0), c .four4 .ensures .1)
+returns c = (
+  words-are _ _ _ _ _ (c .before .before .before .four .ensures .0) (c .before .before .four2 .ensures .0) (c .before .four3 .ensures .0)
+      (c .four4 .ensures .0),
+  c .four4 .ensures .1,
+)
 
 pub matrix-of-spec : {M : Type 1} → statement M
 matrix-of-spec =

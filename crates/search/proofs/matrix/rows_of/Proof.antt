@@ -58,10 +58,20 @@ word-at-requires-16 c κs = search needs
 returns : tie.Need-returns
 unfolding rowsOf fourOf
 returns c =
-    rows-are _ _ _ _ _ _ _ (c .before .before .before .before .before .before .before .before .before .before .before .before .before .before .before .word-at .ensures) (c .before .before .before .before .before .before .before .before .before .before .before .before .before .before .word-at2 .ensures) (c .before .before .before .before .before .before .before .before .before .before .before .before .before .word-at3 .ensures) (c .before .before .before .before .before .before .before .before .before .before .before .before .word-at4 .ensures)
-    (rows-are _ _ _ _ _ _ _ (c .before .before .before .before .before .before .before .before .before .before .before .word-at5 .ensures) (c .before .before .before .before .before .before .before .before .before .before .word-at6 .ensures) (c .before .before .before .before .before .before .before .before .before .word-at7 .ensures) (c .before .before .before .before .before .before .before .before .word-at8 .ensures)
-    (rows-are _ _ _ _ _ _ _ (c .before .before .before .before .before .before .before .word-at9 .ensures) (c .before .before .before .before .before .before .word-at10 .ensures) (c .before .before .before .before .before .word-at11 .ensures) (c .before .before .before .before .word-at12 .ensures)
-    (rows-are _ _ _ _ _ _ _ (c .before .before .before .word-at13 .ensures) (c .before .before .word-at14 .ensures) (c .before .word-at15 .ensures) (c .word-at16 .ensures) refl)))
+    rows-are _ _ _ _ _ _ _
+    (c .before .before .before .before .before .before .before .before .before .before .before .before .before .before .before .word-at .ensures)
+    (c .before .before .before .before .before .before .before .before .before .before .before .before .before .before .word-at2 .ensures)
+    (c .before .before .before .before .before .before .before .before .before .before .before .before .before .word-at3 .ensures)
+    (c .before .before .before .before .before .before .before .before .before .before .before .before .word-at4 .ensures)
+    (rows-are _ _ _ _ _ _ _ (c .before .before .before .before .before .before .before .before .before .before .before .word-at5 .ensures)
+    (c .before .before .before .before .before .before .before .before .before .before .word-at6 .ensures)
+    (c .before .before .before .before .before .before .before .before .before .word-at7 .ensures)
+    (c .before .before .before .before .before .before .before .before .word-at8 .ensures)
+    (rows-are _ _ _ _ _ _ _ (c .before .before .before .before .before .before .before .word-at9 .ensures)
+    (c .before .before .before .before .before .before .word-at10 .ensures) (c .before .before .before .before .before .word-at11 .ensures)
+    (c .before .before .before .before .word-at12 .ensures)
+    (rows-are _ _ _ _ _ _ _ (c .before .before .before .word-at13 .ensures) (c .before .before .word-at14 .ensures) (c .before .word-at15 .ensures)
+    (c .word-at16 .ensures) refl)))
 
 pub rows-of-spec : {M : Type 1} → statement M
 rows-of-spec =

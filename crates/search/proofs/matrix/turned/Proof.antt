@@ -18,7 +18,9 @@ rows-of-requires : tie.Need-rows-of-requires
 rows-of-requires c κs = search needs
 
 returns : tie.Need-returns
-returns c = turned-made _ _ _ _ (c .before .before .matrix-of .ensures .1) (c .before .before .matrix-of .ensures .0) (c .before .columns .ensures) (c .rows-of .ensures)
+returns c =
+    turned-made _ _ _ _ (c .before .before .matrix-of .ensures .1) (c .before .before .matrix-of .ensures .0) (c .before .columns .ensures)
+    (c .rows-of .ensures)
 
 pub turned-spec : {M : Type 1} → statement M
 turned-spec =

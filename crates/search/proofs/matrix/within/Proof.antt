@@ -34,8 +34,12 @@ by-two-requires-4 c κs = search needs
 returns : tie.Need-returns
 unfolding within
 returns c =
-    words-are _ _ _ _ _ (c .before .before .before .before .before .before .by-two .ensures ∙ ap byTwo (c .before .before .before .before .before .before .before .by-one .ensures))
-    (c .before .before .before .before .by-two2 .ensures ∙ ap byTwo (c .before .before .before .before .before .by-one2 .ensures)) (c .before .before .by-two3 .ensures ∙ ap byTwo (c .before .before .before .by-one3 .ensures)) (c .by-two4 .ensures ∙ ap byTwo (c .before .by-one4 .ensures))
+    words-are _ _ _ _ _
+    (c .before .before .before .before .before .before .by-two .ensures ∙ ap byTwo
+    (c .before .before .before .before .before .before .before .by-one .ensures))
+    (c .before .before .before .before .by-two2 .ensures ∙ ap byTwo (c .before .before .before .before .before .by-one2 .ensures))
+    (c .before .before .by-two3 .ensures ∙ ap byTwo (c .before .before .before .by-one3 .ensures))
+    (c .by-two4 .ensures ∙ ap byTwo (c .before .by-one4 .ensures))
 
 pub within-spec : {M : Type 1} → statement M
 within-spec =

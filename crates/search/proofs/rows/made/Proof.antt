@@ -50,7 +50,10 @@ array-write-row-2 : tie.Need-array-write-row-2 Inv-loop μ-loop
 array-write-row-2 c = omega arith
 
 returns : tie.Need-returns Inv-loop μ-loop
-returns c = let k = c .before .before .before .pre in row-made _ _ _ _ _ _ _ (c .before .loop .inv .1) (c .loop-test .left) (omega (arith, k .a-variable, k .fit .few)) (simp one-mul (mod-eq-of-lt (single-lt 16 (c .before .before .before .args .value) (omega (arith, k .a-value, k .fit .small)))))
+returns c =
+    let k = c .before .before .before .pre in
+    row-made _ _ _ _ _ _ _ (c .before .loop .inv .1) (c .loop-test .left) (omega (arith, k .a-variable, k .fit .few))
+    (simp one-mul (mod-eq-of-lt (single-lt 16 (c .before .before .before .args .value) (omega (arith, k .a-value, k .fit .small)))))
 
 pub made-spec : {M : Type 1} → statement M
 made-spec =

@@ -28,7 +28,9 @@ same-marks-requires : tie.Need-same-marks-requires
 same-marks-requires c κs = (c .before .before .before .before .pre .few, (c .before .slot .ensures .1, c .slot2 .ensures .1))
 
 returns-2 : tie.Need-returns-2
-returns-2 c = tells-below _ _ _ _ (c .before .before .slot .ensures .0) _ _ (c .before .before .before .if1 .left) (c .before .slot2 .ensures .0) (c .same-marks .ensures)
+returns-2 c =
+    tells-below _ _ _ _ (c .before .before .slot .ensures .0) _ _ (c .before .before .before .if1 .left) (c .before .slot2 .ensures .0)
+    (c .same-marks .ensures)
 
 pub as-below-spec : {M : Type 1} → statement M
 as-below-spec = tie.close (tie.spec returns slot-requires sub-slot slot-requires-2 same-marks-requires returns-2)

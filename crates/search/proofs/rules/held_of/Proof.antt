@@ -43,7 +43,12 @@ loop-less : tie.Need-loop-less Inv-loop μ-loop
 loop-less c = omega (arith, c .next-in2 .ensures .up)
 
 loop-again : tie.Need-loop-again Inv-loop μ-loop
-loop-again c = let k = c .before .before .before .before .before .before .pre in let inv = c .before .before .before .loop .inv in (held-next _ _ _ _ _ _ _ (inv .0) (c .before .before .loop-test .taken) (k .0) (inv .1 (omega (arith, k .0))) refl (c .next-in2 .ensures), c .next-in2 .ensures .there)
+loop-again c =
+    let k = c .before .before .before .before .before .before .pre in
+    let inv = c .before .before .before .loop .inv in (
+      held-next _ _ _ _ _ _ _ (inv .0) (c .before .before .loop-test .taken) (k .0) (inv .1 (omega (arith, k .0))) refl (c .next-in2 .ensures),
+      c .next-in2 .ensures .there,
+    )
 
 returns : tie.Need-returns Inv-loop μ-loop
 returns c = let k = c .before .before .before .before .pre in held-end _ _ _ _ _ (c .before .loop .inv .0) (c .loop-test .left) (k .1 .0) (k .1 .1)

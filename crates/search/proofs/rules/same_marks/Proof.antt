@@ -58,7 +58,10 @@ loop-again : tie.Need-loop-again Inv-loop μ-loop
 loop-again c = alike-next _ _ _ _ _ (c .before .before .before .before .before .loop .inv) (c .before .if2 .left) (c .next-in2 .ensures)
 
 returns-3 : tie.Need-returns-3 Inv-loop μ-loop
-returns-3 c = λ e. let k = c .before .before .before .before .before .before .before .before .pre in alike-end _ _ _ _ _ _ (k .1 .0) (k .1 .1) (c .before .before .before .before .before .marked-at .ensures) (c .before .before .before .before .marked-at2 .ensures) (c .before .before .before .if1 .left) (c .loop-test .left) (c .before .loop .inv)
+returns-3 c =
+    λ e. let k = c .before .before .before .before .before .before .before .before .pre in alike-end _ _ _ _ _ _ (k .1 .0) (k .1 .1)
+    (c .before .before .before .before .before .marked-at .ensures) (c .before .before .before .before .marked-at2 .ensures)
+    (c .before .before .before .if1 .left) (c .loop-test .left) (c .before .loop .inv)
 
 pub same-marks-spec : {M : Type 1} → statement M
 same-marks-spec =

@@ -31,7 +31,8 @@ wrong-in-requires c κs = search needs
 returns : tie.Need-returns
 returns c =
     let start = c .before .before .before .before .before .before in
-    wrong-front (start .args .n) (start .args .n - 0) (start .args .domains .now) (start .args .slot .now) _ (start .pre .0) (omega arith) (c .wrong-in .ensures)
+    wrong-front (start .args .n) (start .args .n - 0) (start .args .domains .now) (start .args .slot .now) _ (start .pre .0) (omega arith)
+    (c .wrong-in .ensures)
 
 wrong-in-requires-2 : tie.Need-wrong-in-requires-2
 wrong-in-requires-2 c κs = search needs

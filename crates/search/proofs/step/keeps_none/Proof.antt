@@ -41,35 +41,73 @@ cast-allowed-2 : tie.Need-cast-allowed-2
 cast-allowed-2 c = omega (arith, c .shared-slice-known5 .given 2)
 
 allowed-requires : tie.Need-allowed-requires
-allowed-requires c κs = place-3 _ _ _ _ (c .before .before .before .before .before .before .before .before .before .pre .0) (c .before .before .if3 .taken) _ (own-variable _ _ _ _ (c .before .before .before .before .before .before .before .before .before .pre .0) _ (c .before .before .before .before .before .before .before .before .before .pre .1) (inl (c .before .before .if3 .taken)) (c .before .before .before .before .before .if2 .left))
+allowed-requires c κs =
+    place-3 _ _ _ _ (c .before .before .before .before .before .before .before .before .before .pre .0) (c .before .before .if3 .taken) _
+    (own-variable _ _ _ _ (c .before .before .before .before .before .before .before .before .before .pre .0) _
+    (c .before .before .before .before .before .before .before .before .before .pre .1) (inl (c .before .before .if3 .taken))
+    (c .before .before .before .before .before .if2 .left))
 
 outside-requires : tie.Need-outside-requires
 outside-requires c κs = search needs
 
 returns-3 : tie.Need-returns-3
 returns-3 c =
-    let long : length (c .before .before .before .before .before .before .before .before .before .before .before .args .top .domains) ≡ 32 = search needs in
-    keeps-none-3 _ _ _ _ (c .before .before .before .before .before .before .before .before .before .before .before .pre .0) _ long _ (c .before .before .before .before .before .before .before .if2 .left) (own-variable _ _ _ _ (c .before .before .before .before .before .before .before .before .before .before .before .pre .0) _ (c .before .before .before .before .before .before .before .before .before .before .before .pre .1) (inl (c .before .before .before .before .if3 .taken)) (c .before .before .before .before .before .before .before .if2 .left)) _ _ _ (c .outside .ensures) (c .before .before .before .before .before .before .domain .ensures) (c .before .allowed .ensures) (c .before .before .before .before .if3 .taken)
+    let long : length (c .before .before .before .before .before .before .before .before .before .before .before .args .top .domains) ≡ 32 = search
+    needs in
+    keeps-none-3 _ _ _ _ (c .before .before .before .before .before .before .before .before .before .before .before .pre .0) _ long _
+    (c .before .before .before .before .before .before .before .if2 .left)
+    (own-variable _ _ _ _ (c .before .before .before .before .before .before .before .before .before .before .before .pre .0) _
+    (c .before .before .before .before .before .before .before .before .before .before .before .pre .1)
+    (inl (c .before .before .before .before .if3 .taken)) (c .before .before .before .before .before .before .before .if2 .left))
+    _ _ _ (c .outside .ensures) (c .before .before .before .before .before .before .domain .ensures) (c .before .allowed .ensures)
+    (c .before .before .before .before .if3 .taken)
 
 shared-slice-read-if4 : tie.Need-shared-slice-read-if4
 shared-slice-read-if4 c = search needs
 
 add-outside : tie.Need-add-outside
-add-outside c = omega (arith, own-variable _ _ _ _ (c .before .before .before .before .before .before .before .before .before .pre .0) _ (c .before .before .before .before .before .before .before .before .before .pre .1) (inr (c .if4 .taken)) (c .before .before .before .before .before .if2 .left), few _ _ _ _ (c .before .before .before .before .before .before .before .before .before .pre .0))
+add-outside c =
+    omega (
+      arith,
+      own-variable _ _ _ _ (c .before .before .before .before .before .before .before .before .before .pre .0) _
+          (c .before .before .before .before .before .before .before .before .before .pre .1) (inr (c .if4 .taken))
+          (c .before .before .before .before .before .if2 .left),
+      few _ _ _ _ (c .before .before .before .before .before .before .before .before .before .pre .0),
+    )
 
 mul-outside : tie.Need-mul-outside
-mul-outside c = omega (arith, own-variable _ _ _ _ (c .before .before .before .before .before .before .before .before .before .pre .0) _ (c .before .before .before .before .before .before .before .before .before .pre .1) (inr (c .if4 .taken)) (c .before .before .before .before .before .if2 .left), few _ _ _ _ (c .before .before .before .before .before .before .before .before .before .pre .0))
+mul-outside c =
+    omega (
+      arith,
+      own-variable _ _ _ _ (c .before .before .before .before .before .before .before .before .before .pre .0) _
+          (c .before .before .before .before .before .before .before .before .before .pre .1) (inr (c .if4 .taken))
+          (c .before .before .before .before .before .if2 .left),
+      few _ _ _ _ (c .before .before .before .before .before .before .before .before .before .pre .0),
+    )
 
 shared-slice-read-outside : tie.Need-shared-slice-read-outside
-shared-slice-read-outside c = omega (arith, own-variable _ _ _ _ (c .before .before .before .before .before .before .before .before .before .before .pre .0) _ (c .before .before .before .before .before .before .before .before .before .before .pre .1) (inr (c .before .if4 .taken)) (c .before .before .before .before .before .before .if2 .left), c .before .before .before .before .before .before .before .if1 .left)
+shared-slice-read-outside c =
+    omega (
+      arith,
+      own-variable _ _ _ _ (c .before .before .before .before .before .before .before .before .before .before .pre .0) _
+          (c .before .before .before .before .before .before .before .before .before .before .pre .1) (inr (c .before .if4 .taken))
+          (c .before .before .before .before .before .before .if2 .left),
+      c .before .before .before .before .before .before .before .if1 .left,
+    )
 
 outside-requires-2 : tie.Need-outside-requires-2
 outside-requires-2 c κs = search needs
 
 returns-4 : tie.Need-returns-4
 returns-4 c =
-    let long : length (c .before .before .before .before .before .before .before .before .before .before .before .args .top .domains) ≡ 32 = search needs in
-    keeps-none-5 _ _ _ _ (c .before .before .before .before .before .before .before .before .before .before .before .pre .0) _ long _ (c .before .before .before .before .before .before .before .if2 .left) (own-variable _ _ _ _ (c .before .before .before .before .before .before .before .before .before .before .before .pre .0) _ (c .before .before .before .before .before .before .before .before .before .before .before .pre .1) (inr (c .before .before .if4 .taken)) (c .before .before .before .before .before .before .before .if2 .left)) _ _ _ (c .outside2 .ensures) (c .before .before .before .before .before .before .domain .ensures) refl (c .before .before .if4 .taken)
+    let long : length (c .before .before .before .before .before .before .before .before .before .before .before .args .top .domains) ≡ 32 = search
+    needs in
+    keeps-none-5 _ _ _ _ (c .before .before .before .before .before .before .before .before .before .before .before .pre .0) _ long _
+    (c .before .before .before .before .before .before .before .if2 .left)
+    (own-variable _ _ _ _ (c .before .before .before .before .before .before .before .before .before .before .before .pre .0) _
+    (c .before .before .before .before .before .before .before .before .before .before .before .pre .1) (inr (c .before .before .if4 .taken))
+    (c .before .before .before .before .before .before .before .if2 .left))
+    _ _ _ (c .outside2 .ensures) (c .before .before .before .before .before .before .domain .ensures) refl (c .before .before .if4 .taken)
 
 returns-5 : tie.Need-returns-5
 returns-5 c = tells-none _ _ _ _ _ _

@@ -31,8 +31,15 @@ sub-k c = search needs
 
 keeps-none-requires : tie.Need-keeps-none-requires Inv-loop μ-loop
 keeps-none-requires c κs =
-    let pre = c .before .before .before .before .before .before .pre in
-    (pre .reads, omega (arith, named-is _ _ _ (c .before .before .before .before .before .before .args .top) _ (pre .reads) _ (c .before .before .candidates .ensures), c .before .loop .inv .0, c .loop-test .taken))
+    let pre = c .before .before .before .before .before .before .pre in (
+      pre .reads,
+      omega (
+        arith,
+        named-is _ _ _ (c .before .before .before .before .before .before .args .top) _ (pre .reads) _ (c .before .before .candidates .ensures),
+        c .before .loop .inv .0,
+        c .loop-test .taken,
+      ),
+    )
 
 piece-requires : tie.Need-piece-requires Inv-loop μ-loop
 piece-requires c κs = search needs
@@ -44,14 +51,22 @@ write-slot-requires : tie.Need-write-slot-requires Inv-loop μ-loop
 write-slot-requires c κs =
     let pre = c .before .before .before .before .before .before .before .before .before .before .before .before .pre in
     let inv = c .before .before .before .before .before .before .before .loop .inv in
-    gather-slot _ _ _ _ _ (pre .reads) _ _ _ _ _ (inv .1) _ (c .before .before .before .before .before .before .before .before .candidates .ensures) (inv .0) (c .before .before .before .before .before .before .loop-test .taken) _ (c .before .before .before .piece .ensures) _ (c .before .before .is-empty .ensures) (c .before .if2 .taken) (few _ _ _ _ (pre .reads)) (pre .room)
+    gather-slot _ _ _ _ _ (pre .reads) _ _ _ _ _ (inv .1) _ (c .before .before .before .before .before .before .before .before .candidates .ensures)
+    (inv .0) (c .before .before .before .before .before .before .loop-test .taken) _ (c .before .before .before .piece .ensures) _
+    (c .before .before .is-empty .ensures) (c .before .if2 .taken) (few _ _ _ _ (pre .reads)) (pre .room)
 
 add-at : tie.Need-add-at Inv-loop μ-loop
 add-at c =
     let pre = c .before .before .before .before .before .before .before .before .before .before .before .before .before .before .before .pre in
     let inv = c .before .before .before .before .before .before .before .before .before .before .loop .inv in
-    let slot = gather-slot _ _ _ _ _ (pre .reads) _ _ _ _ _ (inv .1) _ (c .before .before .before .before .before .before .before .before .before .before .before .candidates .ensures) (inv .0) (c .before .before .before .before .before .before .before .before .before .loop-test .taken) _ (c .before .before .before .before .before .before .piece .ensures) _ (c .before .before .before .before .before .is-empty .ensures) (c .before .before .before .before .if2 .taken) (few _ _ _ _ (pre .reads)) (pre .room) in
-    let inside : c .before .before .before .before .before .before .before .before .before .before .loop .at + 1 ≤ length (c .before .before .before .before .before .before .before .before .before .before .before .before .before .before .before .args .agenda .now) = omega (arith, slot-end _ _ _ slot, inv .1 .same) in
+    let slot = gather-slot _ _ _ _ _ (pre .reads) _ _ _ _ _ (inv .1) _
+    (c .before .before .before .before .before .before .before .before .before .before .before .candidates .ensures) (inv .0)
+    (c .before .before .before .before .before .before .before .before .before .loop-test .taken) _
+    (c .before .before .before .before .before .before .piece .ensures) _ (c .before .before .before .before .before .is-empty .ensures)
+    (c .before .before .before .before .if2 .taken) (few _ _ _ _ (pre .reads)) (pre .room) in
+    let inside : c .before .before .before .before .before .before .before .before .before .before .loop .at + 1 ≤ length
+    (c .before .before .before .before .before .before .before .before .before .before .before .before .before .before .before .args .agenda .now) =
+    omega (arith, slot-end _ _ _ slot, inv .1 .same) in
     search needs
 
 loop-less : tie.Need-loop-less Inv-loop μ-loop
@@ -61,8 +76,15 @@ loop-again : tie.Need-loop-again Inv-loop μ-loop
 loop-again c =
     let pre = c .before .before .before .before .before .before .before .before .before .before .before .before .before .before .before .pre in
     let inv = c .before .before .before .before .before .before .before .before .before .before .loop .inv in
-    let long : length (c .before .before .before .before .before .before .piece .result .domains) ≡ 32 = search needs in
-    (omega arith, gather-keep _ _ _ _ _ (pre .reads) _ _ _ _ _ (inv .1) _ (c .before .before .before .before .before .before .before .before .before .before .before .candidates .ensures) (inv .0) (c .before .before .before .before .before .before .before .before .before .loop-test .taken) _ (c .before .before .before .before .before .before .piece .ensures) _ (c .before .before .before .before .before .is-empty .ensures) (c .before .before .before .before .if2 .taken) _ (few _ _ _ _ (pre .reads)) (pre .room) long (c .before .before .write-slot .ensures) (search needs))
+    let long : length (c .before .before .before .before .before .before .piece .result .domains) ≡ 32 = search needs in (
+      omega arith,
+      gather-keep _ _ _ _ _ (pre .reads) _ _ _ _ _ (inv .1) _
+          (c .before .before .before .before .before .before .before .before .before .before .before .candidates .ensures) (inv .0)
+          (c .before .before .before .before .before .before .before .before .before .loop-test .taken) _
+          (c .before .before .before .before .before .before .piece .ensures) _ (c .before .before .before .before .before .is-empty .ensures)
+          (c .before .before .before .before .if2 .taken) _ (few _ _ _ _ (pre .reads)) (pre .room) long (c .before .before .write-slot .ensures)
+          (search needs),
+    )
 
 loop-less-2 : tie.Need-loop-less-2 Inv-loop μ-loop
 loop-less-2 c = search needs
@@ -70,8 +92,12 @@ loop-less-2 c = search needs
 loop-again-2 : tie.Need-loop-again-2 Inv-loop μ-loop
 loop-again-2 c =
     let pre = c .before .before .before .before .before .before .before .before .before .before .before .pre in
-    let inv = c .before .before .before .before .before .before .loop .inv in
-    (omega arith, gather-drop _ _ _ _ _ (pre .reads) _ _ _ _ _ (inv .1) _ (c .before .before .before .before .before .before .before .candidates .ensures) (inv .0) (c .before .before .before .before .before .loop-test .taken) _ (c .before .before .piece .ensures) _ (c .before .is-empty .ensures) (c .if2 .left))
+    let inv = c .before .before .before .before .before .before .loop .inv in (
+      omega arith,
+      gather-drop _ _ _ _ _ (pre .reads) _ _ _ _ _ (inv .1) _ (c .before .before .before .before .before .before .before .candidates .ensures) (inv .0)
+          (c .before .before .before .before .before .loop-test .taken) _ (c .before .before .piece .ensures) _ (c .before .is-empty .ensures)
+          (c .if2 .left),
+    )
 
 loop-less-3 : tie.Need-loop-less-3 Inv-loop μ-loop
 loop-less-3 c = search needs
@@ -79,8 +105,11 @@ loop-less-3 c = search needs
 loop-again-3 : tie.Need-loop-again-3 Inv-loop μ-loop
 loop-again-3 c =
     let pre = c .before .before .before .before .before .before .before .before .pre in
-    let inv = c .before .before .before .loop .inv in
-    (omega arith, gather-less _ _ _ _ _ (pre .reads) _ _ _ _ _ (inv .1) (c .before .before .loop-test .taken) (c .before .keeps-none .ensures (not-false _ (c .if1 .left))))
+    let inv = c .before .before .before .loop .inv in (
+      omega arith,
+      gather-less _ _ _ _ _ (pre .reads) _ _ _ _ _ (inv .1) (c .before .before .loop-test .taken)
+          (c .before .keeps-none .ensures (not-false _ (c .if1 .left))),
+    )
 
 same-length : tie.Need-same-length Inv-loop μ-loop
 same-length c = c .before .loop .inv .1 .same

@@ -16,7 +16,9 @@ div-free : tie.Need-div-free
 div-free c = search needs
 
 sub-free : tie.Need-sub-free
-sub-free c = let a = c .before .before .before .before .args in below-slots _ _ (a .tables .now) _ (a .top) (a .request .now) _ (c .before .before .before .before .pre)
+sub-free c =
+    let a = c .before .before .before .before .args in
+    below-slots _ _ (a .tables .now) _ (a .top) (a .request .now) _ (c .before .before .before .before .pre)
 
 refusal-of-requires : tie.Need-refusal-of-requires
 refusal-of-requires c κs = c .before .before .before .before .pre .ready .fitting
@@ -25,19 +27,49 @@ stopped-requires : tie.Need-stopped-requires
 stopped-requires c κs = tt
 
 returns : tie.Need-returns
-returns c = rw (c .stopped .ensures) (take-refused _ _ _ _ _ _ _ (c .before .before .before .before .before .before .before .pre) _ (c .before .before .refusal-of .ensures) (c .before .if1 .taken))
+returns c =
+    rw (c .stopped .ensures)
+    (take-refused _ _ _ _ _ _ _ (c .before .before .before .before .before .before .before .pre) _ (c .before .before .refusal-of .ensures)
+    (c .before .if1 .taken))
 
 with-checks-requires : tie.Need-with-checks-requires
-with-checks-requires c κs = let a = c .before .before .before .before .before .before .args in (take-reads _ _ _ (a .agenda .now) (a .top) _ (a .state) (c .before .before .before .before .before .before .pre) _ (c .before .refusal-of .ensures) (c .if1 .left), take-counts _ _ _ (a .agenda .now) (a .top) _ (a .state) (c .before .before .before .before .before .before .pre) _ (c .before .refusal-of .ensures) (c .if1 .left))
+with-checks-requires c κs =
+    let a = c .before .before .before .before .before .before .args in (
+      take-reads _ _ _ (a .agenda .now) (a .top) _ (a .state) (c .before .before .before .before .before .before .pre) _
+          (c .before .refusal-of .ensures) (c .if1 .left),
+      take-counts _ _ _ (a .agenda .now) (a .top) _ (a .state) (c .before .before .before .before .before .before .pre) _
+          (c .before .refusal-of .ensures) (c .if1 .left),
+    )
 
 clear-slot-requires : tie.Need-clear-slot-requires
-clear-slot-requires c κs = let a = c .before .before .before .before .before .before .before .before .args in record { few = c .before .before .before .before .before .before .before .before .pre .ready .fitting .few; within = take-slot _ _ _ (a .agenda .now) (a .top) _ (a .state) (c .before .before .before .before .before .before .before .before .pre) _ (c .before .before .before .refusal-of .ensures) (c .before .before .if1 .left) }
+clear-slot-requires c κs =
+    let a = c .before .before .before .before .before .before .before .before .args in
+    record {
+      few = c .before .before .before .before .before .before .before .before .pre .ready .fitting .few;
+      within = take-slot _ _ _ (a .agenda .now) (a .top) _ (a .state) (c .before .before .before .before .before .before .before .before .pre) _
+          (c .before .before .before .refusal-of .ensures) (c .before .before .if1 .left);
+    }
 
 place-requires : tie.Need-place-requires
-place-requires c κs = let a = c .before .before .before .before .before .before .before .before .before .before .before .before .args in let room = take-room _ _ _ (a .agenda .now) (a .top) _ (a .state) (c .before .before .before .before .before .before .before .before .before .before .before .before .pre) _ (c .before .before .before .before .before .before .before .refusal-of .ensures) (c .before .before .before .before .before .before .if1 .left) in record { reads = take-reads _ _ _ (a .agenda .now) (a .top) _ (a .state) (c .before .before .before .before .before .before .before .before .before .before .before .before .pre) _ (c .before .before .before .before .before .before .before .refusal-of .ensures) (c .before .before .before .before .before .before .if1 .left); room = search needs }
+place-requires c κs =
+    let a = c .before .before .before .before .before .before .before .before .before .before .before .before .args in
+    let room = take-room _ _ _ (a .agenda .now) (a .top) _ (a .state)
+    (c .before .before .before .before .before .before .before .before .before .before .before .before .pre) _
+    (c .before .before .before .before .before .before .before .refusal-of .ensures) (c .before .before .before .before .before .before .if1 .left) in
+    record {
+      reads = take-reads _ _ _ (a .agenda .now) (a .top) _ (a .state)
+          (c .before .before .before .before .before .before .before .before .before .before .before .before .pre) _
+          (c .before .before .before .before .before .before .before .refusal-of .ensures) (c .before .before .before .before .before .before .if1 .left);
+      room = search needs;
+    }
 
 taken-requires : tie.Need-taken-requires
-taken-requires c κs = let a = c .before .before .before .before .before .before .before .before .before .before .before .before .before .before .before .args in take-steps _ _ _ (a .agenda .now) (a .top) _ (a .state) (c .before .before .before .before .before .before .before .before .before .before .before .before .before .before .before .pre) _ (c .before .before .before .before .before .before .before .before .before .before .refusal-of .ensures) (c .before .before .before .before .before .before .before .before .before .if1 .left)
+taken-requires c κs =
+    let a = c .before .before .before .before .before .before .before .before .before .before .before .before .before .before .before .args in
+    take-steps _ _ _ (a .agenda .now) (a .top) _ (a .state)
+    (c .before .before .before .before .before .before .before .before .before .before .before .before .before .before .before .pre) _
+    (c .before .before .before .before .before .before .before .before .before .before .refusal-of .ensures)
+    (c .before .before .before .before .before .before .before .before .before .if1 .left)
 
 same-length : tie.Need-same-length
 same-length c = search needs
@@ -45,8 +77,15 @@ same-length c = search needs
 returns-2 : tie.Need-returns-2
 returns-2 c =
     rw (c .taken .ensures)
-    (take-taken _ _ _ _ _ _ _ (c .before .before .before .before .before .before .before .before .before .before .before .before .before .before .before .before .pre) _ (c .before .before .before .before .before .before .before .before .before .before .before .refusal-of .ensures) (c .before .before .before .before .before .before .before .before .before .before .if1 .left) _ _ _
-    (record { count = c .before .before .before .place .ensures .count; words = splice-twice _ _ _ _ _ _ (c .before .before .before .place .ensures .words) (c .before .before .before .before .before .before .before .clear-slot .ensures) })
+    (take-taken _ _ _ _ _ _ _
+    (c .before .before .before .before .before .before .before .before .before .before .before .before .before .before .before .before .pre) _
+    (c .before .before .before .before .before .before .before .before .before .before .before .refusal-of .ensures)
+    (c .before .before .before .before .before .before .before .before .before .before .if1 .left) _ _ _
+    (record {
+      count = c .before .before .before .place .ensures .count;
+      words = splice-twice _ _ _ _ _ _ (c .before .before .before .place .ensures .words)
+          (c .before .before .before .before .before .before .before .clear-slot .ensures);
+    })
     (c .before .before .before .before .before .before .before .before .before .with-checks .ensures))
 
 pub take-spec : {M : Type 1} → statement M

@@ -14,13 +14,15 @@ checks-requires c κs = search needs
 add-result : tie.Need-add-result
 add-result c =
     let a = c .before .before .before .args in
-    let its : c .checks .result ≡ checks (a .n) (tableOf (a .n) (a .d) (a .tables .now)) (a .top) (a .request .now) = c .checks .ensures ∙ rw (c .before .before .before .pre .0) refl in
+    let its : c .checks .result ≡ checks (a .n) (tableOf (a .n) (a .d) (a .tables .now)) (a .top) (a .request .now) = c .checks .ensures ∙ rw
+    (c .before .before .before .pre .0) refl in
     record { fits = omega arith }
 
 returns : tie.Need-returns
 returns c =
     let a = c .before .before .before .args in
-    let its : c .checks .result ≡ checks (a .n) (tableOf (a .n) (a .d) (a .tables .now)) (a .top) (a .request .now) = c .checks .ensures ∙ rw (c .before .before .before .pre .0) refl in
+    let its : c .checks .result ≡ checks (a .n) (tableOf (a .n) (a .d) (a .tables .now)) (a .top) (a .request .now) = c .checks .ensures ∙ rw
+    (c .before .before .before .pre .0) refl in
     omega arith
 
 pub with-checks-spec : {M : Type 1} → statement M

@@ -41,7 +41,9 @@ matrix-of-requires : tie.Need-matrix-of-requires
 matrix-of-requires c κs = search needs
 
 returns : tie.Need-returns
-returns c = matrix-part _ _ _ _ _ (c .before .before .before .before .before .pre .0) (c .before .before .before .before .before .pre .1 .0) (c .before .before .before .before .before .pre .1 .1) _ _ (c .before .before .padded .ensures) (c .matrix-of .ensures .0)
+returns c =
+    matrix-part _ _ _ _ _ (c .before .before .before .before .before .pre .0) (c .before .before .before .before .before .pre .1 .0)
+    (c .before .before .before .before .before .pre .1 .1) _ _ (c .before .before .padded .ensures) (c .matrix-of .ensures .0)
 
 pub matrix-at-spec : {M : Type 1} → statement M
 matrix-at-spec =

@@ -33,7 +33,9 @@ loop-again : tie.Need-loop-again Inv-loop μ-loop
 loop-again c = (omega arith, joined-more _ _ _ _ (c .before .before .loop .inv .1) (c .one-way .ensures))
 
 returns : tie.Need-returns Inv-loop μ-loop
-returns c = row-found _ _ _ (c .before .before .before .pre .0) _ _ (c .before .before .before .pre .1) (joined-end _ _ _ _ (c .before .loop .inv .0) (c .loop-test .left) (c .before .loop .inv .1))
+returns c =
+    row-found _ _ _ (c .before .before .before .pre .0) _ _ (c .before .before .before .pre .1)
+    (joined-end _ _ _ _ (c .before .loop .inv .0) (c .loop-test .left) (c .before .loop .inv .1))
 
 pub part-both-ways-spec : {M : Type 1} → statement M
 part-both-ways-spec =

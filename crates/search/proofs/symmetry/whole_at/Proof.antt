@@ -36,7 +36,9 @@ matrix-of-requires : tie.Need-matrix-of-requires
 matrix-of-requires c κs = search needs
 
 returns : tie.Need-returns
-returns c = matrix-whole _ _ _ _ _ (c .before .before .before .pre .0) (c .before .before .before .pre .1 .0) (c .before .before .before .pre .1 .1) _ refl (c .matrix-of .ensures .0)
+returns c =
+    matrix-whole _ _ _ _ _ (c .before .before .before .pre .0) (c .before .before .before .pre .1 .0) (c .before .before .before .pre .1 .1) _ refl
+    (c .matrix-of .ensures .0)
 
 pub whole-at-spec : {M : Type 1} → statement M
 whole-at-spec =

@@ -18,7 +18,9 @@ difference-requires : tie.Need-difference-requires
 difference-requires c κs = search needs
 
 returns : tie.Need-returns
-returns c = one-way-found _ _ _ _ _ _ _ _ (c .before .before .before .whole-at .ensures) (c .before .before .columns .ensures) (c .before .whole-at2 .ensures) (c .difference .ensures)
+returns c =
+    one-way-found _ _ _ _ _ _ _ _ (c .before .before .before .whole-at .ensures) (c .before .before .columns .ensures) (c .before .whole-at2 .ensures)
+    (c .difference .ensures)
 
 pub whole-one-way-spec : {M : Type 1} → statement M
 whole-one-way-spec =

@@ -15,13 +15,17 @@ returns : tie.Need-returns
 returns c = forbids-none _ _ _ _ _ _ _ _ _ (c .before .before .domain .ensures) (c .before .lowest .ensures) (c .if1 .taken)
 
 allowed-requires : tie.Need-allowed-requires
-allowed-requires c κs = let p = c .before .before .before .before .pre in (p .0 .fit, record { first = p .1; second = p .0 .a-variable; third = c .if1 .left })
+allowed-requires c κs =
+    let p = c .before .before .before .before .pre in
+    (p .0 .fit, record { first = p .1; second = p .0 .a-variable; third = c .if1 .left })
 
 has-requires : tie.Need-has-requires
 has-requires c κs = search needs
 
 returns-2 : tie.Need-returns-2
-returns-2 c = forbids-is _ _ _ _ _ _ _ _ _ _ _ (c .before .before .before .before .domain .ensures) (c .before .before .before .lowest .ensures) (c .before .allowed .ensures) (c .has .ensures)
+returns-2 c =
+    forbids-is _ _ _ _ _ _ _ _ _ _ _ (c .before .before .before .before .domain .ensures) (c .before .before .before .lowest .ensures)
+    (c .before .allowed .ensures) (c .has .ensures)
 
 pub does-forbid-spec : {M : Type 1} → statement M
 does-forbid-spec =

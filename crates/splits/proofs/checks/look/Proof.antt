@@ -14,7 +14,8 @@ use Rattle.splits.proofs.checks.look.Statement.{statement}
 use Rattle.splits.proofs.checks.look.Tie as tie
 
 abbrev Inv-loop : tie.InvT-loop
-Inv-loop top n d tables variable value count₀ conflict₀ i₀ count conflict i = (i ≤ n) × ((count ≤ i) × ((conflict ≡ false) × Looking n (tableOf n d tables) top variable value i count))
+Inv-loop top n d tables variable value count₀ conflict₀ i₀ count conflict i =
+    (i ≤ n) × ((count ≤ i) × ((conflict ≡ false) × Looking n (tableOf n d tables) top variable value i count))
 
 abbrev μ-loop : tie.MeasureT-loop
 μ-loop top n d tables variable value count₀ conflict₀ i₀ count conflict i = n - i
@@ -43,9 +44,19 @@ loop-again c =
     let inv = c .before .before .loop .inv .1 .1 in (
       omega arith,
       ⊎-elim
-          (λ w. (omega (arith, w .5), (inv .0, rw (w .5) (look-more _ _ _ _ _ _ _ (inv .1) _ _ (other-looked _ _ _ _ (w .0 .taken) (w .1 .ensures)) (w .2 .taken) (w .3 .ensures) (w .4 .left)))))
+          (λ w. (
+            omega (arith, w .5),
+            (
+              inv .0,
+              rw (w .5)
+                  (look-more _ _ _ _ _ _ _ (inv .1) _ _ (other-looked _ _ _ _ (w .0 .taken) (w .1 .ensures)) (w .2 .taken) (w .3 .ensures) (w .4 .left)),
+            ),
+          ))
           (⊎-elim
-          (λ w. (omega (arith, w .3), (inv .0, rw (w .3) (look-skip _ _ _ _ _ _ _ (inv .1) _ (other-looked _ _ _ _ (w .0 .taken) (w .1 .ensures)) (w .2 .left)))))
+          (λ w. (
+            omega (arith, w .3),
+            (inv .0, rw (w .3) (look-skip _ _ _ _ _ _ _ (inv .1) _ (other-looked _ _ _ _ (w .0 .taken) (w .1 .ensures)) (w .2 .left))),
+          ))
           (λ w. (omega (arith, w .1), (inv .0, rw (w .1) (look-skip _ _ _ _ _ _ _ (inv .1) _ (own-passed _ _ _ (w .0 .left)) refl)))))
           (c .if1 .came),
     )
@@ -54,7 +65,11 @@ returns : tie.Need-returns Inv-loop μ-loop
 returns c = look-end _ _ _ _ _ _ _ (c .before .loop .inv .1 .1 .1) _ (c .before .loop .inv .0) (c .loop-test .left) (c .before .loop .inv .1 .1 .0)
 
 returns-2 : tie.Need-returns-2 Inv-loop μ-loop
-returns-2 c = look-stop _ _ _ _ _ _ _ (c .before .before .before .before .before .before .loop .inv .1 .1 .1) _ _ (c .before .before .before .before .before .loop-test .taken) (other-looked _ _ _ _ (c .before .before .before .before .if1 .taken) (c .before .before .before .is-instantiated .ensures)) (c .before .before .if2 .taken) (c .before .does-forbid .ensures) (c .if3 .taken)
+returns-2 c =
+    look-stop _ _ _ _ _ _ _ (c .before .before .before .before .before .before .loop .inv .1 .1 .1) _ _
+    (c .before .before .before .before .before .loop-test .taken)
+    (other-looked _ _ _ _ (c .before .before .before .before .if1 .taken) (c .before .before .before .is-instantiated .ensures))
+    (c .before .before .if2 .taken) (c .before .does-forbid .ensures) (c .if3 .taken)
 
 pub look-spec : {M : Type 1} → statement M
 look-spec =

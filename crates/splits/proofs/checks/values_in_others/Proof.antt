@@ -39,7 +39,15 @@ loop-less : tie.Need-loop-less Inv-loop μ-loop
 loop-less c = search needs
 
 loop-again : tie.Need-loop-again Inv-loop μ-loop
-loop-again c = (omega arith, ⊎-elim (λ w. (w .3 ∙ values-more _ _ _ _ (c .before .before .loop .inv .1 .0) _ _ (w .0 .taken) (w .1 .ensures) (w .2 .ensures), omega (arith, w .2 .ensures, ones-le 16 _ (w .1 .ok)))) (λ w. (w .1 ∙ values-same _ _ _ _ (c .before .before .loop .inv .1 .0) (w .0 .left), omega (arith, w .1))) (c .if1 .came))
+loop-again c = (
+  omega arith,
+  ⊎-elim
+      (λ w. (
+        w .3 ∙ values-more _ _ _ _ (c .before .before .loop .inv .1 .0) _ _ (w .0 .taken) (w .1 .ensures) (w .2 .ensures),
+        omega (arith, w .2 .ensures, ones-le 16 _ (w .1 .ok)),
+      ))
+      (λ w. (w .1 ∙ values-same _ _ _ _ (c .before .before .loop .inv .1 .0) (w .0 .left), omega (arith, w .1))) (c .if1 .came),
+)
 
 returns : tie.Need-returns Inv-loop μ-loop
 returns c = rw (← le-antisymm (c .before .loop .inv .0) (c .loop-test .left)) (c .before .loop .inv .1 .0)

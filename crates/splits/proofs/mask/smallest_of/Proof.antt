@@ -24,7 +24,10 @@ lowest-requires : tie.Need-lowest-requires Inv-loop μ-loop
 lowest-requires c κs = search needs
 
 only-requires : tie.Need-only-requires Inv-loop μ-loop
-only-requires c κs = let b = c .before .before .before in turn-lt _ _ (b .fits .mask .fits) (lt-of-lt-of-le (c .before .loop-test .taken) (b .pre)) _ _ (c .before .before .loop .inv .1) (c .lowest .ensures)
+only-requires c κs =
+    let b = c .before .before .before in
+    turn-lt _ _ (b .fits .mask .fits) (lt-of-lt-of-le (c .before .loop-test .taken) (b .pre)) _ _ (c .before .before .loop .inv .1)
+    (c .lowest .ensures)
 
 add-i : tie.Need-add-i Inv-loop μ-loop
 add-i c = search needs
@@ -33,7 +36,12 @@ loop-less : tie.Need-loop-less Inv-loop μ-loop
 loop-less c = search needs
 
 loop-again : tie.Need-loop-again Inv-loop μ-loop
-loop-again c = let b = c .before .before .before .before in (omega arith, turn-kept _ _ (b .fits .mask .fits) (lt-of-lt-of-le (c .before .before .loop-test .taken) (b .pre)) _ _ _ (c .before .before .before .loop .inv .1) (c .before .lowest .ensures) (c .only .ensures))
+loop-again c =
+    let b = c .before .before .before .before in (
+      omega arith,
+      turn-kept _ _ (b .fits .mask .fits) (lt-of-lt-of-le (c .before .before .loop-test .taken) (b .pre)) _ _ _
+          (c .before .before .before .loop .inv .1) (c .before .lowest .ensures) (c .only .ensures),
+    )
 
 returns : tie.Need-returns Inv-loop μ-loop
 returns c = rw (← le-antisymm (c .before .loop .inv .0) (c .loop-test .left)) (c .before .loop .inv .1)

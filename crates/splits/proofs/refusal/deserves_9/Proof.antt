@@ -22,14 +22,23 @@ value-requires c κs = search needs
 
 returns-2 : tie.Need-returns-2
 unfolding deserves9
-returns-2 c = rw (← c .before .before .before .kind .ensures, ← c .before .value .ensures, ne-eqb _ _ (c .before .before .if1 .left), le-leb _ _ (c .if2 .taken))
+returns-2 c =
+    rw
+    (← c .before .before .before .kind .ensures, ← c .before .value .ensures, ne-eqb _ _ (c .before .before .if1 .left), le-leb _ _ (c .if2 .taken))
 
 has-requires : tie.Need-has-requires
 has-requires c κs = search needs
 
 returns-3 : tie.Need-returns-3
 unfolding deserves9
-returns-3 c = rw (← c .before .before .before .before .kind .ensures, ← c .before .before .value .ensures, ne-eqb _ _ (c .before .before .before .if1 .left), lt-leb _ _ (c .before .if2 .left), lacks _ _ _ (c .has .ensures))
+returns-3 c =
+    rw (
+      ← c .before .before .before .before .kind .ensures,
+      ← c .before .before .value .ensures,
+      ne-eqb _ _ (c .before .before .before .if1 .left),
+      lt-leb _ _ (c .before .if2 .left),
+      lacks _ _ _ (c .has .ensures),
+    )
 
 pub deserves-9-spec : {M : Type 1} → statement M
 deserves-9-spec =

@@ -31,7 +31,9 @@ is-target-bad-requires : tie.Need-is-target-bad-requires Inv-loop μ-loop
 is-target-bad-requires c κs = search needs
 
 returns-2 : tie.Need-returns-2 Inv-loop μ-loop
-returns-2 c = ten-at _ _ _ _ _ _ _ (c .before .before .before .before .loop-test .taken) (c .before .before .before .target .ensures) (c .before .before .domain .ensures) (c .before .is-target-bad .ensures) (c .if2 .taken)
+returns-2 c =
+    ten-at _ _ _ _ _ _ _ (c .before .before .before .before .loop-test .taken) (c .before .before .before .target .ensures)
+    (c .before .before .domain .ensures) (c .before .is-target-bad .ensures) (c .if2 .taken)
 
 add-i : tie.Need-add-i Inv-loop μ-loop
 add-i c = search needs
@@ -45,8 +47,11 @@ loop-again c =
     let target = c .before .before .before .before .target .ensures in
     let domain = c .before .before .before .domain .ensures in
     let tested = c .before .before .is-target-bad .ensures in
-    let good = c .before .if2 .left in
-    (omega arith, ⊎-elim (λ w. passed-other _ _ _ _ _ _ _ _ inv target domain tested good (w .0 .taken) (w .1)) (λ w. passed-same _ _ _ _ _ _ _ _ inv target domain tested good (w .0 .left) (w .1)) (c .if3 .came))
+    let good = c .before .if2 .left in (
+      omega arith,
+      ⊎-elim (λ w. passed-other _ _ _ _ _ _ _ _ inv target domain tested good (w .0 .taken) (w .1))
+          (λ w. passed-same _ _ _ _ _ _ _ _ inv target domain tested good (w .0 .left) (w .1)) (c .if3 .came),
+    )
 
 returns-3 : tie.Need-returns-3 Inv-loop μ-loop
 returns-3 c =

@@ -30,10 +30,20 @@ deserves-9-requires : tie.Need-deserves-9-requires
 deserves-9-requires c κs = search needs
 
 returns-3 : tie.Need-returns-3
-returns-3 c = rw (← c .before .before .before .before .before .before .variable .ensures) (rw (c .if3 .taken) at (past-8 _ _ (c .before .before .before .before .before .before .before .before .args .top) _ _ _ _ _ _ (c .before .before .before .before .before .if1 .left) (c .before .before .before .before .is-instantiated .ensures) (c .before .before .before .if2 .left) (c .before .before .domain .ensures) (c .before .deserves-9 .ensures)))
+returns-3 c =
+    rw (← c .before .before .before .before .before .before .variable .ensures)
+    (rw (c .if3 .taken) at
+    (past-8 _ _ (c .before .before .before .before .before .before .before .before .args .top) _ _ _ _ _ _
+    (c .before .before .before .before .before .if1 .left) (c .before .before .before .before .is-instantiated .ensures)
+    (c .before .before .before .if2 .left) (c .before .before .domain .ensures) (c .before .deserves-9 .ensures)))
 
 returns-4 : tie.Need-returns-4
-returns-4 c = rw (← c .before .before .before .before .before .before .variable .ensures) (rw (c .if3 .left) at (past-8 _ _ (c .before .before .before .before .before .before .before .before .args .top) _ _ _ _ _ _ (c .before .before .before .before .before .if1 .left) (c .before .before .before .before .is-instantiated .ensures) (c .before .before .before .if2 .left) (c .before .before .domain .ensures) (c .before .deserves-9 .ensures)))
+returns-4 c =
+    rw (← c .before .before .before .before .before .before .variable .ensures)
+    (rw (c .if3 .left) at
+    (past-8 _ _ (c .before .before .before .before .before .before .before .before .args .top) _ _ _ _ _ _
+    (c .before .before .before .before .before .if1 .left) (c .before .before .before .before .is-instantiated .ensures)
+    (c .before .before .before .if2 .left) (c .before .before .domain .ensures) (c .before .deserves-9 .ensures)))
 
 pub refusal-of-variable-spec : {M : Type 1} → statement M
 refusal-of-variable-spec =

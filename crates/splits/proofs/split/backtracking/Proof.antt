@@ -22,13 +22,17 @@ cut-requires : tie.Need-cut-requires
 cut-requires c κs = search needs
 
 returns-2 : tie.Need-returns-2
-returns-2 c = backtracked-none _ _ _ _ _ _ _ _ (c .before .before .before .before .before .pre) (c .before .before .before .if1 .left) _ (c .before .before .look .ensures .met) (c .before .if2 .taken) (c .cut .ensures)
+returns-2 c =
+    backtracked-none _ _ _ _ _ _ _ _ (c .before .before .before .before .before .pre) (c .before .before .before .if1 .left) _
+    (c .before .before .look .ensures .met) (c .before .if2 .taken) (c .cut .ensures)
 
 instantiate-requires : tie.Need-instantiate-requires
 instantiate-requires c κs = search needs
 
 returns-3 : tie.Need-returns-3
-returns-3 c = backtracked-first _ _ _ _ _ _ _ _ (c .before .before .before .before .before .pre) (c .before .before .before .if1 .left) _ (c .before .before .look .ensures .met) (c .before .if2 .left) (c .instantiate .ensures)
+returns-3 c =
+    backtracked-first _ _ _ _ _ _ _ _ (c .before .before .before .before .before .pre) (c .before .before .before .if1 .left) _
+    (c .before .before .look .ensures .met) (c .before .if2 .left) (c .instantiate .ensures)
 
 pub backtracking-spec : {M : Type 1} → statement M
 backtracking-spec =

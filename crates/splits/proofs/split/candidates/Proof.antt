@@ -30,7 +30,9 @@ returns-3 c = rw (le-leb _ _ (c .before .before .if1 .left), ← c .before .kind
 
 returns-4 : tie.Need-returns-4
 unfolding candidates
-returns-4 c = rw (le-leb _ _ (c .before .before .before .if1 .left), ← c .before .before .kind .ensures) (sym (two-pieces _ _ _ _ (λ e. c .before .match .rest .0 .1 (inl e)) (c .before .match .rest .1) (c .if2 .taken)))
+returns-4 c =
+    rw (le-leb _ _ (c .before .before .before .if1 .left), ← c .before .before .kind .ensures)
+    (sym (two-pieces _ _ _ _ (λ e. c .before .match .rest .0 .1 (inl e)) (c .before .match .rest .1) (c .if2 .taken)))
 
 returns-5 : tie.Need-returns-5
 unfolding candidates

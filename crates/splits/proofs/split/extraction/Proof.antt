@@ -24,7 +24,9 @@ without-requires : tie.Need-without-requires
 without-requires c κs = search needs
 
 returns-2 : tie.Need-returns-2
-returns-2 c = extracted-later _ _ _ _ _ (c .before .before .before .if1 .left) _ (c .before .before .at-targets2 .ensures) _ (c .before .target .ensures) (c .without .ensures)
+returns-2 c =
+    extracted-later _ _ _ _ _ (c .before .before .before .if1 .left) _ (c .before .before .at-targets2 .ensures) _ (c .before .target .ensures)
+    (c .without .ensures)
 
 pub extraction-spec : {M : Type 1} → statement M
 extraction-spec =

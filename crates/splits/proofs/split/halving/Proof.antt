@@ -22,13 +22,19 @@ without-requires : tie.Need-without-requires
 without-requires c κs = search needs
 
 returns-2 : tie.Need-returns-2
-returns-2 c = rw (← c .before .before .before .before .before .variable .ensures, lt-ltb _ _ (c .before .before .before .before .if1 .left)) (halved-rest _ _ _ _ _ _ (c .before .before .before .domain .ensures) (c .before .before .smaller-half .ensures) (c .before .if2 .taken) (c .without .ensures))
+returns-2 c =
+    rw (← c .before .before .before .before .before .variable .ensures, lt-ltb _ _ (c .before .before .before .before .if1 .left))
+    (halved-rest _ _ _ _ _ _ (c .before .before .before .domain .ensures) (c .before .before .smaller-half .ensures) (c .before .if2 .taken)
+    (c .without .ensures))
 
 cut-requires : tie.Need-cut-requires
 cut-requires c κs = search needs
 
 returns-3 : tie.Need-returns-3
-returns-3 c = rw (← c .before .before .before .before .before .variable .ensures, lt-ltb _ _ (c .before .before .before .before .if1 .left)) (halved-first _ _ _ _ _ _ (c .before .before .before .domain .ensures) (c .before .before .smaller-half .ensures) (c .before .if2 .left) (c .cut .ensures))
+returns-3 c =
+    rw (← c .before .before .before .before .before .variable .ensures, lt-ltb _ _ (c .before .before .before .before .if1 .left))
+    (halved-first _ _ _ _ _ _ (c .before .before .before .domain .ensures) (c .before .before .smaller-half .ensures) (c .before .if2 .left)
+    (c .cut .ensures))
 
 pub halving-spec : {M : Type 1} → statement M
 halving-spec =

@@ -31,13 +31,18 @@ cut-beside-requires : tie.Need-cut-beside-requires
 cut-beside-requires c κs = (c .before .before .before .before .before .pre .0, omega arith)
 
 allowed-requires : tie.Need-allowed-requires
-allowed-requires c κs = let p = c .before .before .before .before .before .before .pre in (p .0 .fit, record { first = p .0 .a-variable; second = omega arith; third = p .0 .a-value })
+allowed-requires c κs =
+    let p = c .before .before .before .before .before .before .pre in
+    (p .0 .fit, record { first = p .0 .a-variable; second = omega arith; third = p .0 .a-value })
 
 without-requires-2 : tie.Need-without-requires-2
 without-requires-2 c κs = search needs
 
 returns-3 : tie.Need-returns-3
-returns-3 c = inferred-later _ _ _ _ _ _ _ (c .before .before .before .before .before .before .if1 .left) (c .before .before .before .before .before .if2 .left) _ (c .before .before .before .before .only .ensures) _ (c .before .before .before .without .ensures) _ (c .before .before .cut-beside .ensures) _ (c .before .allowed .ensures) (c .without2 .ensures)
+returns-3 c =
+    inferred-later _ _ _ _ _ _ _ (c .before .before .before .before .before .before .if1 .left) (c .before .before .before .before .before .if2 .left)
+    _ (c .before .before .before .before .only .ensures) _ (c .before .before .before .without .ensures) _ (c .before .before .cut-beside .ensures) _
+    (c .before .allowed .ensures) (c .without2 .ensures)
 
 pub idc-spec : {M : Type 1} → statement M
 idc-spec =

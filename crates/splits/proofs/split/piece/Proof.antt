@@ -19,7 +19,9 @@ halving-requires : tie.Need-halving-requires
 halving-requires c κs = search needs
 
 returns-2 : tie.Need-returns-2
-returns-2 c = piece-4 _ _ _ _ _ _ _ (c .before .before .before .before .candidates .ensures) (c .before .before .before .if1 .left) _ (c .before .before .kind .ensures) _ (c .before .match .keys1) (c .halving .ensures)
+returns-2 c =
+    piece-4 _ _ _ _ _ _ _ (c .before .before .before .before .candidates .ensures) (c .before .before .before .if1 .left) _
+    (c .before .before .kind .ensures) _ (c .before .match .keys1) (c .halving .ensures)
 
 extraction-requires : tie.Need-extraction-requires
 extraction-requires c κs =
@@ -27,7 +29,9 @@ extraction-requires c κs =
     (place .0, peel-place _ _ _ (place .1) _ (c .before .kind .ensures) (inr (c .match .keys2)))
 
 returns-3 : tie.Need-returns-3
-returns-3 c = piece-5 _ _ _ _ _ _ _ (c .before .before .before .before .candidates .ensures) (c .before .before .before .if1 .left) _ (c .before .before .kind .ensures) _ (c .before .match .keys2) (c .extraction .ensures)
+returns-3 c =
+    piece-5 _ _ _ _ _ _ _ (c .before .before .before .before .candidates .ensures) (c .before .before .before .if1 .left) _
+    (c .before .before .kind .ensures) _ (c .before .match .keys2) (c .extraction .ensures)
 
 around-value-requires : tie.Need-around-value-requires
 around-value-requires c κs =
@@ -35,7 +39,9 @@ around-value-requires c κs =
     (place .1, to-three _ _ _ (place .1) _ (c .before .kind .ensures) (c .match .rest .0 .1) (c .match .rest .1))
 
 returns-4 : tie.Need-returns-4
-returns-4 c = piece-3 _ _ _ _ _ _ _ (c .before .before .before .before .candidates .ensures) (c .before .before .before .if1 .left) _ (c .before .before .kind .ensures) _ (c .before .match .rest .0 .1) (c .before .match .rest .1) (c .around-value .ensures)
+returns-4 c =
+    piece-3 _ _ _ _ _ _ _ (c .before .before .before .before .candidates .ensures) (c .before .before .before .if1 .left) _
+    (c .before .before .kind .ensures) _ (c .before .match .rest .0 .1) (c .before .match .rest .1) (c .around-value .ensures)
 
 pub piece-spec : {M : Type 1} → statement M
 piece-spec =

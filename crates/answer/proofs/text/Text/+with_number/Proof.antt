@@ -93,7 +93,8 @@ with-number-returns-2 : (t : ℕ) → with-number-lts.Need-returns-2 (
   with-number.Post,
 ) (with-number-at t) with-number.Post
 with-number-returns-2 t c =
-    adds-digits _ _ _ _ _ (c .before .before .before .if1 .left) (c .before .digit2 .ensures) (c .before .before .with-number .ensures) (c .with-byte2 .ensures)
+    adds-digits _ _ _ _ _ (c .before .before .before .if1 .left) (c .before .digit2 .ensures) (c .before .before .with-number .ensures)
+    (c .with-byte2 .ensures)
 
 pub +with-number-spec : {M : Type 1} → statement M
 +with-number-spec = close μ-with-number λ t. with-number-lts.spec (

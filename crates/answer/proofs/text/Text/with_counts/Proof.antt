@@ -38,9 +38,13 @@ with-byte-requires c κs = search needs
 returns : tie.Need-returns
 unfolding countsLine ascii
 returns c =
-    let steps = adds-both _ _ _ _ _ (c .before .before .before .before .before .with-word .ensures) (c .before .before .before .before .with-number .ensures) in
-    let checks = adds-both _ _ _ _ _ (adds-both _ _ _ _ _ steps (c .before .before .with-word2 .ensures)) (c .before .with-number2 .ensures) in
-    (adds-both _ _ _ _ _ checks (c .with-byte .ensures), counts-short _ _ (omega (arith, c .before .before .before .before .before .before .before .fits .steps .fits)) (omega (arith, c .before .before .before .before .before .before .before .fits .checks .fits)))
+    let steps = adds-both _ _ _ _ _ (c .before .before .before .before .before .with-word .ensures)
+    (c .before .before .before .before .with-number .ensures) in
+    let checks = adds-both _ _ _ _ _ (adds-both _ _ _ _ _ steps (c .before .before .with-word2 .ensures)) (c .before .with-number2 .ensures) in (
+      adds-both _ _ _ _ _ checks (c .with-byte .ensures),
+      counts-short _ _ (omega (arith, c .before .before .before .before .before .before .before .fits .steps .fits))
+          (omega (arith, c .before .before .before .before .before .before .before .fits .checks .fits)),
+    )
 
 pub with-counts-spec : {M : Type 1} → statement M
 with-counts-spec =

@@ -28,8 +28,10 @@ with-byte-requires c κs = search needs
 
 returns : tie.Need-returns
 unfolding refusedLine ascii
-returns c =
-    (adds-both _ _ _ _ _ (c .before .before .with-word .ensures) (adds-both _ _ _ _ _ (c .before .with-number .ensures) (c .with-byte .ensures)), refused-short _ (omega (arith, c .before .before .before .before .fits .refusal .fits)))
+returns c = (
+  adds-both _ _ _ _ _ (c .before .before .with-word .ensures) (adds-both _ _ _ _ _ (c .before .with-number .ensures) (c .with-byte .ensures)),
+  refused-short _ (omega (arith, c .before .before .before .before .fits .refusal .fits)),
+)
 
 pub with-refusal-spec : {M : Type 1} → statement M
 with-refusal-spec =

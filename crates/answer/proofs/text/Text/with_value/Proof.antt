@@ -32,7 +32,8 @@ returns : tie.Need-returns
 unfolding planLine ascii
 returns c =
     let value = adds-same _ _ _ _ (ap decimal (c .before .before .lowest .ensures)) (c .before .with-number2 .ensures) in
-    let both = adds-both _ _ _ _ _ (adds-both _ _ _ _ _ (c .before .before .before .before .with-number .ensures) (c .before .before .before .with-byte .ensures)) value in
+    let both = adds-both _ _ _ _ _
+    (adds-both _ _ _ _ _ (c .before .before .before .before .with-number .ensures) (c .before .before .before .with-byte .ensures)) value in
     adds-both _ _ _ _ _ both (c .with-byte2 .ensures)
 
 pub with-value-spec : {M : Type 1} → statement M

@@ -35,7 +35,8 @@ loop-less : tie.Need-loop-less Inv-loop μ-loop
 loop-less c = search needs
 
 loop-again : tie.Need-loop-again Inv-loop μ-loop
-loop-again c = (omega arith, adds-next _ _ _ _ _ _ (c .before .before .loop-test .taken) refl (c .before .before .before .loop .inv .1) (c .with-byte .ensures))
+loop-again c =
+    (omega arith, adds-next _ _ _ _ _ _ (c .before .before .loop-test .taken) refl (c .before .before .before .loop .inv .1) (c .with-byte .ensures))
 
 returns : tie.Need-returns Inv-loop μ-loop
 returns c = let inv = c .before .loop .inv in

@@ -29,7 +29,9 @@ element-copy-out-self : tie.Need-element-copy-out-self Inv-loop μ-loop
 element-copy-out-self c = search needs
 
 allowed-requires : tie.Need-allowed-requires Inv-loop μ-loop
-allowed-requires c κs = let k = c .before .before .before .before .pre in (k .0 .fit, record { first = k .0 .a-variable; second = omega arith; third = k .0 .a-value })
+allowed-requires c κs =
+    let k = c .before .before .before .before .pre in
+    (k .0 .fit, record { first = k .0 .a-variable; second = omega arith; third = k .0 .a-value })
 
 element-write-self : tie.Need-element-write-self Inv-loop μ-loop
 element-write-self c = search needs
@@ -41,7 +43,12 @@ loop-less : tie.Need-loop-less Inv-loop μ-loop
 loop-less c = search needs
 
 loop-again : tie.Need-loop-again Inv-loop μ-loop
-loop-again c = let inv = c .before .before .loop .inv .1 in (omega arith, ⊎-elim (λ w. w .3 ∙ beside-next _ _ _ _ _ _ _ inv (w .0 .taken) (w .1 .ensures)) (λ w. w .1 ∙ beside-skip _ _ _ _ _ _ inv (w .0 .left)) (c .if1 .came))
+loop-again c =
+    let inv = c .before .before .loop .inv .1 in (
+      omega arith,
+      ⊎-elim (λ w. w .3 ∙ beside-next _ _ _ _ _ _ _ inv (w .0 .taken) (w .1 .ensures)) (λ w. w .1 ∙ beside-skip _ _ _ _ _ _ inv (w .0 .left))
+          (c .if1 .came),
+    )
 
 returns : tie.Need-returns Inv-loop μ-loop
 returns c = let end : c .before .loop .i ≡ c .before .before .before .args .j = omega arith in rw (← end) (c .before .loop .inv .1)

@@ -20,7 +20,9 @@ unfolding bit
 returns c = refl
 
 returns-2 : tie.Need-returns-2
-returns-2 c = let h : Fits w32 (c .before .args .self .marked) = search needs in simp (bit-above 32 (c .before .args .self .marked) (c .before .args .variable) (h .fits) (c .if1 .left))
+returns-2 c =
+    let h : Fits w32 (c .before .args .self .marked) = search needs in
+    simp (bit-above 32 (c .before .args .self .marked) (c .before .args .variable) (h .fits) (c .if1 .left))
 
 pub is-instantiated-spec : {M : Type 1} → statement M
 is-instantiated-spec = tie.close (tie.spec cast-result shr-result returns returns-2)

@@ -18,7 +18,9 @@ instantiate-requires : tie.Need-instantiate-requires
 instantiate-requires c κs = search needs
 
 returns : tie.Need-returns
-returns c = precluded-made _ _ _ _ _ _ _ _ (sym (c .before .before .before .within .ensures) ∙ c .before .before .if1 .taken) (c .before .cut-beside .ensures) (c .instantiate .ensures)
+returns c =
+    precluded-made _ _ _ _ _ _ _ _ (sym (c .before .before .before .within .ensures) ∙ c .before .before .if1 .taken) (c .before .cut-beside .ensures)
+    (c .instantiate .ensures)
 
 returns-2 : tie.Need-returns-2
 returns-2 c = simp (sym (c .before .within .ensures) ∙ c .if1 .left)

@@ -18,7 +18,9 @@ element-write-self : tie.Need-element-write-self
 element-write-self c = search needs
 
 returns : tie.Need-returns
-returns c = let h : Fits w16 (getD (c .before .before .args .t1 .domains) (c .before .before .args .variable) 0) = search needs in without-in _ _ _ (h .fits) (c .before .before .fits .mask .fits)
+returns c =
+    let h : Fits w16 (getD (c .before .before .args .t1 .domains) (c .before .before .args .variable) 0) = search needs in
+    without-in _ _ _ (h .fits) (c .before .before .fits .mask .fits)
 
 returns-2 : tie.Need-returns-2
 returns-2 c = without-out _ _ _ (search needs) (c .if1 .left)
