@@ -20,7 +20,7 @@ use Rattle.splits.specs.Problem.{total}
 use Rattle.splits.specs.Subproblems.{domain, some}
 use Rattle.splits.specs.Checks.{valuesIn, others}
 use Rattle.splits.specs.declared.subproblem.Subproblem.{Subproblem}
-use Rattle.splits.proofs.Masks.{bit-le, bit-or, bit-single-same, member-some, size-of-none}
+use Rattle.splits.proofs.Masks.{bit-le, bit-or, bit-single-same, member-some, size-of-none, bit-outside}
 use Rattle.splits.proofs.Loops.{changed-more, changed-next}
 use Rattle.search.specs.Promises.{Fewest}
 use Rattle.search.specs.Work.Kept.{Regular}
@@ -129,14 +129,8 @@ module _ (n d : ℕ) (P : Subproblem) (few : n ≤ 32) (small : d ≤ 16) (reg :
     own-key : keyOf (domain P V′) set V′ ≡ size (domain P V′) * 32 + V′
     unfolding keyOf
     own-key =
-        let free : bit set V′ ≡ 0 = marks V′ (its .variable) ∙ not-one (bit (P .marked) V′) (bit-le (P .marked) V′) (its .uninstantiated) in
+        let free : bit set V′ ≡ 0 = marks V′ (its .variable) ∙ bit-outside (P .marked) V′ (its .uninstantiated) in
         rw free (omega arith)
-      where
-        not-one : (b : ℕ) → b ≤ 1 → (b ≡ 1 → ⊥) → b ≡ 0
-        not-one b h q = elim (ℕ-discrete b 1) [
-          | yes e ↦ absurd (q e)
-          | no e ↦ omega arith
-        ]
 
     below-own : (j : ℕ) → j < 32 → k ≡ keyOf (domain P j) set j → size (domain P V′) * 32 + V′ ≤ k
     unfolding keyOf

@@ -17,7 +17,7 @@ use Rattle.splits.specs.Masks.{bit, _∈_, Part, minus, size, lowest}
 use Rattle.splits.specs.Problem.{Problem, Proper}
 use Rattle.splits.specs.Subproblems.{domain, Instantiated, Rules, every}
 use Rattle.splits.specs.declared.subproblem.Subproblem.{Subproblem}
-use Rattle.splits.proofs.Masks.{bit-suc, bit-le, bit-above, bit-lt, some-member, minus-part-of, part-minus, part-lt, lowest-member, one-value}
+use Rattle.splits.proofs.Masks.{bit-suc, bit-le, bit-above, bit-lt, some-member, minus-part-of, part-minus, part-lt, lowest-member, one-value, bit-outside}
 use Rattle.splits.proofs.Tests.{true-false, and-left, and-right, or-cases, every-at, every-all}
 use Rattle.search.specs.Agenda.{stackOf, slotsIn}
 use Rattle.search.specs.FirstChecks.{Deserves-1, Deserves-2, WholeSlots, WholeRequests, Deserves-3, Over, Deserves-4, Deserves-5, Deserves-6, wholeSlots, masksBelow, symmetric, domainObeys, valuesAgree, obeys, allObey, zerosFrom}
@@ -282,12 +282,9 @@ obeys-of p P proper r =
     let values = every-all (λ i. every (p .n) (valuesAgree p P i)) (p .n) (λ i h. every-all (valuesAgree p P i) (p .n) (λ j k.
     agrees p P i j (λ f m l. r .mutual-values i j (lowest (domain P i)) (lowest (domain P j)) h k f m l
     (lowest-of p P i proper h (sound i h)) (lowest-of p P j proper k (sound j k))))) in
-    let marks : P .marked < 2 ^ p .n = bit-lt (p .n) (P .marked) (λ v h. none (bit (P .marked) v) (bit-le (P .marked) v) (r .marks v h)) in
+    let marks : P .marked < 2 ^ p .n = bit-lt (p .n) (P .marked) (λ v h. bit-outside (P .marked) v (r .marks v h)) in
     simp (domains, values, lt-ltb (P .marked) (2 ^ p .n) marks)
   where
-    none : (b : ℕ) → b ≤ 1 → (b ≡ 1 → ⊥) → b ≡ 0
-    none b h f = omega arith
-
     agrees : (p : Problem) (P : Subproblem) (i j : ℕ)
         → ((i ≡ j → ⊥) → Instantiated P i → Instantiated P j → lowest (domain P j) ∈ p .allowed i j (lowest (domain P i)))
         → valuesAgree p P i j ≡ true
@@ -296,9 +293,9 @@ obeys-of p P proper r =
         elim (ℕ-discrete i j) [
           | yes e ↦ simp (eq-eqb i j e)
           | no x ↦ elim (ℕ-discrete (bit (P .marked) i) 1) [
-            | no y ↦ simp (eq-eqb (bit (P .marked) i) 0 (none (bit (P .marked) i) (bit-le (P .marked) i) y), or-true)
+            | no y ↦ simp (eq-eqb (bit (P .marked) i) 0 (bit-outside (P .marked) i y), or-true)
             | yes m ↦ elim (ℕ-discrete (bit (P .marked) j) 1) [
-              | no y ↦ simp (eq-eqb (bit (P .marked) j) 0 (none (bit (P .marked) j) (bit-le (P .marked) j) y), or-true)
+              | no y ↦ simp (eq-eqb (bit (P .marked) j) 0 (bit-outside (P .marked) j y), or-true)
               | yes l ↦ simp (eq-eqb at 1 (f x m l), or-true)
             ]
           ]

@@ -3,18 +3,19 @@
 use mathlib.Core.Path.{_≡_, refl, sym, _∙_}
 use mathlib.Core.Logic.{inl, inr, ⊎-elim, _↔_}
 use mathlib.Core.Bool.{Bool, true, false, cond, _&&_, _||_}
-use mathlib.Core.List.{List}
-use Prim.Native.Nat.{ℕ, _+_, _*_, _%_}
+use mathlib.Core.List.{List, List·Memᴰ}
+use Prim.Native.Nat.{ℕ, _+_, _*_, _%_, _≤_, _<_}
 use native.Mathlib.Omega.{arith}
 use native.Mathlib.Decide.{ℕ-discrete}
 use lib.ListN.{length, getD}
 use lib.Dec.{eqb, leb, ltb}
 use borrow.Author.Tests.{eqb-true, leb-true}
 use Rattle.splits.specs.Problem.{Problem, Proper}
+use Rattle.splits.specs.Subproblems.{Rules}
+use Rattle.splits.specs.declared.subproblem.Subproblem.{Subproblem}
 use Rattle.splits.proofs.Tests.{and-left, and-right}
 use Rattle.search.specs.Agenda.{problemOf, stackOf, slotsIn}
-use Rattle.search.specs.FirstChecks.{Deserves-1, Deserves-2, WholeRequests, Deserves-3, Deserves-3-run, Deserves-4, Deserves-5, Deserves-6, refusalOfNumbers, wholeSlots, refusalOfLengths, refusalOfRequests, masksBelow, symmetric, refusalOfProblem, allObey, zerosFrom, refusalOfSearch, openRefusal, searchRefusal, runRefusal}
-use Rattle.search.specs.Promises.{Passed, PassedSearch}
+use Rattle.search.specs.FirstChecks.{Deserves-1, Deserves-2, WholeSlots, WholeRequests, Deserves-3, Deserves-3-run, Deserves-4, Deserves-5, Deserves-6, refusalOfNumbers, wholeSlots, refusalOfLengths, refusalOfRequests, masksBelow, symmetric, refusalOfProblem, allObey, zerosFrom, refusalOfSearch, openRefusal, searchRefusal, runRefusal}
 use Rattle.search.proofs.Decisions.{Decides, Refutes}
 use Rattle.search.proofs.FirstParts.{given-not}
 use Rattle.search.proofs.Deserved.{decides-1, decides-2, slots-true, refutes-3, requests-true, refutes-requests, over-not, refutes-4, refutes-5, refutes-6, all-rules}
@@ -90,6 +91,22 @@ proper-is-passed p e h =
     proper-where p (f .0) (f .1) (g .0) (g .1)
 
 -- ---- what passes
+
+-- Numbers, lengths and words that document 01 allows: a proper problem in n and n × n × d words, and 1 to 512 whole slots.
+pub record Passed (n d : ℕ) (domains tables agenda : List ℕ) : Type 0 where
+  pub proper : Proper (problemOf n d domains tables)
+  pub domains-words : length domains ≡ n
+  pub tables-words : length tables ≡ n * n * d
+  pub slots : WholeSlots n (length agenda)
+
+-- A search that document 01 allows: every subproblem obeys the rules, there are at most as many as slots, unused slots hold zeros, and
+-- the checks are at most 496 × steps.
+pub record PassedSearch (n d : ℕ) (domains tables agenda : List ℕ) (steps checks subproblems : ℕ) : Type 0 where
+  pub passed : Passed n d domains tables agenda
+  pub rules : (P : Subproblem) → List·Memᴰ P (stackOf n agenda subproblems) → Rules (problemOf n d domains tables) P
+  pub room : subproblems ≤ slotsIn n (length agenda)
+  pub zeros : (k : ℕ) → subproblems * (n + 2) ≤ k → k < length agenda → getD agenda k 0 ≡ 0
+  pub limit : checks ≤ 496 * steps
 
 module _ (n d : ℕ) (domains tables agenda : List ℕ) where
   -- the problem that the words say

@@ -13,7 +13,7 @@ use lib.Seq.{getD-append-add, length-take-le}
 use lib.Pow.{pow-mono, pow-pos}
 use lib.Dec.{eqb}
 use borrow.Author.Tests.{eq-eqb, ne-eqb}
-use Rattle.splits.specs.Problem.{Problem, Proper, tableOf}
+use Rattle.splits.specs.Problem.{Problem, tableOf}
 use Rattle.splits.specs.Subproblems.{some}
 use Rattle.splits.specs.Splits.{pieces}
 use Rattle.splits.specs.declared.subproblem.Subproblem.{Subproblem}
@@ -26,9 +26,9 @@ use Rattle.search.specs.FirstChecks.{openRefusal, WholeSlots, WholeReque
 use Rattle.search.specs.Calls.{searchOf, opening, Opens, Ends, Runs, Chooses}
 use Rattle.search.specs.declared.state.Ran.{Ran}
 use Rattle.search.specs.declared.state.Opened.{Opened}
-use Rattle.search.specs.Promises.{Passed, PassedSearch, Passes, Handed, Leaves, Verdict-says, Called, Reached, picks}
+use Rattle.search.specs.Promises.{Passes, Handed, Leaves, Verdict-says, Reached, picks}
 use Rattle.search.specs.declared.state.State.{State}
-use Rattle.search.proofs.FirstPassing.{requests-none, open-is-passed, search-is-passed, run-is-passed}
+use Rattle.search.proofs.FirstPassing.{Passed, PassedSearch, requests-none, open-is-passed, search-is-passed, run-is-passed}
 use Rattle.search.proofs.Admitting.{search-ready}
 use Rattle.search.proofs.Picking.{picked}
 use Rattle.search.proofs.Reaching.{reached-holds}
@@ -333,29 +333,9 @@ open-leaves-so n d domains tables before after r opens none =
     (opening-shaped n d domains (passed .proper .variables) (passed .domains-words) (passed .proper .domains))
     (rw test at (opens .agenda)) (opens .steps) (opens .checks) (rw test at (opens .subproblems))
 
--- ---- any number of calls
-
 -- whether so many words are whole requests can be told
 pub whole-requests : (n words : ℕ) → Dec (WholeRequests n words)
 whole-requests n words = elim (ℕ-discrete (refusalOfRequests n words) 0) [
   | yes e ↦ yes (requests-none n words .0 e)
   | no f ↦ no (λ w. f (requests-none n words .1 w))
 ]
-
-pub called-so : (n d : ℕ) (domains tables agenda : List ℕ) (s : State) → Called n d domains tables agenda s
-    → Handed n d domains tables agenda s × Proper (problemOf n d domains tables) × Reached n d domains tables (slotsIn n (length agenda)) (searchOf n agenda s)
-called-so n d domains tables agenda s (Called.opened {before} {after} {r} opens none) =
-    let l = open-leaves-so n d domains tables before after r opens none in
-    let passed = known n d domains tables after (r .state) (l .handed) .passed .passed in
-    (l .handed, passed .proper, rw (l .search) (Reached.opened (some-slots n (length after) (passed .slots))))
-called-so n d domains tables agenda s (Called.ran {before} {after} {s = s₀} {r} called requests runs) =
-    let (handed, proper, reached) = called-so n d domains tables before s₀ called in
-    let both = run-leaves-so n d domains tables before after requests s₀ r handed runs in
-    elim (whole-requests n (length requests)) [
-      | yes w ↦ let l = both .0 w in (l .handed, proper, rw (l .search, l .length-kept) (Reached.ran reached (requestsIn n requests)))
-      | no w ↦ let l = both .1 w in (l .handed, proper, rw (l .search, l .length-kept) reached)
-    ]
-called-so n d domains tables agenda s (Called.chose {before} {after} {s = s₀} {r} called limit chooses) =
-    let (handed, proper, reached) = called-so n d domains tables before s₀ called in
-    let l = chooser-leaves-so n d domains tables before after limit s₀ r handed chooses in
-    (l .handed, proper, rw (l .search, l .length-kept) (Reached.chose reached limit))

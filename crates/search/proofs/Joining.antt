@@ -22,7 +22,7 @@ use Rattle.splits.specs.Subproblems.{every}
 use Rattle.splits.specs.Ranges.{Sized}
 use Rattle.splits.proofs.Ranges.{word-at}
 use Rattle.splits.proofs.Masks.{bit-or, bit-above, bit-lt}
-use Rattle.splits.proofs.Tests.{and-left, and-right, or-cases, every-at, every-all, same-test}
+use Rattle.splits.proofs.Tests.{and-left, and-right, or-cases, every-at, every-all, same-test, and-both}
 use Rattle.splits.proofs.Refusals.{every-same}
 use Rattle.search.specs.FirstChecks.{zerosFrom}
 use Rattle.search.specs.Work.Matrices.{rowIn}
@@ -193,7 +193,7 @@ row-spans n d allowed i h =
             )
       ]
     ]))
-    (λ e. both (every (i - 0) before) (every (n - (i + 1)) after)
+    (λ e. and-both (every (i - 0) before) (every (n - (i + 1)) after)
     (every-all before (i - 0) (λ k l. other e (0 + k) (omega arith) (λ s. absurd (omega arith))))
     (every-all after (n - (i + 1)) (λ k l. other e (i + 1 + k) (omega arith) (λ s. absurd (omega arith)))))
   where
@@ -208,9 +208,6 @@ row-spans n d allowed i h =
 
     at : (j : ℕ) {k : ℕ} → row k ≡ true → k ≡ j → row j ≡ true
     at j e s = rw s at e
-
-    both : (a b : Bool) → a ≡ true → b ≡ true → (a && b) ≡ true
-    both a b p q = rw p q
 
     other : every n (pairBelow d allowed i) ≡ true → (j : ℕ) → j < n → (i ≡ j → ⊥) → row j ≡ true
     other e j l f = ⊎-elim (λ s. absurd (f (eqb-true i j s))) (λ s. s) (or-cases (eqb i j) (row j) (every-at (pairBelow d allowed i) n j l e))

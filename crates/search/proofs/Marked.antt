@@ -21,7 +21,7 @@ use Rattle.splits.specs.Subproblems.{domain, every}
 use Rattle.splits.specs.declared.subproblem.Subproblem.{Subproblem}
 use Rattle.splits.proofs.Masks.{bit-le, bit-above, not-minus, none-minus, minus-self, minus-part-of, part-antisym, part-single, part-minus, single-of, size-single, lowest-member, trailing-least, trailing-member}
 use Rattle.splits.proofs.Subproblems.{shifted}
-use Rattle.splits.proofs.Tests.{and-left, and-right, every-at, every-all, same-test}
+use Rattle.splits.proofs.Tests.{and-left, and-right, every-at, every-all, same-test, and-both}
 use Rattle.search.specs.Agenda.{problemOf, holding, subproblemOf}
 use Rattle.search.specs.FirstChecks.{masksBelow, symmetric, refusalOfProblem, domainObeys, valuesAgree, obeys}
 use Rattle.search.specs.Work.FirstTests.{SlotFits, Next, joined, partWrong, wrongIn, heldAt, besideAt, Held, missingIn, markObeys}
@@ -304,9 +304,9 @@ module _ (n d : ℕ) (domains tables slot : List ℕ) (words : length domains �
     unfolding markObeys valuesAgree pairAgrees wrongIn heldAt besideAt
     slot-all =
         same-test (every n marks) (every n whole && every n rows)
-        (λ x. both (every n whole) (every n rows)
+        (λ x. and-both (every n whole) (every n rows)
         (every-all whole n
-        (λ i l. slot-parts i l ∙ both (eqb (wrongIn domains slot i) 0) (sized i) (every-at (λ k. eqb (wrongIn domains slot k) 0) n i l none)
+        (λ i l. slot-parts i l ∙ and-both (eqb (wrongIn domains slot i) 0) (sized i) (every-at (λ k. eqb (wrongIn domains slot k) 0) n i l none)
         (is-sized i l (every-at marks n i l x))))
         (every-all rows n (λ i l. every-all (pairs i) n (λ j k. pair-of i j l k (every-at marks n i l x)))))
         (λ x. every-all marks n (λ i l. mark-of i l
@@ -331,9 +331,6 @@ module _ (n d : ℕ) (domains tables slot : List ℕ) (words : length domains �
 
         sized : ℕ → Bool
         sized i = eqb (bit (P .marked) i) 0 || eqb (size (domain P i)) 1
-
-        both : (a b : Bool) → a ≡ true → b ≡ true → (a && b) ≡ true
-        both a b p q = rw p q
 
         -- what an instantiated variable and every other beside it hold
         beside-all : (i : ℕ) → bit (P .marked) i ≡ 1 → markObeys n t P i ≡ true → (j : ℕ) → j < n

@@ -11,7 +11,7 @@ use native.Mathlib.Decide.{decLt}
 use lib.ListN.{length, length-append}
 use lib.Dec.{eqb, ltb}
 use borrow.Author.Tests.{eq-eqb, ne-eqb, lt-ltb, le-ltb, eqb-true, eqb-false, ltb-true, ltb-false}
-use Rattle.splits.specs.Masks.{bit, _∈_, size, lowest}
+use Rattle.splits.specs.Masks.{bit, _∈_, size, lowest, LowestIn}
 use Rattle.splits.specs.Problem.{Problem}
 use Rattle.splits.specs.Subproblems.{domain, Instantiated, allInstantiated, empty}
 use Rattle.splits.specs.Requests.{kindOf, variableOf, valueOf}
@@ -26,7 +26,7 @@ use Rattle.splits.proofs.Splitting.{lowest-in, domain-lt}
 use Rattle.search.specs.Verdicts.{finished}
 use Rattle.search.specs.Runs.{Search, Stopped, splitTop, step, refusalOfRequest, runFrom}
 use Rattle.search.specs.Chooser.{fewestOf, fewest, request, chosen, chooseFrom}
-use Rattle.search.specs.Promises.{Passes, Fewest, Lowest, Chosen, picks}
+use Rattle.search.specs.Promises.{Passes, Fewest, Chosen, picks}
 use Rattle.search.proofs.Verdicts.{running-top, finished-top, instantiated-all}
 use Rattle.search.proofs.Refusals.{only-11-12}
 use Rattle.search.proofs.Passing.{top-held, step-passes}
@@ -236,7 +236,7 @@ module _ (p : Problem) (room : ℕ) (P : Subproblem) (S : List Subproblem) (held
   unfolding V₁
   few = fewest-is (p .n) P running
 
-  low : Lowest (domain P V₁) (lowest (domain P V₁))
+  low : LowestIn (domain P V₁) (lowest (domain P V₁))
   low = record {
     member = lowest-in held V₁ (few .variable);
     least = λ u. lowest-least (domain P V₁) u (domain-lt held V₁ (few .variable));

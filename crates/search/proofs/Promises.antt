@@ -13,7 +13,7 @@ use Rattle.search.specs.Calls.{Ends}
 use Rattle.search.specs.declared.state.State.{State}
 use Rattle.search.specs.declared.state.Ran.{Ran}
 use Rattle.search.specs.Cases.{cases}
-use Rattle.search.specs.Promises.{Open-one, Run-one, Choose-one, Unsolvable-if, Solved-if, Running-if, Solved-shows, Refusal-11, Refusal-7, Refusal-8, Refusal-9, Refusal-10, Refusal-12, Refusal-none, Stops, Taken, Takes-none, Two-lists, Choose-two, Picks, Chosen-so, Chosen-accepted, Chooser-refusals, Step-passes, Run-passes, Chooser-passes, Reached-passes, Reached-checks, Reached-solvable, Reached-unsolvable, Reached-steps, Open-leaves, Run-leaves, Chooser-leaves, Handed-passes, Run-says, Chooser-says, Called-reached, Ends-so, Marked-cases, None-if-run, None-if-choose, Run-exact, Choose-exact, Right-only, Not-only-refuses, Not-always-unsolvable, Not-idle, Not-solved-at-once, Not-invented, Open-refusal-1, Open-refusal-2, Open-refusal-3, Open-refusal-4, Open-refusal-5, Open-refusal-none, Search-refusal-1, Search-refusal-2, Search-refusal-3, Search-refusal-4, Search-refusal-5, Search-refusal-6, Search-refusal-none, Run-refusal-1, Run-refusal-2, Run-refusal-3, Run-refusal-4, Run-refusal-5, Run-refusal-6, Run-refusal-none, Numbers-pass, Lengths-pass, Requests-pass, Problem-pass, Search-pass, Proper-passed, Open-passed, Search-passed, Run-passed, Open-apart, Search-apart, Run-apart, Sizes-refusal-one, Open-refusal-one, Search-refusal-one, Run-refusal-one, Turned-one}
+use Rattle.search.specs.Promises.{Open-one, Run-one, Choose-one, Unsolvable-if, Solved-if, Running-if, Solved-shows, Refusal-11, Refusal-7, Refusal-8, Refusal-9, Refusal-10, Refusal-12, Refusal-none, Stops, Taken, Steps-count, Takes-none, Two-lists, Choose-two, Picks, Chosen-so, Chosen-accepted, Chooser-refusals, Step-passes, Run-passes, Chooser-passes, Reached-passes, Reached-checks, Reached-solvable, Reached-unsolvable, Reached-steps, Open-leaves, Run-leaves, Chooser-leaves, Handed-passes, Run-says, Chooser-says, Ends-so, Marked-cases, None-if-run, None-if-choose, Run-exact, Choose-exact, Right-only, Not-only-refuses, Not-always-unsolvable, Not-idle, Not-solved-at-once, Not-invented, Open-refusal-1, Open-refusal-2, Open-refusal-3, Open-refusal-4, Open-refusal-5, Open-refusal-none, Search-refusal-1, Search-refusal-2, Search-refusal-3, Search-refusal-4, Search-refusal-5, Search-refusal-6, Search-refusal-none, Run-refusal-1, Run-refusal-2, Run-refusal-3, Run-refusal-4, Run-refusal-5, Run-refusal-6, Run-refusal-none, Numbers-pass, Lengths-pass, Requests-pass, Problem-pass, Search-pass, Open-apart, Search-apart, Run-apart, Sizes-refusal-one, Open-refusal-one, Search-refusal-one, Run-refusal-one, Turned-one}
 use Rattle.splits.proofs.Refusals.{one}
 use Rattle.search.proofs.Verdicts
 use Rattle.search.proofs.Refusals
@@ -27,7 +27,7 @@ use Rattle.search.proofs.HandedOn
 use Rattle.search.proofs.Exactly
 use Rattle.search.proofs.Turning
 use Rattle.search.proofs.FirstOrder.{is-0, is-1, is-2, is-3, is-4, is-5, is-6, open-ordered, search-ordered, run-ordered}
-use Rattle.search.proofs.FirstPassing.{numbers-none, lengths-none, requests-none, problem-none, search-none, proper-is-passed, open-is-passed, search-is-passed, run-is-passed}
+use Rattle.search.proofs.FirstPassing.{numbers-none, lengths-none, requests-none, problem-none, search-none}
 use Rattle.search.proofs.Apart.{apart-open, apart-search, apart-run}
 
 pub unsolvable-if : Unsolvable-if
@@ -80,6 +80,9 @@ stops = Runs.stops
 
 pub taken : Taken
 taken = Runs.taken-alone
+
+pub steps-count : Steps-count
+steps-count = Runs.run-steps
 
 pub takes-none : Takes-none
 takes-none p room rs s h = Runs.run-finished p room rs s (Verdicts.not-running (p .n) (s .stack) (λ e. h (ap numberOf e)))
@@ -166,9 +169,6 @@ run-exact = Exactly.run-exact
 
 pub choose-exact : Choose-exact
 choose-exact = Exactly.choose-exact
-
-pub called-reached : Called-reached
-called-reached = HandedOn.called-so
 
 pub marked-cases : Marked-cases
 marked-cases = Cases.each Ends-so cases Cases.computed
@@ -274,7 +274,7 @@ pub run-refusal-none : Run-refusal-none
 run-refusal-none n d domains tables agenda requests steps checks subproblems =
     is-0 _ _ _ _ _ _ _ (run-ordered n d domains tables agenda steps checks subproblems requests)
 
--- ---- each part, and what passing gives
+-- ---- each part
 
 pub numbers-pass : Numbers-pass
 numbers-pass = numbers-none
@@ -290,18 +290,6 @@ problem-pass = problem-none
 
 pub search-pass : Search-pass
 search-pass = search-none
-
-pub proper-passed : Proper-passed
-proper-passed n d domains tables = proper-is-passed (problemOf n d domains tables)
-
-pub open-passed : Open-passed
-open-passed = open-is-passed
-
-pub search-passed : Search-passed
-search-passed = search-is-passed
-
-pub run-passed : Run-passed
-run-passed n d domains tables agenda requests steps checks subproblems = run-is-passed n d domains tables agenda steps checks subproblems requests
 
 -- ---- a variable with itself
 

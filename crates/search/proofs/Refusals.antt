@@ -14,8 +14,7 @@ use Rattle.splits.specs.Splits.{pieces}
 use Rattle.splits.specs.Refusals.{Deserves-7, Deserves-8, Deserves-9, Deserves-10, Accepted, refused-7, refused-8, refused-9, refused-10, refusalOf}
 use Rattle.splits.specs.declared.subproblem.Subproblem.{Subproblem}
 use Rattle.splits.proofs.Promises.{refusal-7, refusal-8, refusal-9, refusal-10, refusal-none}
-use Rattle.search.specs.Runs.{Search, splitTop, refusalOfTop, refusalOfRequest}
-use Rattle.search.specs.Promises.{Deserves-11, Deserves-12}
+use Rattle.search.specs.Runs.{Search, splitTop, refusalOfTop, refusalOfRequest, Deserves-11, Deserves-12}
 
 -- The splits refuse by 7 to 10.
 few : (n d : ℕ) (P : Subproblem) (r : List ℕ) → refusalOf n d P r ≤ 10

@@ -135,3 +135,10 @@ module _ (p : Problem) (room : ℕ) where
       (λ r rs s x e h same.
       rw one-add (run-taken r (take (x .taken) rs) s e h ∙ ap (after 1) same
       ∙ (λ i. record { search = x .search; refusal = 0; taken = one-add (x .taken) i })))
+
+  -- Each request taken is one step.
+  pub run-steps : (rs : List (List ℕ)) (s : Search) → run p room rs s .search .steps ≡ s .steps + run p room rs s .taken
+  unfolding step
+  run-steps =
+      run-ind (λ rs s x. x .search .steps ≡ s .steps + x .taken)
+      (λ s. omega arith) (λ r rs s e. omega arith) (λ r rs s e h. omega arith) (λ r rs s x e h same. omega (arith, same))

@@ -21,6 +21,10 @@ use Rattle.search.specs.declared.state.Verdict.the-variants.{None}
 unfoldable pub opening : ℕ → List ℕ → List Subproblem
 opening n domains = cond (some n (λ i. eqb (getD domains i 0) 0)) [] (holding n domains 0 ∷ [])
 
+-- The search that opening begins.
+abbrev pub begun : ℕ → List ℕ → Search
+begun n domains = record { stack = opening n domains; steps = 0; checks = 0 }
+
 -- Opening clears the agenda and both counts; refused, it changes nothing and returns zeros.
 pub record Opens (n d : ℕ) (domains tables before after : List ℕ) (r : Opened) : Type 0 where
   pub refusal : r .refusal ≡ openRefusal n d domains tables before

@@ -1,15 +1,13 @@
 -- Document 01's marked cases, as one list of data. specs/Promises.antt states what is proved of each.
 use mathlib.Core.Bool.{Bool, false, cond, _&&_, _||_}
 use mathlib.Core.List.{List, [], _∷_, map}
-use Prim.Native.Nat.{ℕ, _-_, _^_}
+use Prim.Native.Nat.{ℕ}
 use lib.ListN.{getD}
 use lib.Dec.{eqb}
-use Rattle.splits.specs.Masks.{single, minus}
+use Rattle.splits.specs.Masks.{allValues, allBut}
 use Rattle.splits.specs.Problem.{Problem}
 use Rattle.splits.specs.declared.subproblem.Subproblem.{Subproblem}
 use Rattle.search.specs.Agenda.{holding}
-use Rattle.search.specs.Runs.{Search}
-use Rattle.search.specs.Calls.{opening}
 
 -- The problem: n variables, d values, domains as masks, and the pairs of variables that are to be unequal. The requests. Then what they lead to: the
 -- verdict's number, the stack, top first, by masks in variable order and the instantiated set (bit i for variable i), the sizes, and both counts.
@@ -36,13 +34,10 @@ problemIn c = record {
   n = c .n;
   d = c .d;
   domain = λ i. getD (c .domains) i 0;
-  allowed = λ i j a. cond (joins (c .unequal) i j) (minus (2 ^ c .d - 1) (single a)) (2 ^ c .d - 1);
+  allowed = λ i j a. cond (joins (c .unequal) i j) (allBut (c .d) a) (allValues (c .d));
 }
 
--- The search that opening begins, and the stack that the case expects.
-abbrev pub openingOf : Case → Search
-openingOf c = record { stack = opening (c .n) (c .domains); steps = 0; checks = 0 }
-
+-- The stack that the case expects.
 abbrev pub expected : Case → List Subproblem
 expected c = map (λ (m : List ℕ × ℕ). holding (c .n) (m .0) (m .1)) (c .stack)
 

@@ -5,25 +5,25 @@ use mathlib.Core.Logic.{_⊎_, _↔_}
 use mathlib.Core.List.{List, List·Memᴰ, [], _∷_, _++_, map}
 use Prim.Native.Nat.{ℕ, zero, suc, _+_, _-_, _*_, _≤_, _<_}
 use lib.ListN.{length, getD, take, drop}
-use Rattle.splits.specs.Masks.{_∈_, single, size, lowest}
+use Rattle.splits.specs.Masks.{single, size, lowest, LowestIn}
 use Rattle.splits.specs.Problem.{Problem, Proper, Solution, possibilities}
 use Rattle.splits.specs.Subproblems.{domain, Instantiated, Rules, sizeOf}
 use Rattle.splits.specs.Requests.{kindOf, variableOf, valueOf}
-use Rattle.splits.specs.Splits.{precluded, pieces}
+use Rattle.splits.specs.Splits.{precluded}
 use Rattle.splits.specs.Checks.{checks}
 use Rattle.splits.specs.Refusals.{Deserves-7, Deserves-8, Deserves-9, Deserves-10, Accepted}
 use Rattle.splits.specs.Promises.{Solvable, AgreeApart, One}
 use Rattle.splits.specs.declared.subproblem.Subproblem.{Subproblem}
 use Rattle.search.specs.Agenda.{Words, problemOf, slotsIn, stackOf}
 use Rattle.search.specs.Verdicts.{numberOf, verdictOf}
-use Rattle.search.specs.Runs.{Search, Stopped, step, refusalOfRequest, run, requestsIn}
+use Rattle.search.specs.Runs.{Search, Stopped, step, refusalOfRequest, Deserves-11, Deserves-12, run, requestsIn}
 use Rattle.search.specs.Chooser.{request, chosen, choose}
 use Rattle.search.specs.Matrix.{Turned}
-use Rattle.search.specs.FirstChecks.{WholeRequests, searchRefusal, Deserves-1, Deserves-2, WholeSlots, Deserves-3, Deserves-3-run, Deserves-4, Deserves-5, Deserves-6, refusalOfNumbers, refusalOfLengths, refusalOfRequests, refusalOfProblem, refusalOfSearch, sizesRefusal, openRefusal, runRefusal}
-use Rattle.search.specs.Calls.{opening, searchOf, Opens, Runs, Chooses}
+use Rattle.search.specs.FirstChecks.{WholeRequests, searchRefusal, Deserves-1, Deserves-2, Deserves-3, Deserves-3-run, Deserves-4, Deserves-5, Deserves-6, refusalOfNumbers, refusalOfLengths, refusalOfRequests, refusalOfProblem, refusalOfSearch, sizesRefusal, openRefusal, runRefusal}
+use Rattle.search.specs.Calls.{begun, searchOf, Opens, Runs, Chooses}
 use Rattle.search.specs.declared.state.State.{State}
 use Rattle.search.specs.declared.state.Opened.{Opened}
-use Rattle.search.specs.Cases.{Case, problemIn, openingOf, expected, cases}
+use Rattle.search.specs.Cases.{Case, problemIn, expected, cases}
 use Rattle.search.specs.declared.state.Ran.{Ran}
 
 -- A search of p with so many slots passes what 6 asks: each subproblem obeys the rules, there are no more of them than slots, and no more than
@@ -64,14 +64,6 @@ Solved-shows =
     (p : Problem) (room : ℕ) (s : Search) → Passes p room s → numberOf (verdictOf (p .n) (s .stack)) ≡ 2 → Shown p (s .stack)
 
 -- ---- refusals of a request, in the order 11, 7, 8, 9, 10, 12
-
--- 11: steps already 4,294,967,295.
-abbrev pub Deserves-11 : Search → Type 0
-Deserves-11 s = s .steps ≡ 4294967295
-
--- 12: nonempty pieces exceed free slots with P's slot counted free. S is what lies below P.
-abbrev pub Deserves-12 : Problem → ℕ → Subproblem → List Subproblem → List ℕ → Type 0
-Deserves-12 p room P S r = room - length S < length (pieces (p .n) (p .allowed) P r)
 
 -- Of any search that has P on top, S below and no more subproblems than slots, and any request, something said of its refusal.
 abbrev pub Refuses : (Problem → ℕ → Subproblem → List Subproblem → Search → List ℕ → ℕ → Type 0) → Type 0
@@ -140,6 +132,11 @@ Taken =
     let a : Stopped = run p room rs s in
     run p room (take (a .taken) rs) s ≡ record { search = a .search; refusal = 0; taken = a .taken }
 
+-- Each request taken is one step: the counter counts what was accepted.
+abbrev pub Steps-count : Type 0
+Steps-count =
+    (p : Problem) (room : ℕ) (rs : List (List ℕ)) (s : Search) → run p room rs s .search .steps ≡ s .steps + run p room rs s .taken
+
 -- On a finished search a run takes none and returns refusal 0.
 abbrev pub Takes-none : Type 0
 Takes-none =
@@ -180,11 +177,6 @@ pub record Fewest (n : ℕ) (P : Subproblem) (V′ : ℕ) : Type 0 where
   pub fewest : (i : ℕ) → i < n → (Instantiated P i → ⊥) → size (domain P V′) ≤ size (domain P i)
   pub first : (i : ℕ) → i < V′ → (Instantiated P i → ⊥) → size (domain P V′) < size (domain P i)
 
--- v is the lowest value of a mask.
-pub record Lowest (m v : ℕ) : Type 0 where
-  pub member : v ∈ m
-  pub least : (u : ℕ) → u ∈ m → v ≤ u
-
 -- The precluded piece is empty, or kind 3 has no room.
 abbrev pub Two-only : Problem → ℕ → Subproblem → List Subproblem → ℕ → ℕ → Type 0
 Two-only p room P S V′ v =
@@ -193,7 +185,7 @@ Two-only p room P S V′ v =
 -- The request r is the one that 01 chooses for P, S being what lies below it.
 pub record Chosen (p : Problem) (room : ℕ) (P : Subproblem) (S : List Subproblem) (r : List ℕ) : Type 0 where
   pub variable : Fewest (p .n) P (variableOf r)
-  pub value : Lowest (domain P (variableOf r)) (valueOf r)
+  pub value : LowestIn (domain P (variableOf r)) (valueOf r)
   pub kind : ((kindOf r ≡ 2) × Two-only p room P S (variableOf r) (valueOf r))
       ⊎ ((kindOf r ≡ 3) × (Two-only p room P S (variableOf r) (valueOf r) → ⊥))
 
@@ -236,7 +228,7 @@ Chooser-passes = (p : Problem) (room limit : ℕ) (s : Search) → Passes p room
 -- The searches of the problem that the words say, and the slots they have: begun by opening, gone on with by any number of runs and
 -- choosers, each with any requests, and moved to any other number of slots that takes them.
 pub data Reached (n d : ℕ) (domains tables : List ℕ) : ℕ → Search → Type 0 where
-  opened : {room : ℕ} → 1 ≤ room → Reached n d domains tables room (record { stack = opening n domains; steps = 0; checks = 0 })
+  opened : {room : ℕ} → 1 ≤ room → Reached n d domains tables room (begun n domains)
   ran : {room : ℕ} {s : Search} → Reached n d domains tables room s → (rs : List (List ℕ))
       → Reached n d domains tables room (run (problemOf n d domains tables) room rs s .search)
   chose : {room : ℕ} {s : Search} → Reached n d domains tables room s → (limit : ℕ)
@@ -297,7 +289,7 @@ pub record Leaves (n d : ℕ) (domains tables before after : List ℕ) (s : Stat
 abbrev pub Open-leaves : Type 0
 Open-leaves =
     (n d : ℕ) (domains tables before after : List ℕ) (r : Opened) → Opens n d domains tables before after r → r .refusal ≡ 0
-    → Leaves n d domains tables before after (r .state) (record { stack = opening n domains; steps = 0; checks = 0 })
+    → Leaves n d domains tables before after (r .state) (begun n domains)
 
 -- A run of whole requests leaves the run's search; with a list that is not whole requests it leaves what it was handed.
 abbrev pub Run-leaves : Type 0
@@ -384,27 +376,11 @@ Choose-exact =
     Exact-refusal (searchRefusal n d domains tables before (s .counts .steps .0) (s .counts .checks .0) (s .subproblems)) limit
     (λ x. refusalOfRequest p room (chosen p room (left .stack)) left) r
 
--- The words and states that opening and any number of calls lead to, each call handed what the one before it left.
-pub data Called (n d : ℕ) (domains tables : List ℕ) : List ℕ → State → Type 0 where
-  opened : {before after : List ℕ} {r : Opened} → Opens n d domains tables before after r → r .refusal ≡ 0
-      → Called n d domains tables after (r .state)
-  ran : {before after : List ℕ} {s : State} {r : Ran} → Called n d domains tables before s → (requests : List ℕ)
-      → Runs n d domains tables before after requests s r → Called n d domains tables after (r .state)
-  chose : {before after : List ℕ} {s : State} {r : Ran} → Called n d domains tables before s → (limit : ℕ)
-      → Chooses n d domains tables before after limit s r → Called n d domains tables after (r .state)
-
--- They pass the first checks of every call (of a run, with whole requests), and hold a reached search of a proper problem.
-abbrev pub Called-reached : Type 0
-Called-reached =
-    (n d : ℕ) (domains tables agenda : List ℕ) (s : State) → Called n d domains tables agenda s
-    → Handed n d domains tables agenda s × Proper (problemOf n d domains tables)
-    × Reached n d domains tables (slotsIn n (length agenda)) (searchOf n agenda s)
-
 -- ---- the marked cases
 
 -- The requests, run from opening with 512 slots, are all taken and end as the case says.
 pub record Ends-so (c : Case) : Type 0 where
-  pub stops : run (problemIn c) 512 (c .requests) (openingOf c)
+  pub stops : run (problemIn c) 512 (c .requests) (begun (c .n) (c .domains))
       ≡ record { search = record { stack = expected c; steps = c .steps; checks = c .checks }; refusal = 0; taken = length (c .requests) }
   pub verdict : numberOf (verdictOf (c .n) (expected c)) ≡ c .verdict
   pub sizes : map (sizeOf (c .n)) (expected c) ≡ c .sizes
@@ -626,48 +602,6 @@ abbrev pub Search-pass : Type 0
 Search-pass =
     (p : Problem) (agenda : List ℕ) (steps checks subproblems : ℕ) → Proper p
     → (refusalOfSearch p agenda steps checks subproblems ≡ 0) ↔ (Deserves-6 p agenda steps checks subproblems → ⊥)
-
--- ---- what passing gives
-
--- Numbers, lengths and words that document 01 allows: a proper problem in n and n × n × d words, and 1 to 512 whole slots.
-pub record Passed (n d : ℕ) (domains tables agenda : List ℕ) : Type 0 where
-  pub proper : Proper (problemOf n d domains tables)
-  pub domains-words : length domains ≡ n
-  pub tables-words : length tables ≡ n * n * d
-  pub slots : WholeSlots n (length agenda)
-
--- A search that document 01 allows: every subproblem obeys the rules, there are at most as many as slots, unused slots hold zeros, and
--- the checks are at most 496 × steps.
-pub record PassedSearch (n d : ℕ) (domains tables agenda : List ℕ) (steps checks subproblems : ℕ) : Type 0 where
-  pub passed : Passed n d domains tables agenda
-  pub rules : (P : Subproblem) → List·Memᴰ P (stackOf n agenda subproblems) → Rules (problemOf n d domains tables) P
-  pub room : subproblems ≤ slotsIn n (length agenda)
-  pub zeros : (k : ℕ) → subproblems * (n + 2) ≤ k → k < length agenda → getD agenda k 0 ≡ 0
-  pub limit : checks ≤ 496 * steps
-
--- Numbers and a problem that pass are a proper problem.
-abbrev pub Proper-passed : Type 0
-Proper-passed =
-    (n d : ℕ) (domains tables : List ℕ) → refusalOfNumbers n d ≡ 0 → refusalOfProblem (problemOf n d domains tables) ≡ 0
-    → Proper (problemOf n d domains tables)
-
--- What passes the first checks of opening is what document 01 allows.
-abbrev pub Open-passed : Type 0
-Open-passed = (n d : ℕ) (domains tables agenda : List ℕ) → (openRefusal n d domains tables agenda ≡ 0) ↔ Passed n d domains tables agenda
-
--- What passes those of the chooser and save.
-abbrev pub Search-passed : Type 0
-Search-passed =
-    (n d : ℕ) (domains tables agenda : List ℕ) (steps checks subproblems : ℕ)
-    → (searchRefusal n d domains tables agenda steps checks subproblems ≡ 0)
-    ↔ PassedSearch n d domains tables agenda steps checks subproblems
-
--- What passes those of a run, whose requests are whole.
-abbrev pub Run-passed : Type 0
-Run-passed =
-    (n d : ℕ) (domains tables agenda requests : List ℕ) (steps checks subproblems : ℕ)
-    → (runRefusal n d domains tables agenda requests steps checks subproblems ≡ 0)
-    ↔ (PassedSearch n d domains tables agenda steps checks subproblems × WholeRequests n (length requests))
 
 -- ---- a variable with itself
 

@@ -1,7 +1,8 @@
 -- A step and a run, on a list of subproblems with the room, the number of slots, as a parameter.
+use mathlib.Core.Path.{_≡_}
 use mathlib.Core.Bool.{cond}
 use mathlib.Core.List.{List, [], _∷_, _++_}
-use Prim.Native.Nat.{ℕ, zero, suc, _+_, _/_}
+use Prim.Native.Nat.{ℕ, zero, suc, _+_, _-_, _/_, _<_}
 use lib.ListN.{length, take, drop}
 use lib.Dec.{eqb, ltb}
 use Rattle.splits.specs.Problem.{Problem}
@@ -40,6 +41,14 @@ refusalOfTop p room r (P ∷ S) =
 -- The refusal of a request by a search that runs: 11 before these.
 unfoldable pub refusalOfRequest : Problem → ℕ → List ℕ → Search → ℕ
 refusalOfRequest p room r s = cond (eqb (s .steps) 4294967295) 11 (refusalOfTop p room r (s .stack))
+
+-- 11: steps already 4,294,967,295.
+abbrev pub Deserves-11 : Search → Type 0
+Deserves-11 s = s .steps ≡ 4294967295
+
+-- 12: nonempty pieces exceed free slots with P's slot counted free. S is what lies below P.
+abbrev pub Deserves-12 : Problem → ℕ → Subproblem → List Subproblem → List ℕ → Type 0
+Deserves-12 p room P S r = room - length S < length (pieces (p .n) (p .allowed) P r)
 
 -- Where a run stops: the search it leaves, the refusal, and the requests taken.
 pub record Stopped : Type 0 where

@@ -27,6 +27,9 @@ pub bit-le : (m v : ℕ) → bit m v ≤ 1
 unfolding bit
 bit-le m v = omega arith
 
+pub bit-outside : (m v : ℕ) → (v ∈ m → ⊥) → bit m v ≡ 0
+bit-outside m v f = omega (arith, bit-le m v)
+
 pub bit-none : (v : ℕ) → bit 0 v ≡ 0
 bit-none zero = bit-zero 0
 bit-none (suc v) = bit-suc 0 v ∙ bit-none v

@@ -94,7 +94,7 @@ pub no-constraint : No-constraint
 no-constraint p i j all a b k l = ap (λ (m : ℕ). bit m b) (all a k) ∙ all-set (p .d) b l
 
 pub lowest-value : Lowest-value
-lowest-value m h e = (lowest-member m h e, λ v. lowest-least m v h)
+lowest-value m h e = record { member = lowest-member m h e; least = λ v. lowest-least m v h }
 
 pub smaller-half-of : Smaller-half-of
 smaller-half-of m h = (half-part m h, half-size m h, λ u v. half-below m u v h)

@@ -74,11 +74,11 @@ abbrev pub Precluded : Subproblem → ℕ → ℕ → List ℕ → ℕ → ℕ �
 Precluded P n d tables variable value r =
     r ≡ cond (inside n d tables variable value) (precluded n (tableOf n d tables) P variable value) P
 
--- How many places the kind of a request has; 0 for more than 32 variables.
+-- How many candidates the kind of a request has; 0 for more than 32 variables.
 abbrev pub Candidates : ℕ → List ℕ → ℕ → Type 0
 Candidates n request r = r ≡ cond (leb n 32) (candidates n request) 0
 
--- What stands in the k-th place: a piece, or an empty subproblem. Past the last place, or where the words do not fit, the
+-- The k-th candidate: a piece, or an empty subproblem. Past the last candidate, or where the words do not fit, the
 -- subproblem comes back as it is.
 abbrev pub Piece : Subproblem → ℕ → ℕ → List ℕ → List ℕ → ℕ → Subproblem → Type 0
 Piece P n d tables request k r =

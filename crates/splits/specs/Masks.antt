@@ -1,6 +1,6 @@
 -- A mask is a set of values, a number: value v is a member where binary digit v is 1.
 use mathlib.Core.Path.{_≡_}
-use Prim.Native.Nat.{ℕ, zero, suc, _+_, _-_, _/_, _%_, _^_}
+use Prim.Native.Nat.{ℕ, zero, suc, _+_, _-_, _/_, _%_, _^_, _≤_}
 use lib.Bits.{bitAnd}
 use lib.Count.{ones, trailingZeros}
 
@@ -29,6 +29,13 @@ common a b = bitAnd a b
 unfoldable pub minus : ℕ → ℕ → ℕ
 minus a b = a - bitAnd a b
 
+-- All of d values; all but a.
+abbrev pub allValues : ℕ → ℕ
+allValues d = 2 ^ d - 1
+
+abbrev pub allBut : ℕ → ℕ → ℕ
+allBut d a = minus (allValues d) (single a)
+
 -- The size of a mask: the count of its values.
 abbrev pub size : ℕ → ℕ
 size m = ones m
@@ -36,6 +43,11 @@ size m = ones m
 -- The lowest value of a mask that is not empty; 16, the width of a mask's word, of the empty one.
 abbrev pub lowest : ℕ → ℕ
 lowest m = trailingZeros 16 m
+
+-- v is the lowest value of m.
+pub record LowestIn (m v : ℕ) : Type 0 where
+  pub member : v ∈ m
+  pub least : (u : ℕ) → u ∈ m → v ≤ u
 
 -- The k smallest values of m, as long as it has k: the lowest, then the lowest of the rest, and so on.
 unfoldable pub smallest : ℕ → ℕ → ℕ

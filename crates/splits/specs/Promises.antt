@@ -4,7 +4,7 @@ use mathlib.Core.Logic.{_⊎_, _↔_}
 use mathlib.Core.List.{List, [], _∷_, map, List·Memᴰ}
 use Prim.Native.Nat.{ℕ, _+_, _-_, _/_, _^_, _≤_, _<_}
 use lib.ListN.{length, getD}
-use Rattle.splits.specs.Masks.{_∈_, Part, single, size, lowest, smallerHalf}
+use Rattle.splits.specs.Masks.{_∈_, Part, single, size, lowest, smallerHalf, LowestIn}
 use Rattle.splits.specs.Problem.{Table, Allow-same, Problem, Proper, Possibility, tableOf}
 use Rattle.splits.specs.Subproblems.{domain, Instantiated, Rules, SolutionOf, sizeOf}
 use Rattle.splits.specs.Requests.{kindOf, variableOf, valueOf, targetOf}
@@ -109,7 +109,7 @@ No-constraint =
 
 -- The lowest value of a mask that is not empty is a member, and no member is below it.
 abbrev pub Lowest-value : Type 0
-Lowest-value = (m : ℕ) → m < 2 ^ 16 → (m ≡ 0 → ⊥) → (lowest m ∈ m) × ((v : ℕ) → v ∈ m → lowest m ≤ v)
+Lowest-value = (m : ℕ) → m < 2 ^ 16 → (m ≡ 0 → ⊥) → LowestIn m (lowest m)
 
 -- The smaller half of k values is ⌈k / 2⌉ of them, each smaller than each of the rest.
 abbrev pub Smaller-half-of : Type 0

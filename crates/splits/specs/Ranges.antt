@@ -1,4 +1,5 @@
--- What a function that reads the tables needs of its numbers: for the private functions of this layer and the next, which ask for it.
+-- What a function that reads the tables needs of its numbers: for the private functions of this layer and the next, which ask for it. What `sized`
+-- and `inside` of Calls test, as propositions.
 use mathlib.Core.Path.{_≡_}
 use mathlib.Core.List.{List}
 use Prim.Native.Nat.{ℕ, _*_, _≤_, _<_}

@@ -38,7 +38,7 @@ pub record Accepted (n d : ℕ) (P : Subproblem) (r : List ℕ) : Type 0 where
   pub not-9 : Deserves-9 d P r → ⊥
   pub not-10 : Deserves-10 n P r → ⊥
 
--- The four tests, worked out.
+-- The four tests, worked out. What they give is said exactly by Refusal-7 to Refusal-none of Promises, so that they need not be believed.
 unfoldable pub refused-7 : List ℕ → Bool
 refused-7 r = ltb (kindOf r) 1 || ltb 5 (kindOf r)
 

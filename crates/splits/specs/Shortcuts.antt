@@ -1,10 +1,10 @@
 -- Document 01's four shortcuts that lose plans: what each would make of P, and a small case for each.
 use mathlib.Core.Bool.{not, _&&_}
 use mathlib.Core.List.{List, [], _∷_, map}
-use Prim.Native.Nat.{ℕ, _-_, _^_}
+use Prim.Native.Nat.{ℕ}
 use lib.ListN.{getD}
 use lib.Dec.{eqb}
-use Rattle.splits.specs.Masks.{bit, single, minus}
+use Rattle.splits.specs.Masks.{bit, single, allBut}
 use Rattle.splits.specs.Problem.{Table, Problem}
 use Rattle.splits.specs.Subproblems.{domain}
 use Rattle.splits.specs.Requests.{variableOf, valueOf, targetOf}
@@ -36,7 +36,7 @@ untargeted p P r = filled (p .n) (map (extract P r) (keep (λ j. not (eqb (targe
 
 -- n variables, d values, domains as listed, every two variables unequal.
 abbrev pub unequal : ℕ → ℕ → List ℕ → Problem
-unequal n d domains = record { n = n; d = d; domain = λ i. getD domains i 0; allowed = λ i j a. minus (2 ^ d - 1) (single a) }
+unequal n d domains = record { n = n; d = d; domain = λ i. getD domains i 0; allowed = λ i j a. allBut d a }
 
 -- Domains {0} and {0, 1}; variable 0 is instantiated.
 abbrev pub two : Problem

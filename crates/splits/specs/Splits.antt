@@ -130,11 +130,11 @@ pub record RowOf (n : ℕ) (allowed : Table) (V′ v : ℕ) (row : List ℕ) : T
 unfoldable pub precludedBy : Subproblem → ℕ → List ℕ → Subproblem
 precludedBy P V′ row = record { domains = cutEach P row .domains; marked = bitOr (P .marked) (single V′) }
 
--- How many places the kind of a request has, from 0 on; some of them may stay empty.
+-- How many candidates for a piece the kind of a request has, counted from 0; some of them may be empty.
 unfoldable pub candidates : ℕ → List ℕ → ℕ
 candidates n r = byKind (kindOf r) 2 2 (n + 1) 2 (n + 1) 0
 
--- What stands in the k-th place, kind by kind. A place that names no piece is empty (kind 1 (a) where v is forbidden and kind 3's for V itself of
+-- The k-th candidate, kind by kind. One that names no piece is empty (kind 1 (a) where v is forbidden and kind 3's for V itself of
 -- V's domain, kind 5's where the target is the domain of that one), so that the pieces placed are all these in order, empty ones dropped (One-by-one).
 unfoldable pub backtracked : ℕ → Table → Subproblem → ℕ → ℕ → ℕ → Subproblem
 backtracked n allowed P V′ v k =
