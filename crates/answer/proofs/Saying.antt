@@ -346,11 +346,11 @@ module _ (file : List ℕ) (bytes : Bytes file) (rest : List ℕ) (solved : answ
 -- Unsolvable, of a file that save wrote of a search begun by opening.
 pub no-plan : Says-no-plan
 unfolding ascii
-no-plan n d domains tables₀ tables agenda s before after saved rest h saves none unsolvable =
+no-plan n d domains opened-tables tables agenda s before after saved rest h saves none unsolvable =
     let file : List ℕ = take (512 * saved .blocks) after in
     let c : Calls file = calls-of file in
     let first : getD (answer file) 0 0 ≡ 117 = ap (λ l. getD l 0 0) unsolvable in
-    let handed = lived-reached n d domains tables₀ tables agenda s h .0 in
+    let handed = lived-reached n d domains opened-tables tables agenda s h .0 in
     let blocks = written-blocks n d domains tables agenda s before after saved saves (sym (saves .refusal) ∙ none) in
     let passed = search-is-passed n d domains tables agenda (s .counts .steps .0) (s .counts .checks .0) (s .subproblems) .0 (handed .passes) in
     let bytes : Bytes file = rw blocks (saved-bytes n d domains tables agenda s (handed .words) passed (handed .stepped)) in
@@ -364,5 +364,5 @@ no-plan n d domains tables₀ tables agenda s before after saved rest h saves no
     let domains-are : c .domains′ ≡ domains = left .its-domains ∙ says .its-domains in
     let chooses : Chooses n d domains (c .tables′) (c .agenda′) (c .after) 1000000 (c .loaded .state) (c .ran) = rw (n-is, d-is, domains-are) at
     (c .chooses) in
-    unsolvable-choose n d domains tables₀ (c .tables′) (c .agenda′) (c .after) 1000000 (c .loaded .state) (c .ran)
+    unsolvable-choose n d domains opened-tables (c .tables′) (c .agenda′) (c .after) 1000000 (c .loaded .state) (c .ran)
     (Lived.loaded h saves none (c .loads) accepted) chooses (ap numberOf verdict)

@@ -82,10 +82,10 @@ Says-a-plan =
 -- Where line 1 is "unsolvable" and the file is what save wrote of a search begun by opening, the problem that was opened has no solution.
 abbrev pub Says-no-plan : Type 0
 Says-no-plan =
-    (n d : ℕ) (domains tables₀ tables agenda : List ℕ) (s : State) (before after : List ℕ) (saved : Saved) (rest : List ℕ)
-    → Lived n d domains tables₀ tables agenda s → Saves n d domains tables agenda s before after saved → saved .refusal ≡ 0
+    (n d : ℕ) (domains opened-tables tables agenda : List ℕ) (s : State) (before after : List ℕ) (saved : Saved) (rest : List ℕ)
+    → Lived n d domains opened-tables tables agenda s → Saves n d domains tables agenda s before after saved → saved .refusal ≡ 0
     → answer (take (512 * saved .blocks) after) ≡ ascii "unsolvable\n" ++ rest
-    → Has-solution (problemOf n d domains tables₀) → ⊥
+    → Has-solution (problemOf n d domains opened-tables) → ⊥
 
 -- ---- document 01's printed example
 

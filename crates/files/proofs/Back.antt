@@ -13,10 +13,9 @@ use Rattle.search.specs.Agenda.{Words, Shape, slotsIn, agendaOf}
 use Rattle.search.specs.FirstChecks.{WholeSlots, refusalOfLengths, searchRefusal}
 use Rattle.search.specs.Runs.{Search}
 use Rattle.search.specs.Calls.{searchOf}
-use Rattle.search.specs.Promises.{PassedSearch}
 use Rattle.search.specs.declared.state.State.{State}
 use Rattle.search.proofs.Encoding.{length-stackOf, agenda-back}
-use Rattle.search.proofs.FirstPassing.{search-is-passed}
+use Rattle.search.proofs.FirstPassing.{PassedSearch, search-is-passed}
 use Rattle.files.specs.Blocks.{blocksFor, fileOf}
 use Rattle.files.specs.Content.{contentOf}
 use Rattle.files.specs.Reading.{saidN, saidD, saidSteps, saidChecks, saidSubproblems, saidDomains, saidAllowed, saidSearch, tableWords}

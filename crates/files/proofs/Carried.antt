@@ -10,11 +10,11 @@ use Rattle.splits.specs.Promises.{AgreeApart}
 use Rattle.search.specs.Agenda.{stackOf, slotsIn, agendaOf}
 use Rattle.search.specs.FirstChecks.{WholeSlots}
 use Rattle.search.specs.Calls.{Runs, Chooses}
-use Rattle.search.specs.Promises.{Handed, PassedSearch}
+use Rattle.search.specs.Promises.{Handed}
 use Rattle.search.specs.declared.state.State.{State}
 use Rattle.search.specs.declared.state.Ran.{Ran}
 use Rattle.search.proofs.Encoding.{length-stackOf, agenda-of-words}
-use Rattle.search.proofs.FirstPassing.{search-is-passed}
+use Rattle.search.proofs.FirstPassing.{PassedSearch, search-is-passed}
 use Rattle.files.specs.Blocks.{fileOf}
 use Rattle.files.specs.Reading.{saidAllowed}
 use Rattle.files.specs.Calls.{handedContent, saveRefusal}
@@ -31,9 +31,9 @@ pub record Carried {n d : ℕ} {domains tables : List ℕ} (w : Two-ways n d dom
   pub loaded : w .loaded .refusal ≡ 0
   pub its-n : w .loaded .n ≡ n
   pub its-d : w .loaded .d ≡ d
-  pub its-domains : w .domains₁ ≡ domains
-  pub its-tables : AgreeApart n d (w .tables₁) tables
-  pub its-agenda : w .agenda₁ ≡ w .first-agenda
+  pub its-domains : w .domains′ ≡ domains
+  pub its-tables : AgreeApart n d (w .tables′) tables
+  pub its-agenda : w .agenda′ ≡ w .first-agenda
   pub its-state : w .loaded .state ≡ w .first .state
 
 -- The statements of a run and of the chooser at equal inputs.
@@ -74,10 +74,10 @@ module _ (n d : ℕ) (domains tables : List ℕ) (w : Two-ways n d domains table
       let room : s .subproblems ≤ slotsIn n (length (w .agenda₀)) = rw (w .agenda-words) (passing .room) in
       let slots : WholeSlots n (length (w .agenda₀)) = rw (w .agenda-words) (passing .passed .slots) in
       let back =
-      lent-back n d domains tables agenda s (w .buffer) (w .written) (w .saved) (w .domains₀) (w .domains₁) (w .tables₀) (w .tables₁) (w .agenda₀) (w .agenda₁) (w .loaded)
+      lent-back n d domains tables agenda s (w .buffer) (w .written) (w .saved) (w .domains₀) (w .domains′) (w .tables₀) (w .tables′) (w .agenda₀) (w .agenda′) (w .loaded)
       (handed .words) (w .saves) saved (w .loads) (w .domain-words) (w .table-words) slots room in
       let given =
-      loads-back n d domains tables agenda s (w .buffer) (w .written) (w .saved) (w .domains₀) (w .domains₁) (w .tables₀) (w .tables₁) (w .agenda₀) (w .agenda₁) (w .loaded)
+      loads-back n d domains tables agenda s (w .buffer) (w .written) (w .saved) (w .domains₀) (w .domains′) (w .tables₀) (w .tables′) (w .agenda₀) (w .agenda′) (w .loaded)
       (handed .words) (w .saves) saved (w .loads) (w .domain-words) (w .table-words) slots room in
       let count = length-stackOf n agenda (s .subproblems) in
       record {
@@ -100,19 +100,19 @@ module _ (n d : ℕ) (domains tables : List ℕ) (w : Two-ways n d domains table
 
   -- A call on what was loaded is the call on what was saved.
   pub run-on : (left requests : List ℕ) (r : Ran)
-      → Runs (w .loaded .n) (w .loaded .d) (w .domains₁) (w .tables₁) (w .agenda₁) left requests (w .loaded .state) r
+      → Runs (w .loaded .n) (w .loaded .d) (w .domains′) (w .tables′) (w .agenda′) left requests (w .loaded .state) r
       → Runs n d domains tables (w .first-agenda) left requests (w .first .state) r
   run-on left requests r h =
       let c = carried in
-      diagonal-run n d domains (w .tables₁) tables (c .its-tables) (w .first-agenda) left requests (w .first .state) r (handed .stepped)
-      (runs-cast n (w .loaded .n) d (w .loaded .d) domains (w .domains₁) (w .tables₁) (w .first-agenda) (w .agenda₁) left requests (w .first .state) (w .loaded .state) r
+      diagonal-run n d domains (w .tables′) tables (c .its-tables) (w .first-agenda) left requests (w .first .state) r (handed .stepped)
+      (runs-cast n (w .loaded .n) d (w .loaded .d) domains (w .domains′) (w .tables′) (w .first-agenda) (w .agenda′) left requests (w .first .state) (w .loaded .state) r
       (c .its-n) (c .its-d) (c .its-domains) (c .its-agenda) (c .its-state) h)
 
   pub choose-on : (left : List ℕ) (limit : ℕ) (r : Ran)
-      → Chooses (w .loaded .n) (w .loaded .d) (w .domains₁) (w .tables₁) (w .agenda₁) left limit (w .loaded .state) r
+      → Chooses (w .loaded .n) (w .loaded .d) (w .domains′) (w .tables′) (w .agenda′) left limit (w .loaded .state) r
       → Chooses n d domains tables (w .first-agenda) left limit (w .first .state) r
   choose-on left limit r h =
       let c = carried in
-      diagonal-choose n d domains (w .tables₁) tables (c .its-tables) (w .first-agenda) left limit (w .first .state) r (handed .stepped)
-      (chooses-cast n (w .loaded .n) d (w .loaded .d) domains (w .domains₁) (w .tables₁) (w .first-agenda) (w .agenda₁) left limit (w .first .state) (w .loaded .state) r
+      diagonal-choose n d domains (w .tables′) tables (c .its-tables) (w .first-agenda) left limit (w .first .state) r (handed .stepped)
+      (chooses-cast n (w .loaded .n) d (w .loaded .d) domains (w .domains′) (w .tables′) (w .first-agenda) (w .agenda′) left limit (w .first .state) (w .loaded .state) r
       (c .its-n) (c .its-d) (c .its-domains) (c .its-agenda) (c .its-state) h)

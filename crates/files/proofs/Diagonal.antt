@@ -16,12 +16,12 @@ use Rattle.search.specs.FirstChecks.{openRefusal, searchRefusal, runRefusal}
 use Rattle.search.specs.Runs.{Stopped, run, requestsIn}
 use Rattle.search.specs.Chooser.{choose}
 use Rattle.search.specs.Calls.{searchOf, Opens, Ends, Runs, Chooses}
-use Rattle.search.specs.Promises.{Passes, PassedSearch}
+use Rattle.search.specs.Promises.{Passes}
 use Rattle.search.specs.declared.state.State.{State}
 use Rattle.search.specs.declared.state.Opened.{Opened}
 use Rattle.search.specs.declared.state.Ran.{Ran}
 use Rattle.search.proofs.Encoding.{length-stackOf}
-use Rattle.search.proofs.FirstPassing.{search-is-passed, run-is-passed}
+use Rattle.search.proofs.FirstPassing.{PassedSearch, search-is-passed, run-is-passed}
 use Rattle.search.proofs.Apart.{apart-open, apart-search, apart-run}
 use Rattle.files.specs.Content.{contentOf}
 use Rattle.files.specs.Calls.{handedContent, saveRefusal, Saves}

@@ -16,14 +16,15 @@ use Rattle.search.specs.Runs.{requestsIn}
 use Rattle.search.specs.FirstChecks.{WholeSlots, runRefusal}
 use Rattle.search.specs.Verdicts.{numberOf, verdictOf}
 use Rattle.search.specs.Calls.{searchOf, Runs}
-use Rattle.search.specs.Promises.{Shown, Passed, Handed, Leaves, Reached, Has-solution}
+use Rattle.search.specs.Promises.{Shown, Handed, Leaves, Reached, Has-solution}
 use Rattle.search.specs.declared.state.State.{State}
 use Rattle.search.specs.declared.state.Ran.{Ran}
 use Rattle.search.specs.declared.state.Verdict.{Verdict}
 use Rattle.search.specs.declared.state.Verdict.the-variants.{None}
+use Rattle.search.proofs.FirstPassing.{Passed, run-is-passed}
 use Rattle.search.proofs.Encoding.{length-stackOf}
 use Rattle.search.proofs.HandedOn.{known, leaves, some-slots, whole-requests}
-use Rattle.search.proofs.Promises.{open-leaves, run-leaves, chooser-leaves, run-says, run-passed, reached-passes, reached-unsolvable, solved-shows}
+use Rattle.search.proofs.Promises.{open-leaves, run-leaves, chooser-leaves, run-says, reached-passes, reached-unsolvable, solved-shows}
 use Rattle.files.specs.Blocks.{fileOf}
 use Rattle.files.specs.Reading.{saidAllowed, tableWords}
 use Rattle.files.specs.Calls.{handedContent, saveRefusal, Saves, Loads}
@@ -38,17 +39,17 @@ use Rattle.files.proofs.Reaching.{reached-agree}
 use Rattle.files.proofs.Back.{stateOf, lent, lent-agree, written-blocks}
 
 -- What is known of each: it is a reached search of the problem in memory, which agrees with the one that was opened.
-pub record Life (n d : ℕ) (domains tables₀ tables agenda : List ℕ) (s : State) : Type 0 where
+pub record Life (n d : ℕ) (domains opened-tables tables agenda : List ℕ) (s : State) : Type 0 where
   pub handed : Handed n d domains tables agenda s
-  pub same : AgreeApart n d tables₀ tables
+  pub same : AgreeApart n d opened-tables tables
   pub proper : Proper (problemOf n d domains tables)
   pub words : length domains ≡ n
   pub reached : Reached n d domains tables (slotsIn n (length agenda)) (searchOf n agenda s)
 
 -- What a call leaves that was handed it.
-module _ (n d : ℕ) (domains tables₀ tables before after : List ℕ) (s s′ : State) (life : Life n d domains tables₀ tables before s) where
+module _ (n d : ℕ) (domains opened-tables tables before after : List ℕ) (s s′ : State) (life : Life n d domains opened-tables tables before s) where
   gone-on : {x : _} → Leaves n d domains tables before after s′ x → Reached n d domains tables (slotsIn n (length before)) x
-      → Life n d domains tables₀ tables after s′
+      → Life n d domains opened-tables tables after s′
   gone-on l reached = record {
     handed = l .handed;
     same = life .same;
@@ -58,11 +59,11 @@ module _ (n d : ℕ) (domains tables₀ tables before after : List ℕ) (s s′ 
   }
 
 -- What load leaves of the blocks that save wrote of it.
-module _ (n d : ℕ) (domains tables₀ tables agenda : List ℕ) (s : State) (life : Life n d domains tables₀ tables agenda s)
+module _ (n d : ℕ) (domains opened-tables tables agenda : List ℕ) (s : State) (life : Life n d domains opened-tables tables agenda s)
     (before after : List ℕ) (saved : Saved) (saves : Saves n d domains tables agenda s before after saved) (none : saved .refusal ≡ 0)
-    (domains₁ domains′ tables₁ tables′ agenda₁ agenda′ : List ℕ) (r : Loaded)
-    (loads : Loads (take (512 * saved .blocks) after) domains₁ domains′ tables₁ tables′ agenda₁ agenda′ r) (accepted : r .refusal ≡ 0) where
-  loaded-on : Life n d domains tables₀ tables′ agenda′ (r .state)
+    (domains₀ domains′ tables₀ tables′ agenda₀ agenda′ : List ℕ) (r : Loaded)
+    (loads : Loads (take (512 * saved .blocks) after) domains₀ domains′ tables₀ tables′ agenda₀ agenda′ r) (accepted : r .refusal ≡ 0) where
+  loaded-on : Life n d domains opened-tables tables′ agenda′ (r .state)
   unfolding stateOf
   loaded-on =
       let p = known n d domains tables agenda s (life .handed) .passed in
@@ -70,20 +71,20 @@ module _ (n d : ℕ) (domains tables₀ tables agenda : List ℕ) (s : State) (l
       let file : List ℕ = fileOf (handedContent n d domains tables agenda s) in
       let x = searchOf n agenda s in
       let says : Says file n d domains (tableOf n d tables) x = saved-says n d domains tables agenda s (life .handed .words) p in
-      let given : Loads file domains₁ domains′ tables₁ tables′ agenda₁ agenda′ r = rw (written-blocks n d domains tables agenda s before after saved saves passes) at loads in
-      let t = load-taken file (length domains₁) (length tables₁) (length agenda₁) (sym (given .refusal) ∙ accepted) in
-      let fits : Fits n d (length domains₁) (length tables₁) (length agenda₁) = rw (says .its-n, says .its-d) at (t .lengths) in
-      let room : length (x .stack) ≤ slotsIn n (length agenda₁) = rw (says .its-subproblems, says .its-n) at (t .room) in
-      let back = lent file n d domains (tableOf n d tables) x says domains₁ domains′ tables₁ tables′ agenda₁ agenda′ r given fits room in
+      let given : Loads file domains₀ domains′ tables₀ tables′ agenda₀ agenda′ r = rw (written-blocks n d domains tables agenda s before after saved saves passes) at loads in
+      let t = load-taken file (length domains₀) (length tables₀) (length agenda₀) (sym (given .refusal) ∙ accepted) in
+      let fits : Fits n d (length domains₀) (length tables₀) (length agenda₀) = rw (says .its-n, says .its-d) at (t .lengths) in
+      let room : length (x .stack) ≤ slotsIn n (length agenda₀) = rw (says .its-subproblems, says .its-n) at (t .room) in
+      let back = lent file n d domains (tableOf n d tables) x says domains₀ domains′ tables₀ tables′ agenda₀ agenda′ r given fits room in
       let agree : Allow-same n d (tableOf n d tables) (tableOf n d tables′) =
       rw (back .its-tables) (agree-back (tableOf n d (tableWords n d (saidAllowed file))) (tableOf n d tables) (lent-agree file n d domains (tableOf n d tables) x says)) in
       let proper : Proper (problemOf n d domains tables′) = proper-agree n d (λ i. getD domains i 0) (tableOf n d tables) (tableOf n d tables′) agree (life .proper) in
-      let reached : Reached n d domains tables′ (slotsIn n (length agenda₁)) x =
+      let reached : Reached n d domains tables′ (slotsIn n (length agenda₀)) x =
       reached-agree n d domains tables (life .proper) tables′ agree (Reached.moved (life .reached) room) in
       let long : length tables′ ≡ n * n * d = ap length (back .its-tables) ∙ table-length n d (saidAllowed file) in
-      let passed : Passed n d domains tables′ agenda₁ = record { proper = proper; domains-words = life .words; tables-words = long; slots = fits .slots } in
+      let passed : Passed n d domains tables′ agenda₀ = record { proper = proper; domains-words = life .words; tables-words = long; slots = fits .slots } in
       let l =
-      leaves n d domains tables′ agenda₁ agenda′ (r .state) x passed (reached-passes n d domains tables′ (slotsIn n (length agenda₁)) x proper reached)
+      leaves n d domains tables′ agenda₀ agenda′ (r .state) x passed (reached-passes n d domains tables′ (slotsIn n (length agenda₀)) x proper reached)
       (known n d domains tables agenda s (life .handed) .shaped) (back .its-agenda) (ap (λ st. st .counts .steps .0) (back .its-state))
       (ap (λ st. st .counts .checks .0) (back .its-state)) (ap (λ st. st .subproblems) (back .its-state)) in
       record {
@@ -98,9 +99,9 @@ module _ (n d : ℕ) (domains tables₀ tables agenda : List ℕ) (s : State) (l
       }
 
 -- What a move to an agenda of another length leaves: what a call would that was lent so many words, zeros here.
-module _ (n d : ℕ) (domains tables₀ tables agenda : List ℕ) (s : State) (life : Life n d domains tables₀ tables agenda s) (words : ℕ)
+module _ (n d : ℕ) (domains opened-tables tables agenda : List ℕ) (s : State) (life : Life n d domains opened-tables tables agenda s) (words : ℕ)
     (slots : WholeSlots n words) (takes : s .subproblems ≤ slotsIn n words) where
-  moved-to : Life n d domains tables₀ tables (agendaOf n words (stackOf n agenda (s .subproblems))) s
+  moved-to : Life n d domains opened-tables tables (agendaOf n words (stackOf n agenda (s .subproblems))) s
   moved-to =
       let k = known n d domains tables agenda s (life .handed) in
       let x = searchOf n agenda s in
@@ -124,10 +125,10 @@ module _ (n d : ℕ) (domains tables₀ tables agenda : List ℕ) (s : State) (l
       }
 
 -- It is known of each.
-pub lived : {n d : ℕ} {domains tables₀ tables agenda : List ℕ} {s : State} → Lived n d domains tables₀ tables agenda s → Life n d domains tables₀ tables agenda s
-lived {n} {d} {domains} {tables₀} (opened {before} {after} {r} opens none) =
-    let l = open-leaves n d domains tables₀ before after r opens none in
-    let passed = known n d domains tables₀ after (r .state) (l .handed) .passed .passed in
+pub lived : {n d : ℕ} {domains opened-tables tables agenda : List ℕ} {s : State} → Lived n d domains opened-tables tables agenda s → Life n d domains opened-tables tables agenda s
+lived {n} {d} {domains} {opened-tables} (opened {before} {after} {r} opens none) =
+    let l = open-leaves n d domains opened-tables before after r opens none in
+    let passed = known n d domains opened-tables after (r .state) (l .handed) .passed .passed in
     record {
       handed = l .handed;
       same = record { words = refl; masks = λ i j a h k f m. refl };
@@ -135,43 +136,43 @@ lived {n} {d} {domains} {tables₀} (opened {before} {after} {r} opens none) =
       words = passed .domains-words;
       reached = rw (l .search) (Reached.opened (some-slots n (length after) (passed .slots)));
     }
-lived {n} {d} {domains} {tables₀} (ran {tables} {before} {after} {s} {r} h requests runs) =
+lived {n} {d} {domains} {opened-tables} (ran {tables} {before} {after} {s} {r} h requests runs) =
     let life = lived h in
     let both = run-leaves n d domains tables before after requests s r (life .handed) runs in
     elim (whole-requests n (length requests)) [
-      | yes w ↦ gone-on n d domains tables₀ tables before after s (r .state) life (both .0 w) (Reached.ran (life .reached) (requestsIn n requests))
-      | no w ↦ gone-on n d domains tables₀ tables before after s (r .state) life (both .1 w) (life .reached)
+      | yes w ↦ gone-on n d domains opened-tables tables before after s (r .state) life (both .0 w) (Reached.ran (life .reached) (requestsIn n requests))
+      | no w ↦ gone-on n d domains opened-tables tables before after s (r .state) life (both .1 w) (life .reached)
     ]
-lived {n} {d} {domains} {tables₀} (chose {tables} {before} {after} {s} {r} h limit chooses) =
+lived {n} {d} {domains} {opened-tables} (chose {tables} {before} {after} {s} {r} h limit chooses) =
     let life = lived h in
-    gone-on n d domains tables₀ tables before after s (r .state) life (chooser-leaves n d domains tables before after limit s r (life .handed) chooses)
+    gone-on n d domains opened-tables tables before after s (r .state) life (chooser-leaves n d domains tables before after limit s r (life .handed) chooses)
     (Reached.chose (life .reached) limit)
-lived {n} {d} {domains} {tables₀} (loaded {tables} {agenda} {before} {after} {domains₁} {domains′} {tables₁} {tables′} {agenda₁} {agenda′} {s} {saved} {r} h saves none loads accepted) =
-    loaded-on n d domains tables₀ tables agenda s (lived h) before after saved saves none domains₁ domains′ tables₁ tables′ agenda₁ agenda′ r loads accepted
-lived {n} {d} {domains} {tables₀} (moved {tables} {agenda} {s} h words slots takes) =
-    moved-to n d domains tables₀ tables agenda s (lived h) words slots takes
+lived {n} {d} {domains} {opened-tables} (loaded {tables} {agenda} {before} {after} {domains₀} {domains′} {tables₀} {tables′} {agenda₀} {agenda′} {s} {saved} {r} h saves none loads accepted) =
+    loaded-on n d domains opened-tables tables agenda s (lived h) before after saved saves none domains₀ domains′ tables₀ tables′ agenda₀ agenda′ r loads accepted
+lived {n} {d} {domains} {opened-tables} (moved {tables} {agenda} {s} h words slots takes) =
+    moved-to n d domains opened-tables tables agenda s (lived h) words slots takes
 
 -- Of the problem that was opened.
-module _ {n d : ℕ} {domains tables₀ tables agenda : List ℕ} {s : State} (life : Life n d domains tables₀ tables agenda s) where
-  back : Allow-same n d (tableOf n d tables) (tableOf n d tables₀)
-  back = agree-back (tableOf n d tables₀) (tableOf n d tables) (life .same .masks)
+module _ {n d : ℕ} {domains opened-tables tables agenda : List ℕ} {s : State} (life : Life n d domains opened-tables tables agenda s) where
+  back : Allow-same n d (tableOf n d tables) (tableOf n d opened-tables)
+  back = agree-back (tableOf n d opened-tables) (tableOf n d tables) (life .same .masks)
 
-  pub proper₀ : Proper (problemOf n d domains tables₀)
-  proper₀ = proper-agree n d (λ i. getD domains i 0) (tableOf n d tables) (tableOf n d tables₀) back (life .proper)
+  pub proper₀ : Proper (problemOf n d domains opened-tables)
+  proper₀ = proper-agree n d (λ i. getD domains i 0) (tableOf n d tables) (tableOf n d opened-tables) back (life .proper)
 
-  pub reached₀ : Reached n d domains tables₀ (slotsIn n (length agenda)) (searchOf n agenda s)
-  reached₀ = reached-agree n d domains tables (life .proper) tables₀ back (life .reached)
+  pub reached₀ : Reached n d domains opened-tables (slotsIn n (length agenda)) (searchOf n agenda s)
+  reached₀ = reached-agree n d domains tables (life .proper) opened-tables back (life .reached)
 
   -- What a verdict says of it.
-  pub says-unsolvable : (v : Verdict) → v ≡ verdictOf n (stackOf n agenda (s .subproblems)) → numberOf v ≡ 3 → Has-solution (problemOf n d domains tables₀) → ⊥
+  pub says-unsolvable : (v : Verdict) → v ≡ verdictOf n (stackOf n agenda (s .subproblems)) → numberOf v ≡ 3 → Has-solution (problemOf n d domains opened-tables) → ⊥
   says-unsolvable v e h =
-      reached-unsolvable n d domains tables₀ (slotsIn n (length agenda)) (searchOf n agenda s) proper₀ reached₀ (ap numberOf (sym e) ∙ h)
+      reached-unsolvable n d domains opened-tables (slotsIn n (length agenda)) (searchOf n agenda s) proper₀ reached₀ (ap numberOf (sym e) ∙ h)
 
   pub says-solved : (v : Verdict) → v ≡ verdictOf n (stackOf n agenda (s .subproblems)) → numberOf v ≡ 2
-      → Shown (problemOf n d domains tables₀) (stackOf n agenda (s .subproblems))
+      → Shown (problemOf n d domains opened-tables) (stackOf n agenda (s .subproblems))
   says-solved v e h =
-      solved-shows (problemOf n d domains tables₀) (slotsIn n (length agenda)) (searchOf n agenda s)
-      (reached-passes n d domains tables₀ (slotsIn n (length agenda)) (searchOf n agenda s) proper₀ reached₀) (ap numberOf (sym e) ∙ h)
+      solved-shows (problemOf n d domains opened-tables) (slotsIn n (length agenda)) (searchOf n agenda s)
+      (reached-passes n d domains opened-tables (slotsIn n (length agenda)) (searchOf n agenda s) proper₀ reached₀) (ap numberOf (sym e) ∙ h)
 
 -- A run that returns a verdict was handed whole requests, and its verdict is that of what it leaves.
 pub run-verdict : (n d : ℕ) (domains tables before after requests : List ℕ) (s : State) (r : Ran) → Handed n d domains tables before s
@@ -180,7 +181,7 @@ run-verdict n d domains tables before after requests s r handed runs some =
     elim (ℕ-discrete (runRefusal n d domains tables before requests (s .counts .steps .0) (s .counts .checks .0) (s .subproblems)) 0) [
       | yes none ↦
           run-says n d domains tables before after requests s r handed
-          (run-passed n d domains tables before requests (s .counts .steps .0) (s .counts .checks .0) (s .subproblems) .0 none .1) runs .verdict
+          (run-is-passed n d domains tables before (s .counts .steps .0) (s .counts .checks .0) (s .subproblems) requests .0 none .1) runs .verdict
       | no refused ↦
           let test : eqb (runRefusal n d domains tables before requests (s .counts .steps .0) (s .counts .checks .0) (s .subproblems)) 0 ≡ false = ne-eqb _ 0 refused in
           let nothing : r .verdict ≡ None = rw test at (runs .verdict) in

@@ -13,7 +13,7 @@ use Rattle.splits.specs.Problem.{Allow-same, tableOf}
 use Rattle.splits.proofs.Tests.{and-left, and-right}
 use Rattle.search.specs.Agenda.{stackOf, slotsIn, agendaOf}
 use Rattle.search.specs.FirstChecks.{WholeSlots, orElse, wholeSlots, refusalOfLengths}
-use Rattle.search.specs.Promises.{PassedSearch}
+use Rattle.search.proofs.FirstPassing.{PassedSearch}
 use Rattle.search.proofs.Encoding.{agenda-back, length-agenda}
 use Rattle.search.proofs.FirstParts.{given-if, else-pass}
 use Rattle.search.proofs.HandedOn.{agenda-zeros}

@@ -55,7 +55,8 @@ use Rattle.files.specs.Promises.{
 }
 use Rattle.splits.proofs.Refusals.{one}
 use Rattle.search.proofs.Encoding.{length-stack}
-use Rattle.search.proofs.Promises.{search-passed, reached-solvable, reached-steps, reached-checks, chooser-says}
+use Rattle.search.proofs.FirstPassing.{search-is-passed}
+use Rattle.search.proofs.Promises.{reached-solvable, reached-steps, reached-checks, chooser-says}
 use Rattle.files.proofs.Sums
 use Rattle.files.proofs.Blocks
 use Rattle.files.proofs.Whole
@@ -93,7 +94,7 @@ pub sum-folded : Sum-folded
 sum-folded ws t y z words few = Sums.twice-is ws t y z words (omega arith)
 
 pub load-after-save : Load-after-save
-load-after-save n d domains tables agenda s words e = Saving.saved-says n d domains tables agenda s words (search-passed n d domains tables agenda _ _ _ .0 e)
+load-after-save n d domains tables agenda s words e = Saving.saved-says n d domains tables agenda s words (search-is-passed n d domains tables agenda _ _ _ .0 e)
 
 pub save-after-load : Save-after-load
 save-after-load file bytes e h =
@@ -102,7 +103,7 @@ save-after-load file bytes e h =
 pub loaded-passes : Loaded-passes
 loaded-passes file domains tables agenda bytes e =
     let t = Loading.load-taken file (length domains) (length tables) (length agenda) e in
-    search-passed _ _ _ _ _ _ _ _ .1 (Loading.said-passing file (t .accepts) bytes (length agenda) (t .lengths .slots) (t .room))
+    search-is-passed _ _ _ _ _ _ _ _ .1 (Loading.said-passing file (t .accepts) bytes (length agenda) (t .lengths .slots) (t .room))
 
 pub load-leaves : Load-leaves
 load-leaves = LoadLeaves.load-leaves
@@ -126,7 +127,7 @@ largest-met domains allowed s words stack wide =
 
 pub save-enough : Save-enough
 save-enough n d domains tables agenda s before after r words e long h =
-    let passing = search-passed n d domains tables agenda (s .counts .steps .0) (s .counts .checks .0) (s .subproblems) .0 e in
+    let passing = search-is-passed n d domains tables agenda (s .counts .steps .0) (s .counts .checks .0) (s .subproblems) .0 e in
     let few = Saving.saved-few n d domains tables agenda s words passing in
     let none = Refusals.save-none n d domains tables agenda s before .1 (e, λ short. absurd (omega arith)) in
     let blocks : r .blocks ≡ blocksFor (length (handedContent n d domains tables agenda s)) = rw none at (h .blocks) in
@@ -175,39 +176,39 @@ pub diagonal-save : Diagonal-save
 diagonal-save n d domains tables tables′ agenda s before after r same = Diagonal.diagonal-save n d domains tables tables′ same agenda s before after r
 
 pub lived-reached : Lived-reached
-lived-reached n d domains tables₀ tables agenda s h =
+lived-reached n d domains opened-tables tables agenda s h =
     let life = Living.lived h in
     (life .handed, life .same, Living.proper₀ life, Living.reached₀ life)
 
 pub lived-solvable : Lived-solvable
-lived-solvable n d domains tables₀ tables agenda s h =
-    let life = Living.lived h in reached-solvable n d domains tables₀ _ _ (Living.proper₀ life) (Living.reached₀ life)
+lived-solvable n d domains opened-tables tables agenda s h =
+    let life = Living.lived h in reached-solvable n d domains opened-tables _ _ (Living.proper₀ life) (Living.reached₀ life)
 
 pub lived-steps : Lived-steps
-lived-steps n d domains tables₀ tables agenda s h =
-    let life = Living.lived h in reached-steps n d domains tables₀ _ _ (Living.proper₀ life) (Living.reached₀ life)
+lived-steps n d domains opened-tables tables agenda s h =
+    let life = Living.lived h in reached-steps n d domains opened-tables _ _ (Living.proper₀ life) (Living.reached₀ life)
 
 pub lived-checks : Lived-checks
-lived-checks n d domains tables₀ tables agenda s h =
-    let life = Living.lived h in reached-checks n d domains tables₀ _ _ (Living.proper₀ life) (Living.reached₀ life)
+lived-checks n d domains opened-tables tables agenda s h =
+    let life = Living.lived h in reached-checks n d domains opened-tables _ _ (Living.proper₀ life) (Living.reached₀ life)
 
 pub unsolvable-run : Unsolvable-run
-unsolvable-run n d domains tables₀ tables before after requests s r h runs e =
+unsolvable-run n d domains opened-tables tables before after requests s r h runs e =
     Living.says-unsolvable (Living.lived (Lived.ran h requests runs)) (r .verdict)
     (Living.run-verdict n d domains tables before after requests s r (Living.lived h .handed) runs (omega (arith, e))) e
 
 pub unsolvable-choose : Unsolvable-choose
-unsolvable-choose n d domains tables₀ tables before after limit s r h chooses e =
+unsolvable-choose n d domains opened-tables tables before after limit s r h chooses e =
     Living.says-unsolvable (Living.lived (Lived.chose h limit chooses)) (r .verdict)
     (chooser-says n d domains tables before after limit s r (Living.lived h .handed) chooses .verdict) e
 
 pub solved-run : Solved-run
-solved-run n d domains tables₀ tables before after requests s r h runs e =
+solved-run n d domains opened-tables tables before after requests s r h runs e =
     Living.says-solved (Living.lived (Lived.ran h requests runs)) (r .verdict)
     (Living.run-verdict n d domains tables before after requests s r (Living.lived h .handed) runs (omega (arith, e))) e
 
 pub solved-choose : Solved-choose
-solved-choose n d domains tables₀ tables before after limit s r h chooses e =
+solved-choose n d domains opened-tables tables before after limit s r h chooses e =
     Living.says-solved (Living.lived (Lived.chose h limit chooses)) (r .verdict)
     (chooser-says n d domains tables before after limit s r (Living.lived h .handed) chooses .verdict) e
 
@@ -218,7 +219,7 @@ pub cut-any : Cut-any
 cut-any = Cutting.run-end
 
 pub cut-lived : Cut-lived
-cut-lived n d domains tables₀ tables agenda s requests more h w v t =
+cut-lived n d domains opened-tables tables agenda s requests more h w v t =
     Cutting.run-end n d domains tables agenda s requests more (Living.lived h .handed) w v t
 
 pub cut-choose : Cut-choose

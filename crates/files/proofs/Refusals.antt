@@ -17,8 +17,7 @@ use Rattle.search.proofs.FirstPassing.{lengths-none}
 use Rattle.search.proofs.Exactly.{search-refusal-few}
 use Rattle.files.specs.Blocks.{blocksFor}
 use Rattle.files.specs.Reading.{saidN, saidD, saidSubproblems, Deserves-14, Deserves-15, refusalOfFile, refusalOfWords}
-use Rattle.files.specs.Calls.{handedContent, saveRefusal, loadRefusal}
-use Rattle.files.specs.Promises.{Deserves-13, Deserves-12-load}
+use Rattle.files.specs.Calls.{handedContent, saveRefusal, loadRefusal, Deserves-13, Deserves-12-load}
 use Rattle.files.proofs.Tests.{one-of, else-none, else-some}
 use Rattle.files.proofs.Whole.{refusal-14, refusal-not-14, file-either}
 use Rattle.files.proofs.Accepted.{refusal-15, refusal-not-15, words-either}

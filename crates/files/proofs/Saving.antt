@@ -13,8 +13,8 @@ use Rattle.splits.specs.Splits.{below}
 use Rattle.splits.specs.declared.subproblem.Subproblem.{Subproblem}
 use Rattle.search.specs.Agenda.{Words, Shape, stackOf, stackWords, slotsIn}
 use Rattle.search.specs.Calls.{searchOf}
-use Rattle.search.specs.Promises.{PassedSearch}
 use Rattle.search.specs.declared.state.State.{State}
+use Rattle.search.proofs.FirstPassing.{PassedSearch}
 use Rattle.search.proofs.Encoding.{length-stackOf, part-small, stack-of-words}
 use Rattle.search.proofs.HandedOn.{append-small}
 use Rattle.files.specs.Blocks.{blocksFor, fileOf}

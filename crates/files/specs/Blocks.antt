@@ -32,7 +32,7 @@ blocksFor words = (words + 252) / 253
 unfoldable pub contentOfBlock : List ℕ → ℕ → List ℕ
 contentOfBlock content k = take 253 (drop (k * 253) content ++ replicate 253 0)
 
--- The words of block k, from 0, of so many.
+-- The words of block k, from 0, of so many: those before its check, then all.
 unfoldable pub headedBlock : ℕ → List ℕ → ℕ → List ℕ
 headedBlock blocks content k = suc k ∷ blocks ∷ contentOfBlock content k
 

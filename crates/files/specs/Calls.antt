@@ -2,7 +2,7 @@
 use mathlib.Core.Path.{_≡_}
 use mathlib.Core.Bool.{cond}
 use mathlib.Core.List.{List, _++_}
-use Prim.Native.Nat.{ℕ, _*_}
+use Prim.Native.Nat.{ℕ, _*_, _<_}
 use lib.ListN.{length, drop}
 use lib.Dec.{eqb, ltb}
 use Rattle.splits.specs.Problem.{tableOf}
@@ -24,7 +24,11 @@ Check-of block r = r ≡ checkOf (headOf block 0)
 abbrev pub handedContent : ℕ → ℕ → List ℕ → List ℕ → List ℕ → State → List ℕ
 handedContent n d domains tables agenda s = contentOf n d domains (tableOf n d tables) (searchOf n agenda s)
 
--- Save: 1 to 6 first, then 13: the file buffer is shorter than the blocks to write.
+-- 13: the file buffer is shorter than the blocks to write.
+abbrev pub Deserves-13 : ℕ → ℕ → List ℕ → List ℕ → List ℕ → State → List ℕ → Type 0
+Deserves-13 n d domains tables agenda s file = length file < 512 * blocksFor (length (handedContent n d domains tables agenda s))
+
+-- Save: 1 to 6 first, then 13.
 unfoldable pub saveRefusal : ℕ → ℕ → List ℕ → List ℕ → List ℕ → State → List ℕ → ℕ
 saveRefusal n d domains tables agenda s file =
     orElse (searchRefusal n d domains tables agenda (s .counts .steps .0) (s .counts .checks .0) (s .subproblems))
@@ -40,6 +44,10 @@ pub record SaveEnds (k : ℕ) (content before after : List ℕ) (r : Saved) : Ty
 abbrev pub Saves : ℕ → ℕ → List ℕ → List ℕ → List ℕ → State → List ℕ → List ℕ → Saved → Type 0
 Saves n d domains tables agenda s before after r =
     SaveEnds (saveRefusal n d domains tables agenda s before) (handedContent n d domains tables agenda s) before after r
+
+-- 12 at load: more subproblems than slots.
+abbrev pub Deserves-12-load : List ℕ → List ℕ → Type 0
+Deserves-12-load file agenda = slotsIn (saidN file) (length agenda) < saidSubproblems file
 
 -- Load: 14, 15, 3, 12, of the numbers of words lent as domains, tables and agenda.
 unfoldable pub loadRefusal : List ℕ → ℕ → ℕ → ℕ → ℕ

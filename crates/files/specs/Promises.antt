@@ -20,7 +20,7 @@ use Rattle.search.specs.declared.state.Ran.{Ran}
 use Rattle.files.specs.Blocks.{onesSum, checkOf, blocksFor, fileOf}
 use Rattle.files.specs.Content.{contentOf}
 use Rattle.files.specs.Reading.{contentWord, saidN, saidD, saidSteps, saidChecks, saidSubproblems, saidDomains, saidAllowed, saidSearch, tableWords, Deserves-14, Deserves-15, refusalOfFile, refusalOfWords}
-use Rattle.files.specs.Calls.{Check-of, handedContent, saveRefusal, Saves, loadRefusal, Loads}
+use Rattle.files.specs.Calls.{Check-of, handedContent, saveRefusal, Saves, loadRefusal, Loads, Deserves-13, Deserves-12-load}
 use Rattle.files.specs.declared.saved.Saved.{Saved}
 use Rattle.files.specs.declared.saved.Loaded.{Loaded}
 
@@ -154,10 +154,6 @@ Save-enough =
 
 -- ---- refusals
 
--- 13: the file buffer is shorter than the blocks to write.
-abbrev pub Deserves-13 : ℕ → ℕ → List ℕ → List ℕ → List ℕ → State → List ℕ → Type 0
-Deserves-13 n d domains tables agenda s file = length file < 512 * blocksFor (length (handedContent n d domains tables agenda s))
-
 -- Of any call of save, something said of the refusal of the first checks and of its own.
 abbrev pub Saving : ((first k : ℕ) → Type 0 → Type 0) → Type 0
 Saving Said =
@@ -174,10 +170,6 @@ Save-13 = Saving (λ first k deserved. (k ≡ 13) ↔ ((first ≡ 0) × deserved
 
 abbrev pub Save-none : Type 0
 Save-none = Saving (λ first k deserved. (k ≡ 0) ↔ ((first ≡ 0) × (deserved → ⊥)))
-
--- 12 at load: more subproblems than slots.
-abbrev pub Deserves-12-load : List ℕ → List ℕ → Type 0
-Deserves-12-load file agenda = slotsIn (saidN file) (length agenda) < saidSubproblems file
 
 -- Of any call of load, something said of the file, the buffers lent and the refusal.
 abbrev pub Loading : ((file domains tables agenda : List ℕ) → ℕ → Type 0) → Type 0
@@ -229,55 +221,55 @@ Load-one =
 -- satisfies it with the other. The steps fit their counter.
 abbrev pub Diagonal-open : Type 0
 Diagonal-open =
-    (n d : ℕ) (domains tables tables′ before after : List ℕ) (r : Opened) → AgreeApart n d tables tables′ → Opens n d domains tables before after r
-    → Opens n d domains tables′ before after r
+    (n d : ℕ) (domains tables others before after : List ℕ) (r : Opened) → AgreeApart n d tables others → Opens n d domains tables before after r
+    → Opens n d domains others before after r
 
 abbrev pub Diagonal-run : Type 0
 Diagonal-run =
-    (n d : ℕ) (domains tables tables′ before after requests : List ℕ) (s : State) (r : Ran) → AgreeApart n d tables tables′
-    → s .counts .steps .0 ≤ 4294967295 → Runs n d domains tables before after requests s r → Runs n d domains tables′ before after requests s r
+    (n d : ℕ) (domains tables others before after requests : List ℕ) (s : State) (r : Ran) → AgreeApart n d tables others
+    → s .counts .steps .0 ≤ 4294967295 → Runs n d domains tables before after requests s r → Runs n d domains others before after requests s r
 
 abbrev pub Diagonal-choose : Type 0
 Diagonal-choose =
-    (n d : ℕ) (domains tables tables′ before after : List ℕ) (limit : ℕ) (s : State) (r : Ran) → AgreeApart n d tables tables′
-    → s .counts .steps .0 ≤ 4294967295 → Chooses n d domains tables before after limit s r → Chooses n d domains tables′ before after limit s r
+    (n d : ℕ) (domains tables others before after : List ℕ) (limit : ℕ) (s : State) (r : Ran) → AgreeApart n d tables others
+    → s .counts .steps .0 ≤ 4294967295 → Chooses n d domains tables before after limit s r → Chooses n d domains others before after limit s r
 
 abbrev pub Diagonal-save : Type 0
 Diagonal-save =
-    (n d : ℕ) (domains tables tables′ agenda : List ℕ) (s : State) (before after : List ℕ) (r : Saved) → AgreeApart n d tables tables′
-    → Saves n d domains tables agenda s before after r → Saves n d domains tables′ agenda s before after r
+    (n d : ℕ) (domains tables others agenda : List ℕ) (s : State) (before after : List ℕ) (r : Saved) → AgreeApart n d tables others
+    → Saves n d domains tables agenda s before after r → Saves n d domains others agenda s before after r
 
 -- ---- searches begun by opening, saved and loaded
 
 -- What opening and any number of calls lead to, each handed what the one before it left, loads of the blocks that save wrote among them, and moved
--- in memory to an agenda of another length that takes it, zeros after. tables₀ are the tables that were opened; load writes zeros at a variable with
+-- in memory to an agenda of another length that takes it, zeros after. opened-tables are the tables that were opened; load writes zeros at a variable with
 -- itself, so that those in memory may differ from them there.
-pub data Lived (n d : ℕ) (domains tables₀ : List ℕ) : List ℕ → List ℕ → State → Type 0 where
-  opened : {before after : List ℕ} {r : Opened} → Opens n d domains tables₀ before after r → r .refusal ≡ 0
-      → Lived n d domains tables₀ tables₀ after (r .state)
-  ran : {tables before after : List ℕ} {s : State} {r : Ran} → Lived n d domains tables₀ tables before s → (requests : List ℕ)
-      → Runs n d domains tables before after requests s r → Lived n d domains tables₀ tables after (r .state)
-  chose : {tables before after : List ℕ} {s : State} {r : Ran} → Lived n d domains tables₀ tables before s → (limit : ℕ)
-      → Chooses n d domains tables before after limit s r → Lived n d domains tables₀ tables after (r .state)
-  loaded : {tables agenda before after domains₁ domains′ tables₁ tables′ agenda₁ agenda′ : List ℕ} {s : State} {saved : Saved} {r : Loaded}
-      → Lived n d domains tables₀ tables agenda s → Saves n d domains tables agenda s before after saved → saved .refusal ≡ 0
-      → Loads (take (512 * saved .blocks) after) domains₁ domains′ tables₁ tables′ agenda₁ agenda′ r → r .refusal ≡ 0
-      → Lived n d domains tables₀ tables′ agenda′ (r .state)
-  moved : {tables agenda : List ℕ} {s : State} → Lived n d domains tables₀ tables agenda s → (words : ℕ) → WholeSlots n words
-      → s .subproblems ≤ slotsIn n words → Lived n d domains tables₀ tables (agendaOf n words (stackOf n agenda (s .subproblems))) s
+pub data Lived (n d : ℕ) (domains opened-tables : List ℕ) : List ℕ → List ℕ → State → Type 0 where
+  opened : {before after : List ℕ} {r : Opened} → Opens n d domains opened-tables before after r → r .refusal ≡ 0
+      → Lived n d domains opened-tables opened-tables after (r .state)
+  ran : {tables before after : List ℕ} {s : State} {r : Ran} → Lived n d domains opened-tables tables before s → (requests : List ℕ)
+      → Runs n d domains tables before after requests s r → Lived n d domains opened-tables tables after (r .state)
+  chose : {tables before after : List ℕ} {s : State} {r : Ran} → Lived n d domains opened-tables tables before s → (limit : ℕ)
+      → Chooses n d domains tables before after limit s r → Lived n d domains opened-tables tables after (r .state)
+  loaded : {tables agenda before after domains₀ domains′ tables₀ tables′ agenda₀ agenda′ : List ℕ} {s : State} {saved : Saved} {r : Loaded}
+      → Lived n d domains opened-tables tables agenda s → Saves n d domains tables agenda s before after saved → saved .refusal ≡ 0
+      → Loads (take (512 * saved .blocks) after) domains₀ domains′ tables₀ tables′ agenda₀ agenda′ r → r .refusal ≡ 0
+      → Lived n d domains opened-tables tables′ agenda′ (r .state)
+  moved : {tables agenda : List ℕ} {s : State} → Lived n d domains opened-tables tables agenda s → (words : ℕ) → WholeSlots n words
+      → s .subproblems ≤ slotsIn n words → Lived n d domains opened-tables tables (agendaOf n words (stackOf n agenda (s .subproblems))) s
 
 -- It passes when handed on, and it is a reached search of the problem that was opened.
 abbrev pub Lived-reached : Type 0
 Lived-reached =
-    (n d : ℕ) (domains tables₀ tables agenda : List ℕ) (s : State) → Lived n d domains tables₀ tables agenda s
-    → Handed n d domains tables agenda s × AgreeApart n d tables₀ tables × Proper (problemOf n d domains tables₀)
-    × Reached n d domains tables₀ (slotsIn n (length agenda)) (searchOf n agenda s)
+    (n d : ℕ) (domains opened-tables tables agenda : List ℕ) (s : State) → Lived n d domains opened-tables tables agenda s
+    → Handed n d domains tables agenda s × AgreeApart n d opened-tables tables × Proper (problemOf n d domains opened-tables)
+    × Reached n d domains opened-tables (slotsIn n (length agenda)) (searchOf n agenda s)
 
 -- Of each, something said of the problem that was opened, the slots and the search.
 abbrev pub Lives : (Problem → ℕ → Search → Type 0) → Type 0
 Lives Said =
-    (n d : ℕ) (domains tables₀ tables agenda : List ℕ) (s : State) → Lived n d domains tables₀ tables agenda s
-    → Said (problemOf n d domains tables₀) (slotsIn n (length agenda)) (searchOf n agenda s)
+    (n d : ℕ) (domains opened-tables tables agenda : List ℕ) (s : State) → Lived n d domains opened-tables tables agenda s
+    → Said (problemOf n d domains opened-tables) (slotsIn n (length agenda)) (searchOf n agenda s)
 
 -- The problem is solvable exactly if some subproblem on the agenda is.
 abbrev pub Lived-solvable : Type 0
@@ -294,26 +286,26 @@ Lived-checks = Lives (λ p slots s. s .checks ≤ 496 * s .steps)
 -- A run or a chooser of such a search that says unsolvable: the problem that was opened has no solution.
 abbrev pub Unsolvable-run : Type 0
 Unsolvable-run =
-    (n d : ℕ) (domains tables₀ tables before after requests : List ℕ) (s : State) (r : Ran) → Lived n d domains tables₀ tables before s
-    → Runs n d domains tables before after requests s r → numberOf (r .verdict) ≡ 3 → Has-solution (problemOf n d domains tables₀) → ⊥
+    (n d : ℕ) (domains opened-tables tables before after requests : List ℕ) (s : State) (r : Ran) → Lived n d domains opened-tables tables before s
+    → Runs n d domains tables before after requests s r → numberOf (r .verdict) ≡ 3 → Has-solution (problemOf n d domains opened-tables) → ⊥
 
 abbrev pub Unsolvable-choose : Type 0
 Unsolvable-choose =
-    (n d : ℕ) (domains tables₀ tables before after : List ℕ) (limit : ℕ) (s : State) (r : Ran) → Lived n d domains tables₀ tables before s
-    → Chooses n d domains tables before after limit s r → numberOf (r .verdict) ≡ 3 → Has-solution (problemOf n d domains tables₀) → ⊥
+    (n d : ℕ) (domains opened-tables tables before after : List ℕ) (limit : ℕ) (s : State) (r : Ran) → Lived n d domains opened-tables tables before s
+    → Chooses n d domains tables before after limit s r → numberOf (r .verdict) ≡ 3 → Has-solution (problemOf n d domains opened-tables) → ⊥
 
 -- One that says solved: the top slot shows a solution of the problem that was opened.
 abbrev pub Solved-run : Type 0
 Solved-run =
-    (n d : ℕ) (domains tables₀ tables before after requests : List ℕ) (s : State) (r : Ran) → Lived n d domains tables₀ tables before s
+    (n d : ℕ) (domains opened-tables tables before after requests : List ℕ) (s : State) (r : Ran) → Lived n d domains opened-tables tables before s
     → Runs n d domains tables before after requests s r → numberOf (r .verdict) ≡ 2
-    → Shown (problemOf n d domains tables₀) (stackOf n after (r .state .subproblems))
+    → Shown (problemOf n d domains opened-tables) (stackOf n after (r .state .subproblems))
 
 abbrev pub Solved-choose : Type 0
 Solved-choose =
-    (n d : ℕ) (domains tables₀ tables before after : List ℕ) (limit : ℕ) (s : State) (r : Ran) → Lived n d domains tables₀ tables before s
+    (n d : ℕ) (domains opened-tables tables before after : List ℕ) (limit : ℕ) (s : State) (r : Ran) → Lived n d domains opened-tables tables before s
     → Chooses n d domains tables before after limit s r → numberOf (r .verdict) ≡ 2
-    → Shown (problemOf n d domains tables₀) (stackOf n after (r .state .subproblems))
+    → Shown (problemOf n d domains opened-tables) (stackOf n after (r .state .subproblems))
 
 -- And the problem that a file says has the solutions of the one saved.
 abbrev pub Same-solutions : Type 0
@@ -340,12 +332,12 @@ pub record Two-ways (n d : ℕ) (domains tables : List ℕ) : Type 0 where
   pub enough : 512 * blocksFor (length (handedContent n d domains tables first-agenda (first .state))) ≤ length buffer
   pub loaded : Loaded
   pub domains₀ : List ℕ
-  pub domains₁ : List ℕ
+  pub domains′ : List ℕ
   pub tables₀ : List ℕ
-  pub tables₁ : List ℕ
+  pub tables′ : List ℕ
   pub agenda₀ : List ℕ
-  pub agenda₁ : List ℕ
-  pub loads : Loads (take (512 * saved .blocks) written) domains₀ domains₁ tables₀ tables₁ agenda₀ agenda₁ loaded
+  pub agenda′ : List ℕ
+  pub loads : Loads (take (512 * saved .blocks) written) domains₀ domains′ tables₀ tables′ agenda₀ agenda′ loaded
   pub domain-words : length domains₀ ≡ n
   pub table-words : length tables₀ ≡ n * n * d
   pub agenda-words : length agenda₀ ≡ length first-agenda
@@ -357,7 +349,7 @@ pub record Trip (n d : ℕ) (domains tables agenda : List ℕ) (s : State) (requ
   pub ways : Two-ways n d domains tables
   pub uncut : Runs n d domains tables agenda (ways .whole-agenda) (requests ++ more) s (ways .whole)
   pub to-the-cut : Runs n d domains tables agenda (ways .first-agenda) requests s (ways .first)
-  pub goes-on : Runs (ways .loaded .n) (ways .loaded .d) (ways .domains₁) (ways .tables₁) (ways .agenda₁) (ways .second-agenda)
+  pub goes-on : Runs (ways .loaded .n) (ways .loaded .d) (ways .domains′) (ways .tables′) (ways .agenda′) (ways .second-agenda)
       (drop (ways .first .taken * (n + 3)) (requests ++ more)) (ways .loaded .state) (ways .second)
 
 -- The calls are the house chooser's: of up to m + k steps uncut; and cut, of up to m, and of up to k more.
@@ -365,7 +357,7 @@ pub record Chooser-trip (n d : ℕ) (domains tables agenda : List ℕ) (s : Stat
   pub ways : Two-ways n d domains tables
   pub uncut : Chooses n d domains tables agenda (ways .whole-agenda) (m + k) s (ways .whole)
   pub to-the-cut : Chooses n d domains tables agenda (ways .first-agenda) m s (ways .first)
-  pub goes-on : Chooses (ways .loaded .n) (ways .loaded .d) (ways .domains₁) (ways .tables₁) (ways .agenda₁) (ways .second-agenda) k (ways .loaded .state)
+  pub goes-on : Chooses (ways .loaded .n) (ways .loaded .d) (ways .domains′) (ways .tables′) (ways .agenda′) (ways .second-agenda) k (ways .loaded .state)
       (ways .second)
 
 -- Neither save nor load is refused, and the end is the uncut call's: the same verdict, refusal, agenda, counts and number of subproblems; the numbers
@@ -385,7 +377,7 @@ pub record Same-end {n d : ℕ} {domains tables : List ℕ} (w : Two-ways n d do
 -- every search begun by opening, saved, loaded and moved any number of times since.
 abbrev pub Cut-lived : Type 0
 Cut-lived =
-    (n d : ℕ) (domains tables₀ tables agenda : List ℕ) (s : State) (requests more : List ℕ) → Lived n d domains tables₀ tables agenda s
+    (n d : ℕ) (domains opened-tables tables agenda : List ℕ) (s : State) (requests more : List ℕ) → Lived n d domains opened-tables tables agenda s
     → WholeRequests n (length requests) → WholeRequests n (length more)
     → (t : Trip n d domains tables agenda s requests more) → Same-end (t .ways)
 

@@ -127,7 +127,8 @@ Deserves-15 file =
 unfoldable pub tableWords : ℕ → ℕ → Table → List ℕ
 tableWords n d allowed = each (λ i. each (λ j. map (λ a. cond (eqb i j) 0 (allowed i j a)) (below d)) (below n)) (below n)
 
--- The tests, worked out. 14.
+-- The tests, worked out. What they give is said exactly by Load-14 and Load-15 of Promises, so that they need not be believed.
+-- 14.
 unfoldable pub goodBlock : List ℕ → ℕ → Bool
 goodBlock file b =
     eqb (blockWord file b 0) (b + 1) && eqb (blockWord file b 1) (blocksIn file) && eqb (blockWord file b 255) (checkOf (headOf file b))

@@ -25,13 +25,16 @@ opening n domains = cond (some n (λ i. eqb (getD domains i 0) 0)) [] (holding n
 abbrev pub begun : ℕ → List ℕ → Search
 begun n domains = record { stack = opening n domains; steps = 0; checks = 0 }
 
--- Opening clears the agenda and both counts; refused, it changes nothing and returns zeros.
-pub record Opens (n d : ℕ) (domains tables before after : List ℕ) (r : Opened) : Type 0 where
-  pub refusal : r .refusal ≡ openRefusal n d domains tables before
+-- How opening ends whose refusal is k: it clears the agenda and both counts, and places the problem; refused, it changes nothing and returns zeros.
+pub record OpenEnds (k n : ℕ) (domains before after : List ℕ) (r : Opened) : Type 0 where
+  pub refusal : r .refusal ≡ k
   pub steps : r .state .counts .steps .0 ≡ 0
   pub checks : r .state .counts .checks .0 ≡ 0
-  pub subproblems : r .state .subproblems ≡ cond (eqb (openRefusal n d domains tables before) 0) (length (opening n domains)) 0
-  pub agenda : after ≡ cond (eqb (openRefusal n d domains tables before) 0) (agendaOf n (length before) (opening n domains)) before
+  pub subproblems : r .state .subproblems ≡ cond (eqb k 0) (length (opening n domains)) 0
+  pub agenda : after ≡ cond (eqb k 0) (agendaOf n (length before) (opening n domains)) before
+
+abbrev pub Opens : ℕ → ℕ → List ℕ → List ℕ → List ℕ → List ℕ → Opened → Type 0
+Opens n d domains tables before after r = OpenEnds (openRefusal n d domains tables before) n domains before after r
 
 -- The search that a state and an agenda hold.
 abbrev pub searchOf : ℕ → List ℕ → State → Search
