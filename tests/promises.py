@@ -16,7 +16,7 @@ TOP = pathlib.Path(__file__).resolve().parent.parent
 MARKS = r"(?:(?:unfoldable|abbrev|axiom|pub) )*"
 NUMBER = r"\d+|D\d\.\d"
 LAWS_NAMED = ("README.md", "docs/DECISIONS.md", "docs/PROMISES.md")
-HELD = ("none owed: ", "by the language: ", "run: ", "as [", "`crates/")
+HELD = ("none owed: ", "by the language: ", "run: ", "to be read: ", "as [", "`crates/")
 
 
 def text_of(path):
