@@ -1,7 +1,8 @@
 -- The promises of specs/Promises.antt, proved.
 -- Assumes nothing.
 use mathlib.Core.Path.{sym, _∙_}
-use Rattle.answer.specs.Promises.{Answer-to-one, At-most-512, Answer-14, Answer-15, Answer-else, Of-the-calls, Says-a-plan, Says-no-plan, Printed}
+use Rattle.answer.specs.Promises.{Answer-to-one, At-most-512, Decimals, Answer-14, Answer-15, Answer-else, Of-the-calls, Says-a-plan, Says-no-plan, Printed}
+use Rattle.answer.proofs.Decimals.{decimal-digit, decimal-more}
 use Rattle.answer.proofs.Saying
 use Rattle.answer.proofs.Example
 use Rattle.answer.proofs.Fitting
@@ -11,6 +12,9 @@ answer-to-one file r r′ h h′ = λ i. record { bytes = (h .bytes ∙ sym (h�
 
 pub at-most-512 : At-most-512
 at-most-512 = Fitting.at-most-512
+
+pub decimals : Decimals
+decimals = (decimal-digit, decimal-more)
 
 pub answer-14 : Answer-14
 answer-14 = Saying.says-14

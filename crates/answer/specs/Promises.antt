@@ -1,7 +1,7 @@
 -- What the answer to a file promises. Stated here, proved in proofs/Promises.antt.
 use mathlib.Core.Path.{_≡_}
 use mathlib.Core.List.{List, [], _∷_, _++_}
-use Prim.Native.Nat.{ℕ, _*_, _+_, _≤_}
+use Prim.Native.Nat.{ℕ, _*_, _+_, _/_, _%_, _≤_, _<_}
 use lib.ListN.{length, getD, take}
 use Rattle.splits.specs.Problem.{Solution}
 use Rattle.splits.specs.Promises.{One}
@@ -17,7 +17,7 @@ use Rattle.files.specs.Calls.{Saves, Loads}
 use Rattle.files.specs.Promises.{Bytes, Lived}
 use Rattle.files.specs.declared.saved.Saved.{Saved}
 use Rattle.files.specs.declared.saved.Loaded.{Loaded}
-use Rattle.answer.specs.Text.{countsLine, planOf, refusedLine, textOf, textFrom}
+use Rattle.answer.specs.Text.{decimal, countsLine, planOf, refusedLine, textOf, textFrom}
 use Rattle.answer.specs.Calls.{ranOf, answer, Answers}
 
 -- The answer to a file is one.
@@ -29,6 +29,12 @@ abbrev pub At-most-512 : Type 0
 At-most-512 = (file : List ℕ) → Bytes file → length (answer file) ≤ 512
 
 -- ---- the text, for any bytes
+
+-- A number in decimal: below 10 its one digit, byte 48 being 0; else that of its tenth, and the last digit after it.
+abbrev pub Decimals : Type 0
+Decimals =
+    ((x : ℕ) → x < 10 → decimal x ≡ (48 + x) ∷ [])
+    × ((x : ℕ) → 10 ≤ x → decimal x ≡ decimal (x / 10) ++ ((48 + x % 10) ∷ []))
 
 -- A file that is not 1 to 101 whole blocks, or of which a block's check, number or count is wrong, gives the one line "refused 14".
 abbrev pub Answer-14 : Type 0
@@ -44,7 +50,7 @@ Answer-else = (file : List ℕ) → (Deserves-14 file → ⊥) → (Deserves-15 
 
 -- ---- of the calls
 
--- The text of what load, into 512 slots, and the chooser, of up to 1,000,000 steps, return and leave.
+-- The two calls that the program makes of a file, load into 512 slots and the chooser of up to 1,000,000 steps, and what they return and leave.
 pub record Calls (file : List ℕ) : Type 0 where
   pub domains : List ℕ
   pub domains′ : List ℕ

@@ -7,7 +7,7 @@ use Prim.Native.Nat.{ℕ, zero, suc, _+_, _-_, _*_, _/_, _≤_, _<_}
 use native.Mathlib.Omega.{arith}
 use native.Mathlib.Numerals.{add-one}
 use native.Mathlib.Nat.{mul-le-mul-right, zero-mul, div-mul-le-self}
-use lib.ListN.{length, take, drop}
+use lib.ListN.{length, take, drop, length-take, length-drop}
 use lib.Seq.{drop-drop}
 use lib.Dec.{eqb}
 use borrow.Author.Tests.{not-true, not-false}
@@ -221,6 +221,10 @@ pub request-within : (n k words : ℕ) → k < words / (n + 3) → k * (n + 3) +
 request-within n k words h =
     let up : (k + 1) * (n + 3) ≤ words / (n + 3) * (n + 3) = mul-le-mul-right (n + 3) (omega arith) in
     omega (arith, div-mul-le-self words (n + 3))
+
+pub request-long : (n k : ℕ) (requests : List ℕ) → k < length requests / (n + 3)
+    → length (take ((k * (n + 3) + (n + 3)) - k * (n + 3)) (drop (k * (n + 3)) requests)) ≡ n + 3
+request-long n k requests h = simp (length-take, length-drop) (omega (arith, request-within n k (length requests) h))
 
 -- ---- the loop of the chooser
 

@@ -97,7 +97,7 @@ pub fn run(
 // The words of request `k` of a list.
 fn request_at(n: usize, requests: &[u16], k: usize) -> &[u16]
     requires { ⌜ (n ≤ 32) × (k < length (now requests) / (n + 3)) ⌝ }
-    ensures { λ r. ⌜ now r ≡ requestAt n (now (requests .entry)) k ⌝ }
+    ensures { λ r. ⌜ (now r ≡ requestAt n (now (requests .entry)) k) × (length (now r) ≡ n + 3) ⌝ }
 {
     let at = k * (n + 3);
     let end = at + (n + 3);
@@ -145,7 +145,7 @@ fn step_by(
     request: &[u16],
     state: State,
 ) -> Stop
-    requires { ⌜ Ready n d (now tables) (now agenda) (searchOf n (now agenda) state) ⌝ }
+    requires { ⌜ Ready n d (now tables) (now agenda) (searchOf n (now agenda) state) × (length (now request) ≡ n + 3) ⌝ }
     ensures { λ r. ⌜ TakesOne n d (now (tables .entry)) (now (agenda .entry)) (now (agenda .exit)) (now (request .entry)) state r ⌝ }
 {
     let subproblems = state.subproblems;

@@ -109,8 +109,7 @@ fn refusal_of(
     0
 }
 
-// Whether variable k - 1 keeps no value in its own further piece, the k-th of kind 3 or 5: such a piece is empty and need not be made. Of a
-// request that is not whole it tells nothing; a run has none.
+// Whether variable k - 1 keeps no value in its own further piece, the k-th of kind 3 or 5: such a piece is empty and need not be made.
 fn keeps_none(
     top: Subproblem,
     n: usize,
@@ -119,12 +118,9 @@ fn keeps_none(
     request: &[u16],
     k: usize,
 ) -> bool
-    requires { ⌜ (readable n d (now tables) (now request) ≡ true) × (k < candidates n (now request)) ⌝ }
+    requires { ⌜ (readable n d (now tables) (now request) ≡ true) × ((length (now request) ≡ n + 3) × (k < candidates n (now request))) ⌝ }
     ensures { λ r. ⌜ TellsEmpty n d (now (tables .entry)) top (now (request .entry)) k r ⌝ }
 {
-    if request.len() < n + 3 {
-        return false;
-    }
     if k == 0 {
         return false;
     }
@@ -193,7 +189,7 @@ pub(crate) fn take(
     request: &[u16],
     state: State,
 ) -> Stop
-    requires { ⌜ Taking n d (now tables) (now agenda) top state ⌝ }
+    requires { ⌜ Taking n d (now tables) (now agenda) top state × (length (now request) ≡ n + 3) ⌝ }
     ensures { λ r. ⌜ TakesOne n d (now (tables .entry)) (now (agenda .entry)) (now (agenda .exit)) (now (request .entry)) state r ⌝ }
 {
     let steps = state.counts.steps.0;

@@ -2,7 +2,7 @@
 -- Assumes nothing.
 use native.Mathlib.Omega.{arith}
 use lib.ListN.{length}
-use Rattle.search.proofs.Running.{request-within, request-part}
+use Rattle.search.proofs.Running.{request-within, request-part, request-long}
 use Rattle.search.proofs.request_at.Statement.{statement}
 use Rattle.search.proofs.request_at.Tie as tie
 
@@ -31,7 +31,8 @@ part-result-end : tie.Need-part-result-end
 part-result-end c = let a = c .args in request-within (a .n) (a .k) (length (a .requests .now)) (c .pre .1)
 
 returns : tie.Need-returns
-returns c = request-part _ _ _
+returns c =
+    (request-part _ _ _, request-long _ _ _ (c .before .pre .1))
 
 pub request-at-spec : {M : Type 1} → statement M
 request-at-spec =

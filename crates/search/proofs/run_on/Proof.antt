@@ -29,7 +29,7 @@ request-at-requires : tie.Need-request-at-requires Inv-loop μ-loop
 request-at-requires c κs = (c .before .before .before .before .before .pre .fitting .few, c .loop-test .taken)
 
 step-by-requires : tie.Need-step-by-requires Inv-loop μ-loop
-step-by-requires c κs = c .before .before .before .loop .inv .1 .ready
+step-by-requires c κs = (c .before .before .before .loop .inv .1 .ready, c .before .request-at .ensures .1)
 
 same-length : tie.Need-same-length Inv-loop μ-loop
 same-length c =
@@ -40,7 +40,7 @@ returns : tie.Need-returns Inv-loop μ-loop
 returns c =
     going-stops _ _ _ _ _ _ _ _ _ (c .before .before .before .before .before .before .before .before .before .loop .inv .1)
     (c .before .before .before .before .before .before .before .before .loop-test .taken) _ _ _
-    (c .before .before .before .before .before .before .before .request-at .ensures) (c .before .before .before .before .before .step-by .ensures)
+    (c .before .before .before .before .before .before .before .request-at .ensures .0) (c .before .before .before .before .before .step-by .ensures)
     (c .if1 .taken)
 
 add-taken : tie.Need-add-taken Inv-loop μ-loop
@@ -64,7 +64,7 @@ loop-again c = (
   omega arith,
   going-on _ _ _ _ _ _ _ _ _ (c .before .before .before .before .before .before .before .before .before .loop .inv .1)
       (c .before .before .before .before .before .before .before .before .loop-test .taken) _ _ _
-      (c .before .before .before .before .before .before .before .request-at .ensures) (c .before .before .before .before .before .step-by .ensures)
+      (c .before .before .before .before .before .before .before .request-at .ensures .0) (c .before .before .before .before .before .step-by .ensures)
       (c .if1 .left),
 )
 

@@ -12,7 +12,7 @@ sub-read-slot c = search needs
 read-slot-requires : tie.Need-read-slot-requires
 read-slot-requires c κs =
     used-slot _ _ _
-    (ready-used _ _ (c .before .before .before .before .before .args .tables .now) _ _ (c .before .before .before .before .before .pre))
+    (ready-used _ _ (c .before .before .before .before .before .args .tables .now) _ _ (c .before .before .before .before .before .pre .0))
     (c .before .if1 .taken)
 
 all-instantiated-requires : tie.Need-all-instantiated-requires
@@ -20,9 +20,11 @@ all-instantiated-requires c κs = search needs
 
 take-requires : tie.Need-take-requires
 take-requires c κs =
-    taking _ _ _ _ _ (c .before .before .before .before .before .before .before .before .before .pre) _ _
-    (c .before .before .before .before .before .if1 .taken) (c .before .before .before .read-slot .ensures)
-    (c .before .before .all-instantiated .ensures) (c .before .if2 .taken)
+    let k = c .before .before .before .before .before .before .before .before .before .pre in (
+      taking _ _ _ _ _ (k .0) _ _ (c .before .before .before .before .before .if1 .taken) (c .before .before .before .read-slot .ensures)
+          (c .before .before .all-instantiated .ensures) (c .before .if2 .taken),
+      k .1,
+    )
 
 same-length : tie.Need-same-length
 same-length c = search needs
@@ -36,7 +38,7 @@ stopped-requires c κs = tt
 returns-2 : tie.Need-returns-2
 returns-2 c =
     rw (c .stopped .ensures)
-    (stays _ _ _ _ _ (c .before .before .before .before .before .pre) _
+    (stays _ _ _ _ _ (c .before .before .before .before .before .pre .0) _
     (⊎-elim (λ w. finished-is _ _ _ (w .0 .taken) _ (w .2 .ensures) _ (w .3 .ensures) (w .4 .left)) (λ w. finished-empty _ _ _ (w .left)) (c .before .if1 .came)))
 
 pub step-by-spec : {M : Type 1} → statement M

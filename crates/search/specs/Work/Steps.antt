@@ -34,6 +34,7 @@ takenTo steps checks subproblems = record {
 -- A request whose words fit, of a top P, is to be placed from a slot on, and there is room.
 pub record Placing (n d : ℕ) (tables : List ℕ) (P : Subproblem) (r : List ℕ) (from words : ℕ) : Type 0 where
   pub reads : readable n d tables r ≡ true
+  pub whole : length r ≡ n + 3
   pub room : (from + length (pieces n (tableOf n d tables) P r)) * (n + 2) ≤ words
 
 -- A test that is passed only by a candidate that is empty.

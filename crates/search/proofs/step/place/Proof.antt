@@ -33,11 +33,14 @@ keeps-none-requires : tie.Need-keeps-none-requires Inv-loop μ-loop
 keeps-none-requires c κs =
     let pre = c .before .before .before .before .before .before .pre in (
       pre .reads,
-      omega (
-        arith,
-        named-is _ _ _ (c .before .before .before .before .before .before .args .top) _ (pre .reads) _ (c .before .before .candidates .ensures),
-        c .before .loop .inv .0,
-        c .loop-test .taken,
+      (
+        pre .whole,
+        omega (
+          arith,
+          named-is _ _ _ (c .before .before .before .before .before .before .args .top) _ (pre .reads) _ (c .before .before .candidates .ensures),
+          c .before .loop .inv .0,
+          c .loop-test .taken,
+        ),
       ),
     )
 

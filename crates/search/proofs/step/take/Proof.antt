@@ -10,7 +10,7 @@ sub-slot : tie.Need-sub-slot
 sub-slot c = search needs
 
 add-free : tie.Need-add-free
-add-free c = let few = c .before .before .before .before .pre .ready .fitting .few in search needs
+add-free c = let few = c .before .before .before .before .pre .0 .ready .fitting .few in search needs
 
 div-free : tie.Need-div-free
 div-free c = search needs
@@ -18,10 +18,10 @@ div-free c = search needs
 sub-free : tie.Need-sub-free
 sub-free c =
     let a = c .before .before .before .before .args in
-    below-slots _ _ (a .tables .now) _ (a .top) (a .request .now) _ (c .before .before .before .before .pre)
+    below-slots _ _ (a .tables .now) _ (a .top) (a .request .now) _ (c .before .before .before .before .pre .0)
 
 refusal-of-requires : tie.Need-refusal-of-requires
-refusal-of-requires c κs = c .before .before .before .before .pre .ready .fitting
+refusal-of-requires c κs = c .before .before .before .before .pre .0 .ready .fitting
 
 stopped-requires : tie.Need-stopped-requires
 stopped-requires c κs = tt
@@ -29,15 +29,15 @@ stopped-requires c κs = tt
 returns : tie.Need-returns
 returns c =
     rw (c .stopped .ensures)
-    (take-refused _ _ _ _ _ _ _ (c .before .before .before .before .before .before .before .pre) _ (c .before .before .refusal-of .ensures)
+    (take-refused _ _ _ _ _ _ _ (c .before .before .before .before .before .before .before .pre .0) _ (c .before .before .refusal-of .ensures)
     (c .before .if1 .taken))
 
 with-checks-requires : tie.Need-with-checks-requires
 with-checks-requires c κs =
     let a = c .before .before .before .before .before .before .args in (
-      take-reads _ _ _ (a .agenda .now) (a .top) _ (a .state) (c .before .before .before .before .before .before .pre) _
+      take-reads _ _ _ (a .agenda .now) (a .top) _ (a .state) (c .before .before .before .before .before .before .pre .0) _
           (c .before .refusal-of .ensures) (c .if1 .left),
-      take-counts _ _ _ (a .agenda .now) (a .top) _ (a .state) (c .before .before .before .before .before .before .pre) _
+      take-counts _ _ _ (a .agenda .now) (a .top) _ (a .state) (c .before .before .before .before .before .before .pre .0) _
           (c .before .refusal-of .ensures) (c .if1 .left),
     )
 
@@ -45,8 +45,8 @@ clear-slot-requires : tie.Need-clear-slot-requires
 clear-slot-requires c κs =
     let a = c .before .before .before .before .before .before .before .before .args in
     record {
-      few = c .before .before .before .before .before .before .before .before .pre .ready .fitting .few;
-      within = take-slot _ _ _ (a .agenda .now) (a .top) _ (a .state) (c .before .before .before .before .before .before .before .before .pre) _
+      few = c .before .before .before .before .before .before .before .before .pre .0 .ready .fitting .few;
+      within = take-slot _ _ _ (a .agenda .now) (a .top) _ (a .state) (c .before .before .before .before .before .before .before .before .pre .0) _
           (c .before .before .before .refusal-of .ensures) (c .before .before .if1 .left);
     }
 
@@ -54,12 +54,13 @@ place-requires : tie.Need-place-requires
 place-requires c κs =
     let a = c .before .before .before .before .before .before .before .before .before .before .before .before .args in
     let room = take-room _ _ _ (a .agenda .now) (a .top) _ (a .state)
-    (c .before .before .before .before .before .before .before .before .before .before .before .before .pre) _
+    (c .before .before .before .before .before .before .before .before .before .before .before .before .pre .0) _
     (c .before .before .before .before .before .before .before .refusal-of .ensures) (c .before .before .before .before .before .before .if1 .left) in
     record {
       reads = take-reads _ _ _ (a .agenda .now) (a .top) _ (a .state)
-          (c .before .before .before .before .before .before .before .before .before .before .before .before .pre) _
+          (c .before .before .before .before .before .before .before .before .before .before .before .before .pre .0) _
           (c .before .before .before .before .before .before .before .refusal-of .ensures) (c .before .before .before .before .before .before .if1 .left);
+      whole = c .before .before .before .before .before .before .before .before .before .before .before .before .pre .1;
       room = search needs;
     }
 
@@ -67,7 +68,7 @@ taken-requires : tie.Need-taken-requires
 taken-requires c κs =
     let a = c .before .before .before .before .before .before .before .before .before .before .before .before .before .before .before .args in
     take-steps _ _ _ (a .agenda .now) (a .top) _ (a .state)
-    (c .before .before .before .before .before .before .before .before .before .before .before .before .before .before .before .pre) _
+    (c .before .before .before .before .before .before .before .before .before .before .before .before .before .before .before .pre .0) _
     (c .before .before .before .before .before .before .before .before .before .before .refusal-of .ensures)
     (c .before .before .before .before .before .before .before .before .before .if1 .left)
 
@@ -78,7 +79,7 @@ returns-2 : tie.Need-returns-2
 returns-2 c =
     rw (c .taken .ensures)
     (take-taken _ _ _ _ _ _ _
-    (c .before .before .before .before .before .before .before .before .before .before .before .before .before .before .before .before .pre) _
+    (c .before .before .before .before .before .before .before .before .before .before .before .before .before .before .before .before .pre .0) _
     (c .before .before .before .before .before .before .before .before .before .before .before .refusal-of .ensures)
     (c .before .before .before .before .before .before .before .before .before .before .if1 .left) _ _ _
     (record {
