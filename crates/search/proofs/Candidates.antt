@@ -239,14 +239,6 @@ firsts-le n f (suc k) = simp length-append (go (empty n (f k)) (firsts-le n f k)
     go true h = omega arith
     go false h = omega arith
 
--- More candidates, no fewer pieces.
-pub firsts-more : (n : ℕ) (f : ℕ → Subproblem) (k m : ℕ) → length (firsts n f k) ≤ length (firsts n f (k + m))
-unfolding firsts
-firsts-more n f k zero = let e : k + 0 ≡ k = omega arith in rw e (le-refl (length (firsts n f k)))
-firsts-more n f k (suc m) =
-    let e : k + suc m ≡ suc (k + m) = omega arith in
-    rw (e, length-append) (omega (arith, firsts-more n f k m))
-
 -- Of no candidates there are none.
 pub firsts-start : (n : ℕ) (f : ℕ → Subproblem) → length (firsts n f 0) ≡ 0
 unfolding firsts

@@ -5,7 +5,7 @@ use mathlib.Core.Bool.{Bool, true, false, not}
 use mathlib.Core.List.{List, [], _∷_, _++_, append-assoc, append-nil}
 use Prim.Native.Nat.{ℕ, _+_, _-_, _*_, _≤_, _<_}
 use native.Mathlib.Omega.{arith}
-use native.Mathlib.Nat.{le-antisymm, lt-of-lt-of-le, zero-mul, mul-le-mul-right}
+use native.Mathlib.Nat.{le-antisymm, zero-mul, mul-le-mul-right}
 use lib.ListN.{length, replicate, length-append, length-replicate, take-append-drop}
 use lib.Dec.{ltb}
 use borrow.Author.Tests.{le-leb, lt-ltb, le-ltb, not-true, not-false}
@@ -20,7 +20,7 @@ use Rattle.search.specs.Work.Slots.{splice, SlotIn}
 use Rattle.search.specs.Work.Steps.{Placed, Replaced}
 use Rattle.search.proofs.Copies.{splice-splice, splice-cover, slot-below}
 use Rattle.search.proofs.Encoding.{length-slot}
-use Rattle.search.proofs.Candidates.{firsts, firsts-le, firsts-more, firsts-drop, firsts-keep, pieces-are}
+use Rattle.search.proofs.Candidates.{firsts, firsts-le, firsts-drop, firsts-keep, pieces-are}
 
 -- Nothing spliced in leaves the words as they are.
 pub splice-none : (l : List ℕ) (a : ℕ) → l ≡ splice l a []
@@ -66,20 +66,6 @@ module _ (n d : ℕ) (t : List ℕ) (P : Subproblem) (r : List ℕ) (fits : read
       → count ≡ length (firsts n (candidate n (tableOf n d t) P r) k) → count ≡ length (pieces n (tableOf n d t) P r)
   count-end named k count long c h l e =
       e ∙ rw (le-antisymm h l ∙ named-is named c, pieces-are n d t P r fits long) refl
-
-  -- No more than are free, at the end.
-  pub within-free : (count free : ℕ) → count ≡ length (pieces n (tableOf n d t) P r) → count ≤ free
-      → false ≡ ltb free (length (pieces n (tableOf n d t) P r))
-  within-free count free e h = rw (← e) (sym (le-ltb free count h))
-
-  -- More than are free, before the last is seen.
-  pub exceeded : (named k count free : ℕ) → length (P .domains) ≡ 32 → Candidates n r named → k ≤ named → free < count
-      → count ≡ length (firsts n (candidate n (tableOf n d t) P r) k) → true ≡ ltb free (length (pieces n (tableOf n d t) P r))
-  exceeded named k count free long c h l e =
-      let up : k + (named - k) ≡ named = omega arith in
-      let more = firsts-more n (candidate n (tableOf n d t) P r) k (named - k) in
-      rw (pieces-are n d t P r fits long, ← named-is named c)
-      (sym (lt-ltb free (length (firsts n (candidate n (tableOf n d t) P r) named)) (rw up at (lt-of-lt-of-le (rw e at l) more))))
 
   -- No more pieces than candidates.
   pub roomy : (named free : ℕ) → length (P .domains) ≡ 32 → Candidates n r named → named ≤ free

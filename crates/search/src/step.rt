@@ -58,29 +58,33 @@ pub(crate) fn taken(steps: u32, checks: u64, subproblems: usize) -> Stop
     }
 }
 
-// Whether the pieces of a request that are not empty exceed the free slots. They are looked at only where the candidates of the kind do, and
-// counted no further than that.
-fn exceed(top: Subproblem, n: usize, d: usize, tables: &[u16], request: &[u16], free: usize) -> bool
+// How many pieces of a request are not empty.
+fn piece_count(top: Subproblem, n: usize, d: usize, tables: &[u16], request: &[u16]) -> usize
     requires { ⌜ readable n d (now tables) (now request) ≡ true ⌝ }
-    ensures { λ r. ⌜ r ≡ ltb free (length (pieces n (tableOf n d (now (tables .entry))) top (now (request .entry)))) ⌝ }
+    ensures { λ r. ⌜ r ≡ length (pieces n (tableOf n d (now (tables .entry))) top (now (request .entry))) ⌝ }
 {
     let candidates = split::candidates(n, request);
-    if candidates <= free {
-        return false;
-    }
-    let mut left = free;
+    let mut count = 0;
     let mut k = 0;
     while k < candidates {
         let piece = split::piece(top, n, d, tables, request, k);
         if !piece.is_empty(n) {
-            if left == 0 {
-                return true;
-            }
-            left -= 1;
+            count += 1;
         }
         k += 1;
     }
-    false
+    count
+}
+
+// Whether they exceed the free slots. They are counted only where the candidates of the kind do.
+fn exceed(top: Subproblem, n: usize, d: usize, tables: &[u16], request: &[u16], free: usize) -> bool
+    requires { ⌜ readable n d (now tables) (now request) ≡ true ⌝ }
+    ensures { λ r. ⌜ r ≡ ltb free (length (pieces n (tableOf n d (now (tables .entry))) top (now (request .entry)))) ⌝ }
+{
+    if split::candidates(n, request) <= free {
+        return false;
+    }
+    free < piece_count(top, n, d, tables, request)
 }
 
 // The refusal of a request, in the order 11, 7 to 10, 12; 0 for none.
