@@ -6,7 +6,7 @@ use mir.Syntax.{w64}
 use mir.Val.{Fits}
 use Prim.Native.Nat.{ℕ, suc, _+_, _-_, _*_, _/_, _%_, _≤_, _<_}
 use native.Mathlib.Omega.{arith}
-use native.Mathlib.Nat.{le-refl, le-trans, le-add-left, le-add-right, add-le-add, mul-assoc, mul-le-mul, mul-le-mul-right, zero-mul, zero-add, add-mul}
+use native.Mathlib.Nat.{le-refl, le-trans, le-add-left, le-add-right, add-le-add, mul-assoc, mul-le-mul, mul-le-mul-right, zero-mul, zero-add, add-zero, add-mul}
 use native.Mathlib.Numerals.{add-one}
 use native.Mathlib.Decide.{decLt}
 use lib.ListN.{length, getD, take, drop, set, replicate, length-append, length-drop, length-replicate, take-append-drop, List·getD-eq-default}
@@ -14,11 +14,13 @@ use lib.Seq.{getD-take, getD-drop, drop-cons, append-snoc, set-at, take-at, take
 use borrow.Rule.Slice.PartMut.{putMid, midOf, postOf, post-is, mid-len}
 use Rattle.splits.specs.Problem.{total}
 use Rattle.splits.specs.Splits.{below}
-use Rattle.search.proofs.Copies.{zeros-at, put-part, splice-between}
+use Rattle.search.specs.Work.Slots.{splice}
+use Rattle.search.proofs.Copies.{zeros-at, drop-zeros, put-part, splice-between, splice-splice}
 use Rattle.files.specs.Blocks.{wordAt}
 use Rattle.files.specs.Content.{each}
 use Rattle.files.specs.Reading.{blockWord, contentWord, contentFrom}
 use Rattle.files.specs.Work.Said.{Numbers, allowedIn, pairPart, rowPart, afterPart, tablePart}
+use Rattle.files.specs.Work.Saved.{zeros}
 use Rattle.files.proofs.Lists.{map-length, map-at, map-is, map-same, each-more, each-same, each-split, each-one, each-length, total-const, seq, seq-is, seq-each, seq-join}
 use Rattle.files.proofs.Places.{content-from, length-from}
 use Rattle.files.proofs.Found.{part-words}
@@ -50,7 +52,23 @@ copy-whole src l m k e s h =
     let last : k ≡ length l = s ∙ h in
     e ∙ ap (λ (t : List ℕ). take k src ++ t) (ap (λ (i : ℕ). drop i l) last ∙ drop-length l) ∙ append-nil (take k src) ∙ take-all k src (omega arith)
 
+-- ---- zeros, and words written in their place
+
+pub zeros-long : (l : List ℕ) (k : ℕ) → l ≡ zeros k → length l ≡ k
+unfolding zeros
+zeros-long l k e = ap length e ∙ length-replicate k 0
+
+-- What is written in front of zeros has the others after it.
+pub front-of-zeros : (p : List ℕ) (k : ℕ) → splice (zeros k) 0 p ≡ p ++ replicate (k - length p) 0
+unfolding splice zeros
+front-of-zeros p k = ap (λ (x : List ℕ). p ++ x) (ap (λ (j : ℕ). drop j (replicate k 0)) (zero-add (length p)) ∙ drop-zeros k (length p))
+
 -- ---- a part written after those before it
+
+-- No word is written.
+pub splice-none : (l : List ℕ) (a : ℕ) → splice l a [] ≡ l
+unfolding splice
+splice-none l a = ap (λ (j : ℕ). take a l ++ drop j l) (add-zero a) ∙ take-append-drop a l
 
 -- What a callee left in the part that was lent to it comes after what was written before.
 pub part-more : (p q l m ys : List ℕ) (a w : ℕ) → m ≡ p ++ drop a l → length p ≡ a → ys ≡ q → length q ≡ w → a + w ≤ length l
@@ -106,25 +124,17 @@ content-in block k h =
     let at : 2 + (0 + k) % 253 ≡ 2 + k = omega arith in
     rw (div, at) refl
 
--- A block has 253 words between its first two and its check.
-pub content-count : (block all : List ℕ) → all ≡ map (blockWord block 0) (below 256) → length (take (255 - 2) (drop 2 all)) ≡ 253
-content-count block all e =
-    let long : length all ≡ 256 = ap length e ∙ map-length (blockWord block 0) 256 in
-    length-take-le 253 (drop 2 all) (omega (arith, length-drop 2 all))
-
-pub content-within : (block all : List ℕ) → all ≡ map (blockWord block 0) (below 256) → 255 ≤ length all
-content-within block all e = let long : length all ≡ 256 = ap length e ∙ map-length (blockWord block 0) 256 in omega arith
-
--- They are its content.
-pub content-block : (block all m : List ℕ) → all ≡ map (blockWord block 0) (below 256) → m ≡ take (255 - 2) (drop 2 all) → m ≡ contentFrom block 0 253
+-- The content of a block is its words between the first two and the check.
+content-block : (block : List ℕ) → take (255 - 2) (drop 2 (map (blockWord block 0) (below 256))) ≡ contentFrom block 0 253
 unfolding contentFrom
-content-block block all m e s =
-    s ∙ sym (map-is (λ k. contentWord block (0 + k)) 253 (take 253 (drop 2 all)) (content-count block all e)
+content-block block =
+    let all : List ℕ = map (blockWord block 0) (below 256) in
+    let long : length (take 253 (drop 2 all)) ≡ 253 = length-take-le 253 (drop 2 all) (omega (arith, length-drop 2 all, map-length (blockWord block 0) 256)) in
+    sym (map-is (λ k. contentWord block (0 + k)) 253 (take 253 (drop 2 all)) long
     (λ k h.
-    let at : getD all (2 + k) 0 ≡ blockWord block 0 (2 + k) = ap (λ (l : List ℕ). getD l (2 + k) 0) e ∙ map-at (blockWord block 0) 256 (2 + k) 0 (omega arith) in
-    sym (content-in block k h) ∙ sym (getD-take 253 (drop 2 all) k 0 h ∙ getD-drop 2 all k 0 ∙ at)))
+    sym (content-in block k h) ∙ sym (getD-take 253 (drop 2 all) k 0 h ∙ getD-drop 2 all k 0 ∙ map-at (blockWord block 0) 256 (2 + k) 0 (omega arith))))
 
--- The content of a block is that of its words in the file.
+-- It is that of its words in the file.
 content-part : (file : List ℕ) (b : ℕ) → contentFrom (take ((b * 512 + 512) - b * 512) (drop (b * 512) file)) 0 253 ≡ contentFrom file (b * 253) 253
 unfolding contentFrom contentWord
 content-part file b =
@@ -134,34 +144,16 @@ content-part file b =
     let at : 2 + (b * 253 + k) % 253 ≡ 2 + k = omega arith in
     sym (content-in block k h) ∙ part-words file b (2 + k) (omega arith) ∙ rw (div, at) refl)
 
+-- The content of a block is written.
+pub block-put : (file l m all : List ℕ) (b : ℕ) → all ≡ map (blockWord (take ((b * 512 + 512) - b * 512) (drop (b * 512) file)) 0) (below 256)
+    → m ≡ splice l (b * 253) (take (255 - 2) (drop 2 all)) → m ≡ splice l (b * 253) (contentFrom file (b * 253) 253)
+block-put file l m all b e s =
+    s ∙ ap (splice l (b * 253)) (rw e (content-block (take ((b * 512 + 512) - b * 512) (drop (b * 512) file))) ∙ content-part file b)
+
 -- Words of the content one after the other.
 from-join : (file : List ℕ) (a b : ℕ) → contentFrom file 0 (a + b) ≡ contentFrom file 0 a ++ contentFrom file a b
 unfolding contentFrom seq
 from-join file a b = seq-join (contentWord file) 0 a b ∙ ap (λ (x : ℕ). contentFrom file 0 a ++ contentFrom file x b) (zero-add a)
-
--- No block is read yet.
-pub blocks-none : (file l : List ℕ) → l ≡ contentFrom file 0 (0 * 253) ++ drop (0 * 253) l
-unfolding contentFrom below
-blocks-none file l = refl
-
--- One block more.
-pub blocks-more : (file l m ys : List ℕ) (b : ℕ) → m ≡ contentFrom file 0 (b * 253) ++ drop (b * 253) l
-    → ys ≡ contentFrom (take ((b * 512 + 512) - b * 512) (drop (b * 512) file)) 0 253 → b * 253 + 253 ≤ length l
-    → putMid (b * 253) ((b * 253 + 253) - b * 253) m ys ≡ contentFrom file 0 ((b + 1) * 253) ++ drop ((b + 1) * 253) l
-blocks-more file l m ys b e y h =
-    let up : b * 253 + 253 ≡ (b + 1) * 253 = omega arith in
-    part-more (contentFrom file 0 (b * 253)) (contentFrom file (b * 253) 253) l m ys (b * 253) 253 e (length-from file 0 (b * 253)) (y ∙ content-part file b) (length-from file (b * 253) 253) h
-    ∙ rw (← up, from-join) refl
-
--- The memory stays as long.
-pub blocks-kept : (file l m : List ℕ) (b blocks : ℕ) → m ≡ contentFrom file 0 (b * 253) ++ drop (b * 253) l → b ≤ blocks → length l ≡ blocks * 253 → length m ≡ blocks * 253
-blocks-kept file l m b blocks e h s =
-    ap length e ∙ length-append (contentFrom file 0 (b * 253)) (drop (b * 253) l) ∙ omega (arith, length-from file 0 (b * 253), length-drop (b * 253) l)
-
--- All blocks are read.
-pub blocks-end : (file l m : List ℕ) (b blocks : ℕ) → m ≡ contentFrom file 0 (b * 253) ++ drop (b * 253) l → b ≡ blocks → length l ≡ blocks * 253
-    → m ≡ contentFrom file 0 (blocks * 253)
-blocks-end file l m b blocks e s h = rw (e, s, sym h, drop-length, append-nil) refl
 
 -- Past its blocks the words of a content are zeros.
 pub content-past : (file : List ℕ) (k : ℕ) → length file ≤ k / 253 * 512 → contentWord file k ≡ 0
@@ -193,13 +185,37 @@ content-says file words blocks e h s k = elim (decLt k 25553) [
       List·getD-eq-default words 0 past ∙ sym (content-past file k (omega arith))
 ]
 
--- All words of a file's content, in memory for so many.
-pub content-made : (file l ys zs : List ℕ) (blocks : ℕ) → length file ≡ blocks * 512 → blocks ≤ 101 → length l ≡ 25553 → ys ≡ contentFrom file 0 (blocks * 253)
-    → zs ≡ replicate (length (midOf (blocks * 253) (length (ys ++ drop (blocks * 253) l) - blocks * 253) (ys ++ drop (blocks * 253) l))) 0
-    → putMid (blocks * 253) (length (ys ++ drop (blocks * 253) l) - blocks * 253) (ys ++ drop (blocks * 253) l) zs ≡ contentFrom file 0 25553
-content-made file l ys zs blocks e h s y z =
-    padded-made l ys zs (blocks * 253) (ap length y ∙ length-from file 0 (blocks * 253)) (omega arith) z
-    ∙ rw (y, s) (content-padded file blocks e h)
+-- The blocks passed are read into the words l, which are m now.
+pub record Blocks (file l m : List ℕ) (b : ℕ) : Type 0 where
+  pub passed : b ≤ length file / 512
+  pub long : length m ≡ 25553
+  pub made : m ≡ splice l 0 (contentFrom file 0 (b * 253))
+
+-- None is read yet.
+pub blocks-none : (file l : List ℕ) → l ≡ zeros 25553 → Blocks file l l 0
+unfolding contentFrom below
+blocks-none file l z = record { passed = omega arith; long = zeros-long l 25553 z; made = sym (splice-none l 0) }
+
+-- One block more.
+pub blocks-more : (file l m m′ : List ℕ) (b : ℕ) → l ≡ zeros 25553 → Blocks file l m b → b < length file / 512 → length file / 512 ≤ 101
+    → m′ ≡ splice m (b * 253) (contentFrom file (b * 253) 253) → length m′ ≡ length m → Blocks file l m′ (b + 1)
+blocks-more file l m m′ b z inv h few e same =
+    let up : b * 253 + 253 ≡ (b + 1) * 253 = omega arith in
+    record {
+      passed = omega arith;
+      long = same ∙ inv .long;
+      made = e ∙ rw (inv .made) (splice-splice l 0 (contentFrom file 0 (b * 253)) (contentFrom file (b * 253) 253) (b * 253)
+          (omega (arith, length-from file 0 (b * 253))) (omega (arith, zeros-long l 25553 z)))
+          ∙ ap (splice l 0) (sym (from-join file (b * 253) 253) ∙ ap (contentFrom file 0) up);
+    }
+
+-- All blocks are read, and zeros stand after them.
+pub blocks-end : (file l m : List ℕ) (b : ℕ) → l ≡ zeros 25553 → Blocks file l m b → b ≡ length file / 512 → length file ≡ length file / 512 * 512
+    → length file / 512 ≤ 101 → m ≡ contentFrom file 0 25553
+blocks-end file l m b z inv last whole few =
+    inv .made ∙ rw (z, last, ← content-padded file (length file / 512) whole few)
+    (front-of-zeros (contentFrom file 0 (length file / 512 * 253)) 25553
+    ∙ ap (λ (k : ℕ). contentFrom file 0 (length file / 512 * 253) ++ replicate (25553 - k) 0) (length-from file 0 (length file / 512 * 253)))
 
 -- ---- rows
 
@@ -258,11 +274,11 @@ module _ (words : List ℕ) (n d i : ℕ) where
     own : d ≤ length l
     own = let some : 1 * d ≤ (n - i) * d = mul-le-mul-right d (omega arith) in omega arith
 
-    zeros : ys ≡ replicate d 0
-    zeros = y ∙ ap (λ (x : ℕ). replicate {A = ℕ} x 0) (length-take-le d l own)
+    none-yet : ys ≡ replicate d 0
+    none-yet = y ∙ ap (λ (x : ℕ). replicate {A = ℕ} x 0) (length-take-le d l own)
 
     size : length ys ≡ d
-    size = ap length zeros ∙ length-replicate d 0
+    size = ap length none-yet ∙ length-replicate d 0
 
     count : length (take ((from + (n - (i + 1)) * d) - from) (drop from words)) ≡ (n - (i + 1)) * d
     count = part-long words from ((n - (i + 1)) * d) (omega arith)

@@ -1,8 +1,9 @@
 // Copies of words, and zeros.
 ghost use mathlib.Core.Path.{_≡_};
 ghost use mathlib.Core.List.{_++_};
-ghost use Prim.Native.Nat.{_-_, _≤_};
+ghost use Prim.Native.Nat.{_+_, _-_, _≤_};
 ghost use lib.ListN.{length, replicate};
+ghost use Rattle.search.specs.Work.Slots.{splice};
 
 // A copy.
 pub(crate) fn put_words(words: &[u16], out: &mut [u16])
@@ -14,6 +15,16 @@ pub(crate) fn put_words(words: &[u16], out: &mut [u16])
         out[i] = words[i];
         i += 1;
     }
+}
+
+// A copy in the place of the words from `at` on; where it ends.
+pub(crate) fn put_at(words: &[u16], out: &mut [u16], at: usize) -> usize
+    requires { ⌜ at + length (now words) ≤ length (now out) ⌝ }
+    ensures { λ r. ⌜ (now (out .exit) ≡ splice (now (out .entry)) at (now (words .entry))) × (r ≡ at + length (now (words .entry))) ⌝ }
+{
+    let end = at + words.len();
+    put_words(words, &mut out[at..end]);
+    end
 }
 
 // Zeros.

@@ -6,35 +6,33 @@ use crate::said;
 ghost use mathlib.Core.Path.{_≡_};
 ghost use Prim.Native.Nat.{_+_, _-_, _*_, _/_, _<_, _≤_};
 ghost use lib.ListN.{length};
+ghost use Rattle.search.specs.Work.Slots.{splice};
 ghost use Rattle.files.specs.Reading.{contentFrom};
 ghost use Rattle.files.specs.Work.Said.{Numbers, columnPart, rowPart, afterPart, tablePart, partIn, slotsPart, Lent};
+ghost use Rattle.files.specs.Work.Saved.{zeros};
 
-// The words of the content of so many blocks.
-fn put_blocks(file: &[u8], blocks: usize, words: &mut [u16])
-    requires { ⌜ (length (now file) ≡ blocks * 512) × ((blocks ≤ 101) × (length (now words) ≡ blocks * 253)) ⌝ }
-    ensures { λ r. ⌜ now (words .exit) ≡ contentFrom (now (file .entry)) 0 (blocks * 253) ⌝ }
+// The words of the content of block `b`.
+fn put_block(file: &[u8], b: usize, words: &mut [u16])
+    requires { ⌜ (b < 101) × ((b * 512 + 512 ≤ length (now file)) × (length (now words) ≡ 25553)) ⌝ }
+    ensures { λ r. ⌜ now (words .exit) ≡ splice (now (words .entry)) (b * 253) (contentFrom (now (file .entry)) (b * 253) 253) ⌝ }
 {
-    let mut b = 0;
-    while b < blocks {
-        let at = b * 512;
-        let end = at + 512;
-        let to = b * 253;
-        let last = to + 253;
-        let all = block::words_of(&file[at..end]);
-        copying::put_words(&all[2..255], &mut words[to..last]);
-        b += 1;
-    }
+    let at = b * 512;
+    let end = at + 512;
+    let all = block::words_of(&file[at..end]);
+    copying::put_at(&all[2..255], words, b * 253);
 }
 
-// The words of a file's content, and zeros after them.
+// The words of a file's content, in words that are zeros.
 pub(crate) fn put_content(file: &[u8], words: &mut [u16])
-    requires { ⌜ (length (now file) ≡ length (now file) / 512 * 512) × ((length (now file) / 512 ≤ 101) × (length (now words) ≡ 25553)) ⌝ }
+    requires { ⌜ (length (now file) ≡ length (now file) / 512 * 512) × ((length (now file) / 512 ≤ 101) × (now words ≡ zeros 25553)) ⌝ }
     ensures { λ r. ⌜ now (words .exit) ≡ contentFrom (now (file .entry)) 0 25553 ⌝ }
 {
     let blocks = file.len() / 512;
-    let used = blocks * 253;
-    put_blocks(file, blocks, &mut words[..used]);
-    copying::put_zeros(&mut words[used..]);
+    let mut b = 0;
+    while b < blocks {
+        put_block(file, b, words);
+        b += 1;
+    }
 }
 
 // Rows for columns: the masks of two variables the other way round, 16 of them in loops of that many turns.

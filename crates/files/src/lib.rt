@@ -9,6 +9,7 @@ ghost use mathlib.Core.Path.{_≡_};
 ghost use lib.ListN.{length};
 ghost use Rattle.files.specs.Calls.{Saves, Loads};
 ghost use Rattle.files.specs.Work.Said.{Refused, Read};
+ghost use Rattle.files.specs.Work.Saved.{zeros};
 
 mod block;
 pub mod checksum;
@@ -69,7 +70,7 @@ fn refuse(refusal: u32) -> Loaded
 
 // Room for the content of the largest file, 101 times 253 words, and for its tables.
 fn room_for_content() -> [u16; 25553]
-    ensures { λ r. ⌜ 25553 ≡ length r ⌝ }
+    ensures { λ r. ⌜ r ≡ zeros 25553 ⌝ }
 {
     [0; 25553]
 }

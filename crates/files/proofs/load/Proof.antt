@@ -26,7 +26,7 @@ slice-aggregate-put-content c = search needs
 put-content-requires : tie.Need-put-content-requires
 put-content-requires c κs =
     let whole = file-whole (c .before .before .before .before .before .before .before .before .args .file .now) (sym (c .before .before .before .refusal-of-file .ensures) ∙ c .before .before .if1 .left) in
-    (whole .whole, (whole .few, sym (c .before .room-for-content .ensures)))
+    (whole .whole, (whole .few, c .before .room-for-content .ensures))
 
 slice-aggregate-load-content : tie.Need-slice-aggregate-load-content
 slice-aggregate-load-content c = search needs

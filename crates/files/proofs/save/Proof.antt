@@ -6,6 +6,7 @@ use native.Mathlib.Omega.{arith}
 use Prim.Native.Nat.{_-_}
 use Rattle.files.specs.Reading.{wordCount}
 use Rattle.files.proofs.SaveOutcomes.{first-passed, save-refused, save-short, save-written}
+use Rattle.files.proofs.Filled.{zeros-long}
 use Rattle.files.proofs.save.Statement.{statement}
 use Rattle.files.proofs.save.Tie as tie
 
@@ -34,13 +35,13 @@ slice-aggregate-put : tie.Need-slice-aggregate-put
 slice-aggregate-put c = search needs
 
 put-requires : tie.Need-put-requires
-put-requires c κs = (first-passed _ _ _ _ _ _ (sym (c .before .before .before .before .before .search-refusal .ensures) ∙ c .before .before .before .before .if1 .left), sym (c .before .room-for-content .ensures))
+put-requires c κs = (first-passed _ _ _ _ _ _ (sym (c .before .before .before .before .before .search-refusal .ensures) ∙ c .before .before .before .before .if1 .left), c .before .room-for-content .ensures)
 
 slice-aggregate-put-blocks : tie.Need-slice-aggregate-put-blocks
 slice-aggregate-put-blocks c = search needs
 
 put-blocks-requires : tie.Need-put-blocks-requires
-put-blocks-requires c κs = (c .before .before .before .put .kept .1 .1 .1 .1 .1 .1 .0 ∙ sym (c .before .before .before .before .before .room-for-content .ensures), (omega (arith, c .before .before .before .before .before .before .before .words .ensures .1), c .before .before .before .before .before .before .if2 .left))
+put-blocks-requires c κs = (c .before .before .before .put .kept .1 .1 .1 .1 .1 .1 .0 ∙ zeros-long _ _ (c .before .before .before .before .before .room-for-content .ensures), (omega (arith, c .before .before .before .before .before .before .before .words .ensures .1), c .before .before .before .before .before .before .if2 .left))
 
 same-length : tie.Need-same-length
 same-length c = c .before .before .put-blocks .kept .1 .1 .0
