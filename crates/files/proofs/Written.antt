@@ -23,12 +23,12 @@ use Rattle.files.specs.Reading.{blockWord, headOf, triangleWords, wordCo
 use Rattle.files.specs.Work.Said.{Numbers, partIn}
 use Rattle.files.specs.Calls.{handedContent}
 use Rattle.files.specs.Work.Saved.{zeros, Savable, header, blockPart, filePart}
-use Rattle.files.proofs.Lists.{map-is, each-length, each-none, each-more, total-below, seq, seq-is, padded-at}
+use Rattle.files.proofs.Lists.{map-is, each-length, total-below, seq, seq-is, padded-at}
 use Rattle.files.proofs.Words.{bytes-length, bytes-append, word-read}
 use Rattle.files.proofs.Triangle.{rest, rest-total, total-mul, row, row-length, row-words, triangle-rows, triangle-length}
 use Rattle.files.proofs.Blocks.{content-length, content-at, headed-length, block-length, block-headed, block-check, blocks-length}
 use Rattle.files.proofs.Mirrors.{triangle-few, slots-few, part-at, part-long}
-use Rattle.files.proofs.Filled.{zeros-long, front-of-zeros, splice-none, Part, part-fits, part-more, tables-few}
+use Rattle.files.proofs.Filled.{zeros-long, front-of-zeros, Passed, passed-more, part-more, tables-few}
 
 -- ---- the words of the tables
 
@@ -40,11 +40,6 @@ module _ (n d : ℕ) where
   -- All have as many as the tables.
   pub before-all : before n d n ≡ triangleWords n d
   before-all = total-mul n (rest n) d ∙ ap (λ (x : ℕ). x * d) (rest-total n)
-
-  -- One row more.
-  pub before-next : (i : ℕ) → before n d (i + 1) ≡ before n d i + (n - (i + 1)) * d
-  unfolding total
-  before-next i = rw add-one refl
 
   -- Row i lies within the tables, in the words to write and in those to read.
   before-within : (i : ℕ) → i < n → before n d i + (n - (i + 1)) * d ≤ triangleWords n d
@@ -64,7 +59,8 @@ module _ (n d : ℕ) where
     pub own : Fits w64 (i * n + i)
     pub next : Fits w64 (i * n + i + 1)
     pub row : Fits w64 ((n - (i + 1)) * d)
-    pub part : Part ((i * n + i + 1) * d) ((n - (i + 1)) * d) words
+    pub start : Fits w64 ((i * n + i + 1) * d)
+    pub within : (i * n + i + 1) * d + (n - (i + 1)) * d ≤ words
 
   pub row-in : (i words : ℕ) → Numbers n d × ((words ≡ n * n * d) × (i < n)) → RowIn i words
   row-in i words (s, (e, h)) =
@@ -73,18 +69,19 @@ module _ (n d : ℕ) where
       let more : n - (i + 1) ≤ 32 = omega arith in
       let square : i * n ≤ 32 * 32 = mul-le-mul less few in
       let row : (n - (i + 1)) * d ≤ 32 * 16 = mul-le-mul more (s .values) in
-      let all = tables-few n d s .1 in
+      let all : (i * n + i + 1) * d + (n - (i + 1)) * d ≤ words = rw e (from-within i h) in
       record {
         square = omega arith;
         own = omega arith;
         next = omega arith;
         row = omega arith;
-        part = part-fits ((i * n + i + 1) * d) ((n - (i + 1)) * d) words (rw e (from-within i h)) (rw e (le-trans all (omega arith)));
+        start = omega (arith, tables-few n d s .1);
+        within = all;
       }
 
 module _ (n d : ℕ) (t : List ℕ) where
   -- The rows passed.
-  abbrev pub rows : ℕ → List ℕ
+  abbrev rows : ℕ → List ℕ
   rows i = each (row n d (tableOf n d t)) (below i)
 
   rows-length : (i : ℕ) → length (rows i) ≡ before n d i
@@ -100,44 +97,24 @@ module _ (n d : ℕ) (t : List ℕ) where
       e ∙ sym (seq-is (λ k. getD t k 0) from w (take ((from + w) - from) (drop from t)) (part-long t from w (rw long (from-within n d i h))) (λ k l. sym (part-at t from w k l)))
       ∙ ap (seq (λ k. getD t k 0) from) same ∙ sym (row-words n d t i)
 
-  -- The rows passed are written into the words l from `at` on, which are m now.
-  pub record Rows (l : List ℕ) (at : ℕ) (m : List ℕ) (i end : ℕ) : Type 0 where
-    pub passed : i ≤ n
-    pub ends : end ≡ at + before n d i
-    pub kept : length m ≡ length l
-    pub made : m ≡ splice l at (rows i)
+  module _ (long : length t ≡ n * n * d) (l m : List ℕ) (at i end : ℕ) (room : at + triangleWords n d ≤ length l) (inv : Passed (row n d (tableOf n d t)) l at m i end) where
+    -- There is room for the next row.
+    pub row-room : (w : ℕ) → i < n → w ≡ (n - (i + 1)) * d → end + w ≤ length m
+    row-room w h size = omega (arith, inv .ends, inv .kept, rows-length i, before-within n d i h)
 
-  module _ (long : length t ≡ n * n * d) (l : List ℕ) (at : ℕ) (room : at + triangleWords n d ≤ length l) where
-    -- None is written yet.
-    pub rows-none : Rows l at l 0 at
-    unfolding total
-    rows-none =
-        record { passed = omega arith; ends = omega arith; kept = refl; made = sym (rw (each-none (row n d (tableOf n d t))) (splice-none l at)) }
+    -- One row more.
+    pub rows-more : (m′ ys : List ℕ) (end′ : ℕ) → i < n → ys ≡ partIn t ((i * n + i + 1) * d) ((n - (i + 1)) * d)
+        → m′ ≡ splice m end ys → end′ ≡ end + length ys → length m′ ≡ length m → Passed (row n d (tableOf n d t)) l at m′ (i + 1) end′
+    rows-more m′ ys end′ h y e is-end same =
+        passed-more (row n d (tableOf n d t)) l at m m′ ys i end end′ inv (omega (arith, row-room ((n - (i + 1)) * d) h refl, inv .kept))
+        (row-read long i ys h y) e is-end same
 
-    module _ (m : List ℕ) (i end : ℕ) (inv : Rows l at m i end) where
-      -- There is room for the next.
-      pub row-room : (w : ℕ) → i < n → w ≡ (n - (i + 1)) * d → end + w ≤ length m
-      row-room w h size = omega (arith, inv .ends, inv .kept, before-within n d i h)
-
-      -- One row more.
-      pub rows-more : (m′ ys : List ℕ) (end′ : ℕ) → i < n → ys ≡ partIn t ((i * n + i + 1) * d) ((n - (i + 1)) * d) → length ys ≡ (n - (i + 1)) * d
-          → m′ ≡ splice m end ys → end′ ≡ end + length ys → length m′ ≡ length m → Rows l at m′ (i + 1) end′
-      rows-more m′ ys end′ h y size e is-end same =
-          let within : at + length (rows i) ≤ length l = omega (arith, rows-length i, before-within n d i h) in
-          record {
-            passed = omega arith;
-            ends = omega (arith, before-next n d i, inv .ends);
-            kept = same ∙ inv .kept;
-            made = e ∙ rw (inv .made) (splice-splice l at (rows i) ys end (omega (arith, rows-length i, inv .ends)) (omega (arith, rows-length i, inv .ends)))
-                ∙ ap (splice l at) (ap (λ (x : List ℕ). rows i ++ x) (row-read long i ys h y) ∙ rw add-one (sym (each-more (row n d (tableOf n d t)) i)));
-          }
-
-      -- All rows are written.
-      pub rows-end : i ≡ n → (m ≡ splice l at (triangle n d (tableOf n d t))) × (end ≡ at + triangleWords n d)
-      rows-end last = (
-        inv .made ∙ ap (splice l at) (ap rows last ∙ sym (triangle-rows n d (tableOf n d t))),
-        inv .ends ∙ ap (λ (x : ℕ). at + x) (ap (before n d) last ∙ before-all n d),
-      )
+    -- All rows are written.
+    pub rows-end : i ≡ n → (m ≡ splice l at (triangle n d (tableOf n d t))) × (end ≡ at + triangleWords n d)
+    rows-end last = (
+      inv .made ∙ ap (splice l at) (ap rows last ∙ sym (triangle-rows n d (tableOf n d t))),
+      inv .ends ∙ ap (λ (x : ℕ). at + x) (rows-length i ∙ ap (before n d) last ∙ before-all n d),
+    )
 
 -- ---- the words of the content
 

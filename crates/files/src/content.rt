@@ -8,7 +8,7 @@ ghost use Prim.Native.Nat.{_+_, _-_, _*_, _≤_, _<_};
 ghost use lib.ListN.{length, replicate};
 ghost use Rattle.splits.specs.Problem.{tableOf};
 ghost use Rattle.files.specs.Content.{triangle};
-ghost use Rattle.files.specs.Reading.{triangleWords, agendaFrom, wordCount};
+ghost use Rattle.files.specs.Reading.{saidN, saidD, triangleWords, agendaFrom, wordCount};
 ghost use Rattle.files.specs.Calls.{handedContent};
 ghost use Rattle.search.specs.Work.Slots.{splice};
 ghost use Rattle.files.specs.Work.Said.{Numbers, partIn};
@@ -28,6 +28,15 @@ pub(crate) fn words(n: usize, d: usize, subproblems: usize) -> usize
     ensures { λ r. ⌜ (r ≡ wordCount n d subproblems) × (r ≤ 25385) ⌝ }
 {
     agenda_from(n, d) + subproblems * (n + 2)
+}
+
+// The words of so many slots, in the words of a file's content.
+pub(crate) fn slots<'a>(file: &[u8], words: &'a [u16], count: usize) -> &'a [u16]
+    requires { ⌜ Numbers (saidN (now file)) (saidD (now file)) × ((count ≤ 512) × (length (now words) ≡ 25553)) ⌝ }
+    ensures { λ r. ⌜ (now r ≡ partIn (now (words .entry)) (agendaFrom (saidN (now (file .entry))) (saidD (now (file .entry)))) (count * (saidN (now (file .entry)) + 2))) × (length (now r) ≡ count * (saidN (now (file .entry)) + 2)) ⌝ }
+{
+    let n = said::n(file);
+    copying::part(words, agenda_from(n, said::d(file)), count * (n + 2))
 }
 
 // The nine words before the domains: n, d, the steps in two words and the checks in four, high first, the number of subproblems.
@@ -55,9 +64,7 @@ fn masks_after(n: usize, d: usize, tables: &[u16], i: usize) -> &[u16]
     requires { ⌜ Numbers n d × ((length (now tables) ≡ n * n * d) × (i < n)) ⌝ }
     ensures { λ r. ⌜ (now r ≡ partIn (now (tables .entry)) ((i * n + i + 1) * d) ((n - (i + 1)) * d)) × (length (now r) ≡ (n - (i + 1)) * d) ⌝ }
 {
-    let from = (i * n + i + 1) * d;
-    let to = from + (n - (i + 1)) * d;
-    &tables[from..to]
+    copying::part(tables, (i * n + i + 1) * d, (n - (i + 1)) * d)
 }
 
 // The masks for `i` below `j`, from `at` on; where they end.

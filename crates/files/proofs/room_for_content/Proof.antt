@@ -10,4 +10,7 @@ unfolding zeros
 returns c = refl
 
 pub room-for-content-spec : {M : Type 1} → statement M
-room-for-content-spec = tie.close (tie.spec returns)
+room-for-content-spec =
+    tie.close
+    (tie.spec
+    returns)

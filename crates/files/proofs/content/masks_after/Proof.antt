@@ -1,65 +1,47 @@
 -- `content::masks_after` meets its contract.
 -- Assumes nothing.
 use borrow.Author.Needs.{needs}
-use Rattle.files.proofs.Mirrors.{part-in, part-long}
 use Rattle.files.proofs.Written.{row-in}
-use mathlib.Core.Path.{refl}
 use Rattle.files.proofs.content.masks_after.Statement.{statement}
 use Rattle.files.proofs.content.masks_after.Tie as tie
 
-mul-from : tie.Need-mul-from
-mul-from c = row-in _ _ _ _ (c .pre) .square
+mul-part : tie.Need-mul-part
+mul-part c = row-in _ _ _ _ (c .before .pre) .square
 
-add-from : tie.Need-add-from
-add-from c = row-in _ _ _ _ (c .pre) .own
+add-part : tie.Need-add-part
+add-part c = row-in _ _ _ _ (c .before .pre) .own
 
-add-from-2 : tie.Need-add-from-2
-add-from-2 c = row-in _ _ _ _ (c .pre) .next
+add-part-2 : tie.Need-add-part-2
+add-part-2 c = row-in _ _ _ _ (c .before .pre) .next
 
-mul-from-2 : tie.Need-mul-from-2
-mul-from-2 c = row-in _ _ _ _ (c .pre) .part .start
+mul-part-2 : tie.Need-mul-part-2
+mul-part-2 c = row-in _ _ _ _ (c .before .pre) .start
 
-add-to : tie.Need-add-to
-add-to c = search needs
+add-part-3 : tie.Need-add-part-3
+add-part-3 c = search needs
 
-sub-to : tie.Need-sub-to
-sub-to c = search needs
+sub-part : tie.Need-sub-part
+sub-part c = search needs
 
-mul-to : tie.Need-mul-to
-mul-to c = row-in _ _ _ _ (c .pre) .row
+mul-part-3 : tie.Need-mul-part-3
+mul-part-3 c = row-in _ _ _ _ (c .before .pre) .row
 
-add-to-2 : tie.Need-add-to-2
-add-to-2 c = row-in _ _ _ _ (c .pre) .part .end
-
-mul-result : tie.Need-mul-result
-mul-result c = row-in _ _ _ _ (c .pre) .part .bytes
-
-sub-result : tie.Need-sub-result
-sub-result c = row-in _ _ _ _ (c .pre) .part .rises
-
-part-result-start : tie.Need-part-result-start
-part-result-start c = row-in _ _ _ _ (c .pre) .part .rises
-
-part-result-end : tie.Need-part-result-end
-part-result-end c = row-in _ _ _ _ (c .pre) .part .within
+part-requires : tie.Need-part-requires
+part-requires c κs = row-in _ _ _ _ (c .before .pre) .within
 
 returns : tie.Need-returns
-returns c = (part-in _ _ _ _ refl, part-long _ _ _ (row-in _ _ _ _ (c .before .pre) .part .within))
+returns c = search needs
 
 pub masks-after-spec : {M : Type 1} → statement M
 masks-after-spec =
     tie.close
     (tie.spec
-    mul-from
-    add-from
-    add-from-2
-    mul-from-2
-    add-to
-    sub-to
-    mul-to
-    add-to-2
-    mul-result
-    sub-result
-    part-result-start
-    part-result-end
+    mul-part
+    add-part
+    add-part-2
+    mul-part-2
+    add-part-3
+    sub-part
+    mul-part-3
+    part-requires
     returns)

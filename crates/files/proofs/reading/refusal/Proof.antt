@@ -3,7 +3,7 @@
 use borrow.Author.Needs.{needs}
 use mathlib.Core.Path.{refl, sym, _∙_}
 use native.Mathlib.Omega.{arith}
-use Rattle.files.proofs.Refused.{refused-15, refused-3, slots-last, twelve, none-left, sized-numbers}
+use Rattle.files.proofs.Refused.{refused-15, refused-3, slots-last, twelve, none-left, read-numbers}
 use Rattle.files.proofs.reading.refusal.Statement.{statement}
 use Rattle.files.proofs.reading.refusal.Tie as tie
 
@@ -26,7 +26,9 @@ returns-2 : tie.Need-returns-2
 returns-2 c = refused-3 _ _ _ _ _ _ _ (c .before .before .before .n .ensures) (c .before .before .d .ensures) refl _ (c .before .before .before .before .before .before .before .before .before .pre .read .whole) (sym (c .before .before .before .before .before .refusal-of-rules .ensures) ∙ c .before .before .before .before .if1 .left) (c .before .sizes-refusal .ensures) (c .if2 .taken)
 
 add-if3 : tie.Need-add-if3
-add-if3 c = let s = sized-numbers (c .before .before .before .before .before .before .before .before .before .args .file .now) _ _ _ (c .before .before .before .n .ensures) (c .before .before .d .ensures) refl (c .before .before .before .before .before .before .before .before .before .pre .sized) in omega (arith, s .0 .variables)
+add-if3 c =
+    let pre = c .before .before .before .before .before .before .before .before .before .pre in
+    omega (arith, read-numbers _ _ _ _ (pre .read) (c .before .before .before .n .ensures) (c .before .before .d .ensures) .0 .variables)
 
 div-if3 : tie.Need-div-if3
 div-if3 c = search needs
