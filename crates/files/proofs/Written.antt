@@ -119,9 +119,9 @@ module _ (n d : ℕ) (t : List ℕ) where
 -- ---- the words of the content
 
 -- Nine words come first.
-pub header-long : (n d : ℕ) (s : State) (l : List ℕ) → l ≡ header n d s → length l ≡ 9
+header-long : (n d : ℕ) (s : State) → length (header n d s) ≡ 9
 unfolding header
-header-long n d s l e = ap length e
+header-long n d s = refl
 
 module _ (n d : ℕ) (domains tables agenda : List ℕ) (s : State) (hands : Savable n d domains tables agenda s) where
   -- The masks for i below j, how many words the used slots are, and these.
@@ -148,7 +148,7 @@ module _ (n d : ℕ) (domains tables agenda : List ℕ) (s : State) (hands : Sav
         arith,
         length-append (header n d s ++ domains) masks,
         length-append (header n d s) domains,
-        header-long n d s (header n d s) refl,
+        header-long n d s,
         hands .domains-words,
         triangle-length n d (tableOf n d tables),
         used-length,
@@ -168,21 +168,22 @@ module _ (n d : ℕ) (domains tables agenda : List ℕ) (s : State) (hands : Sav
         rw (length-stackOf n agenda (s .subproblems), stack-of-words n agenda (s .subproblems) (hands .agenda-words) small) refl
 
     -- Written one after the other where zeros stood, they are the content, and zeros after it.
-    pub content-put : (l first l₁ l₂ l₃ l₄ : List ℕ) (a b c : ℕ) → l ≡ zeros 25553 → first ≡ header n d s → l₁ ≡ splice l 0 first → a ≡ 0 + length first
-        → l₂ ≡ splice l₁ a domains → b ≡ a + length domains → l₃ ≡ splice l₂ b masks → c ≡ b + triangleWords n d → l₄ ≡ splice l₃ c slots
+    pub content-put : (l l₁ l₂ l₃ l₄ : List ℕ) (a b c : ℕ) → l ≡ zeros 25553 → (l₁ ≡ splice l 0 (header n d s)) × (a ≡ 9)
+        → (l₂ ≡ splice l₁ a domains) × (b ≡ a + length domains) → (l₃ ≡ splice l₂ b masks) × (c ≡ b + triangleWords n d) → l₄ ≡ splice l₃ c slots
         → l₄ ≡ handedContent n d domains tables agenda s ++ replicate (25553 - wordCount n d (s .subproblems)) 0
-    content-put l first l₁ l₂ l₃ l₄ a b c z h e₁ is-a e₂ is-b e₃ is-c e₄ =
+    content-put l l₁ l₂ l₃ l₄ a b c z (e₁, is-a) (e₂, is-b) (e₃, is-c) e₄ =
+        let first : List ℕ = header n d s in
         let long : length l ≡ 25553 = zeros-long l 25553 z in
-        let nine : length first ≡ 9 = header-long n d s first h in
+        let nine : length first ≡ 9 = header-long n d s in
         let size : length masks ≡ triangleWords n d = triangle-length n d (tableOf n d tables) in
         let two : l₂ ≡ splice l 0 (first ++ domains) =
-        e₂ ∙ rw e₁ (splice-splice l 0 first domains a (sym is-a) (omega (arith, few))) in
+        e₂ ∙ rw e₁ (splice-splice l 0 first domains a (omega arith) (omega arith)) in
         let three : l₃ ≡ splice l 0 (first ++ domains ++ masks) =
         e₃ ∙ rw two (splice-splice l 0 (first ++ domains) masks b (omega (arith, length-append first domains)) (omega (arith, hands .domains-words, few))) in
         let all : l₄ ≡ splice l 0 (first ++ domains ++ masks ++ slots) =
         e₄ ∙ rw three (splice-splice l 0 (first ++ domains ++ masks) slots c
         (omega (arith, length-append first domains, length-append (first ++ domains) masks)) (omega (arith, hands .domains-words, few))) in
-        all ∙ rw (z, h, ← four-length, parts) (front-of-zeros four 25553)
+        all ∙ rw (z, ← four-length, parts) (front-of-zeros four 25553)
 
     -- How many words they are.
     pub handed-length : length (handedContent n d domains tables agenda s) ≡ wordCount n d (s .subproblems)

@@ -19,13 +19,13 @@ fn is_good(block: &[u8], number: usize, blocks: usize) -> bool
     requires { ⌜ length (now block) ≡ 512 ⌝ }
     ensures { λ r. ⌜ r ≡ goodIn (now (block .entry)) number blocks ⌝ }
 {
-    if (block::word_in(block, 0) as usize) != number {
+    if (block::word(block, 0) as usize) != number {
         return false;
     }
-    if (block::word_in(block, 1) as usize) != blocks {
+    if (block::word(block, 1) as usize) != blocks {
         return false;
     }
-    block::word_in(block, 255) == checksum::check(block)
+    block::word(block, 255) == checksum::check(block)
 }
 
 // Whether every block is good.

@@ -8,44 +8,35 @@ use Rattle.files.proofs.Written.{used-length, few, content-put}
 use Rattle.files.proofs.content.put.Statement.{statement}
 use Rattle.files.proofs.content.put.Tie as tie
 
-header-requires : tie.Need-header-requires
-header-requires c κs = search needs
-
 add-used : tie.Need-add-used
 add-used c = search needs
 
 mul-used : tie.Need-mul-used
 mul-used c = search needs
 
-slice-aggregate-put-at : tie.Need-slice-aggregate-put-at
-slice-aggregate-put-at c = search needs
+put-header-requires : tie.Need-put-header-requires
+put-header-requires c κs =
+    let pre = c .before .before .before .before .before .before .pre in
+    (pre .0 .numbers, (pre .0 .few, omega (arith, zeros-long _ _ (pre .1))))
 
 put-at-requires : tie.Need-put-at-requires
 put-at-requires c κs =
-    let pre = c .before .before .before .before .before .before .before .before .pre in
-    omega (arith, zeros-long _ _ (pre .1))
-
-put-at-requires-2 : tie.Need-put-at-requires-2
-put-at-requires-2 c κs =
-    let pre = c .before .before .before .before .before .before .before .before .before .before .before .before .pre in
+    let pre = c .before .before .before .before .before .before .before .before .before .before .pre in
     omega (arith, zeros-long _ _ (pre .1), few _ _ _ _ _ _ (pre .0))
 
 put-masks-requires : tie.Need-put-masks-requires
 put-masks-requires c κs =
-    let b4 = c .before .before .before .before in
-    let pre = b4 .before .before .before .before .before .before .before .before .before .before .before .before .pre in
+    let pre = c .before .before .before .before .before .before .before .before .before .before .before .before .before .before .pre in
     (pre .0 .numbers, (pre .0 .tables-words, omega (arith, zeros-long _ _ (pre .1), few _ _ _ _ _ _ (pre .0))))
 
-slice-aggregate-put-at-2 : tie.Need-slice-aggregate-put-at-2
-slice-aggregate-put-at-2 c =
-    let b8 = c .before .before .before .before .before .before .before .before in
-    let pre = b8 .before .before .before .before .before .before .before .before .before .before .before .before .pre in
+slice-aggregate-put-at : tie.Need-slice-aggregate-put-at
+slice-aggregate-put-at c =
+    let pre = c .before .before .before .before .before .before .before .before .before .before .before .before .before .before .before .before .before .before .pre in
     sym (used-length _ _ _ _ _ _ (pre .0))
 
-put-at-requires-3 : tie.Need-put-at-requires-3
-put-at-requires-3 c κs =
-    let b9 = c .before .before .before .before .before .before .before .before .before in
-    let pre = b9 .before .before .before .before .before .before .before .before .before .before .before .before .pre in
+put-at-requires-2 : tie.Need-put-at-requires-2
+put-at-requires-2 c κs =
+    let pre = c .before .before .before .before .before .before .before .before .before .before .before .before .before .before .before .before .before .before .before .pre in
     omega (arith, zeros-long _ _ (pre .1), few _ _ _ _ _ _ (pre .0), used-length _ _ _ _ _ _ (pre .0))
 
 same-length : tie.Need-same-length
@@ -53,28 +44,24 @@ same-length c = search needs
 
 returns : tie.Need-returns
 returns c =
-    let small = c .before .before .before .before .before .before .before .before .before .before .before .before .before .before .before .before .before .before .before .before .before .shared-slice-known3 .given in
     let three = c .before .before .before .before .before .before .before in
     let two = three .before .before .before .before in
     let one = two .before .before .before .before in
-    let first = one .before .before .before .before in
-    let pre = first .before .before .before .before .before .pre in
-    content-put _ _ _ _ _ _ (pre .0) (λ i. omega (arith, small i)) _ _ _ _ _ _ _ _ _ (pre .1) (first .header .ensures)
-    (one .put-at .ensures .0) (one .put-at .ensures .1) (two .put-at2 .ensures .0) (two .put-at2 .ensures .1)
-    (three .put-masks .ensures .0) (three .put-masks .ensures .1) (c .before .before .put-at3 .ensures .0)
+    let start = one .before .before .before .before .before .before in
+    let pre = start .before .pre in
+    content-put _ _ _ _ _ _ (pre .0) (λ i. omega (arith, one .before .before .before .before .shared-slice-known3 .given i)) _ _ _ _ _ _ _ _ (pre .1)
+    (one .put-header .ensures) (two .put-at .ensures) (three .put-masks .ensures) (c .before .before .put-at2 .ensures .0)
 
 pub put-spec : {M : Type 1} → statement M
 put-spec =
     tie.close
     (tie.spec
-    header-requires
     add-used
     mul-used
-    slice-aggregate-put-at
+    put-header-requires
     put-at-requires
-    put-at-requires-2
     put-masks-requires
-    slice-aggregate-put-at-2
-    put-at-requires-3
+    slice-aggregate-put-at
+    put-at-requires-2
     same-length
     returns)
