@@ -168,13 +168,12 @@ module _ (n d : ℕ) (domains tables agenda : List ℕ) (s : State) (hands : Sav
         rw (length-stackOf n agenda (s .subproblems), stack-of-words n agenda (s .subproblems) (hands .agenda-words) small) refl
 
     -- Written one after the other where zeros stood, they are the content, and zeros after it.
-    pub content-put : (l l₁ l₂ l₃ l₄ : List ℕ) (a b c : ℕ) → l ≡ zeros 25553 → (l₁ ≡ splice l 0 (header n d s)) × (a ≡ 9)
+    pub content-put : (l l₁ l₂ l₃ l₄ first : List ℕ) (a b c : ℕ) → l ≡ zeros 25553 → first ≡ header n d s → (l₁ ≡ splice l 0 first) × (a ≡ 0 + length first)
         → (l₂ ≡ splice l₁ a domains) × (b ≡ a + length domains) → (l₃ ≡ splice l₂ b masks) × (c ≡ b + triangleWords n d) → l₄ ≡ splice l₃ c slots
         → l₄ ≡ handedContent n d domains tables agenda s ++ replicate (25553 - wordCount n d (s .subproblems)) 0
-    content-put l l₁ l₂ l₃ l₄ a b c z (e₁, is-a) (e₂, is-b) (e₃, is-c) e₄ =
-        let first : List ℕ = header n d s in
+    content-put l l₁ l₂ l₃ l₄ first a b c z h (e₁, is-a) (e₂, is-b) (e₃, is-c) e₄ =
         let long : length l ≡ 25553 = zeros-long l 25553 z in
-        let nine : length first ≡ 9 = header-long n d s in
+        let nine : length first ≡ 9 = ap length h ∙ header-long n d s in
         let size : length masks ≡ triangleWords n d = triangle-length n d (tableOf n d tables) in
         let two : l₂ ≡ splice l 0 (first ++ domains) =
         e₂ ∙ rw e₁ (splice-splice l 0 first domains a (omega arith) (omega arith)) in
@@ -183,7 +182,7 @@ module _ (n d : ℕ) (domains tables agenda : List ℕ) (s : State) (hands : Sav
         let all : l₄ ≡ splice l 0 (first ++ domains ++ masks ++ slots) =
         e₄ ∙ rw three (splice-splice l 0 (first ++ domains ++ masks) slots c
         (omega (arith, length-append first domains, length-append (first ++ domains) masks)) (omega (arith, hands .domains-words, few))) in
-        all ∙ rw (z, ← four-length, parts) (front-of-zeros four 25553)
+        all ∙ rw (z, h, ← four-length, parts) (front-of-zeros four 25553)
 
     -- How many words they are.
     pub handed-length : length (handedContent n d domains tables agenda s) ≡ wordCount n d (s .subproblems)

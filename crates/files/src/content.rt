@@ -39,14 +39,14 @@ pub(crate) fn slots<'a>(file: &[u8], words: &'a [u16], count: usize) -> &'a [u16
     copying::part(words, agenda_from(n, said::d(file)), count * (n + 2))
 }
 
-// The nine words before the domains: n, d, the steps in two words and the checks in four, high first, the number of subproblems; where they end.
-fn put_header(n: usize, d: usize, state: State, words: &mut [u16]) -> usize
-    requires { ⌜ Numbers n d × ((state .subproblems ≤ 512) × (9 ≤ length (now words))) ⌝ }
-    ensures { λ r. ⌜ (now (words .exit) ≡ splice (now (words .entry)) 0 (header n d state)) × (r ≡ 9) ⌝ }
+// The nine words before the domains: n, d, the steps in two words and the checks in four, high first, the number of subproblems.
+fn header(n: usize, d: usize, state: State) -> [u16; 9]
+    requires { ⌜ Numbers n d × (state .subproblems ≤ 512) ⌝ }
+    ensures { λ r. ⌜ r ≡ header n d state ⌝ }
 {
     let steps = state.counts.steps.0;
     let checks = state.counts.checks.0;
-    let first = [
+    [
         n as u16,
         d as u16,
         (steps / 65536) as u16,
@@ -56,8 +56,7 @@ fn put_header(n: usize, d: usize, state: State, words: &mut [u16]) -> usize
         (checks / 65536 % 65536) as u16,
         (checks % 65536) as u16,
         state.subproblems as u16,
-    ];
-    copying::put_at(&first[..9], words, 0)
+    ]
 }
 
 // The masks of `i` with the variables after it, which stand together.
@@ -95,8 +94,9 @@ pub(crate) fn put(
     requires { ⌜ Savable n d (now domains) (now tables) (now agenda) state × (now words ≡ zeros 25553) ⌝ }
     ensures { λ r. ⌜ now (words .exit) ≡ handedContent n d (now (domains .entry)) (now (tables .entry)) (now (agenda .entry)) state ++ replicate (25553 - wordCount n d (state .subproblems)) 0 ⌝ }
 {
+    let first = header(n, d, state);
     let used = state.subproblems * (n + 2);
-    let at = put_header(n, d, state, words);
+    let at = copying::put_at(&first[..9], words, 0);
     let at = copying::put_at(domains, words, at);
     let at = put_masks(n, d, tables, words, at);
     copying::put_at(&agenda[..used], words, at);
