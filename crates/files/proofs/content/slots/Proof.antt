@@ -18,10 +18,14 @@ add-part : tie.Need-add-part
 add-part c = search needs
 
 mul-part : tie.Need-mul-part
-mul-part c = slots-fit _ _ _ (c .before .before .before .before .before .pre .0) (c .before .before .before .before .before .pre .1 .0) _ _ _ (c .before .before .n .ensures) (c .before .d .ensures) (c .agenda-from .ensures)
+mul-part c =
+    let pre = c .before .before .before .before .before .pre in
+    slots-fit _ _ _ (pre .0) (pre .1 .0) _ _ _ (c .before .before .n .ensures) (c .before .d .ensures) (c .agenda-from .ensures)
 
 part-requires : tie.Need-part-requires
-part-requires c κs = slots-within _ _ _ (c .before .before .before .before .before .pre .0) (c .before .before .before .before .before .pre .1 .0) _ _ _ (c .before .before .n .ensures) (c .before .d .ensures) (c .agenda-from .ensures) _ (c .before .before .before .before .before .pre .1 .1)
+part-requires c κs =
+    let pre = c .before .before .before .before .before .pre in
+    slots-within _ _ _ (pre .0) (pre .1 .0) _ _ _ (c .before .before .n .ensures) (c .before .d .ensures) (c .agenda-from .ensures) _ (pre .1 .1)
 
 returns : tie.Need-returns
 returns c =

@@ -23,7 +23,12 @@ sizes-refusal-requires : tie.Need-sizes-refusal-requires
 sizes-refusal-requires c κs = tt
 
 returns-2 : tie.Need-returns-2
-returns-2 c = refused-3 _ _ _ _ _ _ _ (c .before .before .before .n .ensures) (c .before .before .d .ensures) refl _ (c .before .before .before .before .before .before .before .before .before .pre .read .whole) (sym (c .before .before .before .before .before .refusal-of-rules .ensures) ∙ c .before .before .before .before .if1 .left) (c .before .sizes-refusal .ensures) (c .if2 .taken)
+returns-2 c =
+    let n = c .before .before .before in
+    let passed = n .before in
+    let rules = sym (passed .before .refusal-of-rules .ensures) ∙ passed .if1 .left in
+    let pre = passed .before .before .before .before .before .pre in
+    refused-3 _ _ _ _ _ _ _ (n .n .ensures) (c .before .before .d .ensures) refl _ (pre .read .whole) rules (c .before .sizes-refusal .ensures) (c .if2 .taken)
 
 add-if3 : tie.Need-add-if3
 add-if3 c =
@@ -37,10 +42,22 @@ subproblems-requires : tie.Need-subproblems-requires
 subproblems-requires c κs = search needs
 
 returns-3 : tie.Need-returns-3
-returns-3 c = slots-last _ _ _ _ _ _ _ (c .before .before .before .before .before .n .ensures) (c .before .before .before .before .d .ensures) (c .before .subproblems .ensures) _ _ (c .before .before .before .before .before .before .before .before .before .before .before .pre .read .whole) (sym (c .before .before .before .before .before .before .before .refusal-of-rules .ensures) ∙ c .before .before .before .before .before .before .if1 .left) (c .before .before .before .sizes-refusal .ensures) (c .before .before .if2 .left) (twelve _ _ _ (c .if3 .taken))
+returns-3 c =
+    let n = c .before .before .before .before .before in
+    let passed = n .before in
+    let rules = sym (passed .before .refusal-of-rules .ensures) ∙ passed .if1 .left in
+    let pre = passed .before .before .before .before .before .pre in
+    slots-last _ _ _ _ _ _ _ (n .n .ensures) (c .before .before .before .before .d .ensures) (c .before .subproblems .ensures) _ _ (pre .read .whole) rules
+    (c .before .before .before .sizes-refusal .ensures) (c .before .before .if2 .left) (twelve _ _ _ (c .if3 .taken))
 
 returns-4 : tie.Need-returns-4
-returns-4 c = slots-last _ _ _ _ _ _ _ (c .before .before .before .before .before .n .ensures) (c .before .before .before .before .d .ensures) (c .before .subproblems .ensures) _ _ (c .before .before .before .before .before .before .before .before .before .before .before .pre .read .whole) (sym (c .before .before .before .before .before .before .before .refusal-of-rules .ensures) ∙ c .before .before .before .before .before .before .if1 .left) (c .before .before .before .sizes-refusal .ensures) (c .before .before .if2 .left) (none-left _ _ _ (c .if3 .left))
+returns-4 c =
+    let n = c .before .before .before .before .before in
+    let passed = n .before in
+    let rules = sym (passed .before .refusal-of-rules .ensures) ∙ passed .if1 .left in
+    let pre = passed .before .before .before .before .before .pre in
+    slots-last _ _ _ _ _ _ _ (n .n .ensures) (c .before .before .before .before .d .ensures) (c .before .subproblems .ensures) _ _ (pre .read .whole) rules
+    (c .before .before .before .sizes-refusal .ensures) (c .before .before .if2 .left) (none-left _ _ _ (c .if3 .left))
 
 pub refusal-spec : {M : Type 1} → statement M
 refusal-spec =
