@@ -1,6 +1,6 @@
 -- Memory that load and save fill from the front: the words of the content, columns, rows, copies with zeros after them.
 -- Assumes nothing.
-use mathlib.Core.Path.{_≡_, refl, sym, ap, ap₂, _∙_}
+use mathlib.Core.Path.{_≡_, refl, sym, ap, _∙_}
 use mathlib.Core.List.{List, [], _∷_, _++_, map, map-append, append-assoc, append-nil}
 use mir.Syntax.{w64}
 use mir.Val.{Fits}
@@ -321,10 +321,6 @@ module _ (words : List ℕ) (n d i : ℕ) where
       let whole : n ≡ i + (n - i) = omega arith in
       sym (ap (λ (k : ℕ). each (λ k. pairPart words n d i k d) (below k)) whole ∙ each-split (λ k. pairPart words n d i k d) i (n - i))
 
-  after-length : length (afterPart words n d i) ≡ (n - i) * d
-  unfolding afterPart
-  after-length = each-length (λ k. pairPart words n d i (i + k) d) (λ k. d) (n - i) (λ k l. pair-length (i + k) d) ∙ total-const (n - i) d
-
 -- ---- the tables
 
 -- Zeros are passed over.
@@ -402,18 +398,6 @@ module _ (words : List ℕ) (n d : ℕ) where
   unfolding tablePart
   tables-end l m i end inv last =
       (inv .made ∙ ap (λ (k : ℕ). splice l 0 (each (λ k. rowPart words n d k n) (below k))) last, inv .ends ∙ omega (arith, table-length i ∙ ap (λ (k : ℕ). k * (n * d)) last))
-
--- A part of so many words from a place on: what is worked out to lend it fits, and it lies within.
-pub record Part (at width long : ℕ) : Type 0 where
-  pub start : Fits w64 at
-  pub end : Fits w64 (at + width)
-  pub bytes : Fits w64 (at * 2)
-  pub rises : at ≤ at + width
-  pub within : at + width ≤ long
-
-pub part-fits : (at width long : ℕ) → at + width ≤ long → long ≤ 65536 → Part at width long
-part-fits at width long h few =
-    record { start = omega arith; end = omega arith; bytes = omega arith; rises = omega arith; within = h }
 
 -- The pairs that stand before are those counted.
 pub after-read : (words ws : List ℕ) (n d i p : ℕ) → p ≡ total i (λ h. n - suc h) → ws ≡ partIn words (9 + n + p * d) ((n - (i + 1)) * d)

@@ -2,7 +2,7 @@
 -- Assumes nothing.
 use mathlib.Core.Path.{_≡_, refl, sym, ap, ap₂, _∙_}
 use mathlib.Core.Bool.{Bool, true, false, not, and-false}
-use mathlib.Core.List.{List, map}
+use mathlib.Core.List.{List}
 use Prim.Native.Nat.{ℕ, _+_, _-_, _*_, _/_, _≤_, _<_}
 use native.Mathlib.Omega.{arith}
 use lib.ListN.{length, getD, take, drop}
@@ -10,12 +10,11 @@ use lib.Seq.{getD-take, getD-drop}
 use lib.Dec.{eqb, leb}
 use borrow.Author.Tests.{le-leb, lt-leb, eq-eqb, ne-eqb}
 use Rattle.splits.specs.Subproblems.{every}
-use Rattle.splits.specs.Splits.{below}
 use Rattle.search.proofs.FirstLoops.{every-stop, every-turn}
 use Rattle.files.specs.Blocks.{wordAt, checkOf, blocksFor}
 use Rattle.files.specs.Reading.{blockWord, headOf, contentWord, saidN, saidD, saidSubproblems, goodBlock, refusalOfFile}
 use Rattle.files.specs.Work.Said.{goodIn, valueAt, numbersSaid, zeroIn, filled}
-use Rattle.files.proofs.Lists.{map-at, map-same}
+use Rattle.files.proofs.Lists.{map-same}
 
 -- ---- the words of a block
 

@@ -2,7 +2,6 @@
 -- Assumes nothing.
 use borrow.Author.Needs.{needs}
 use mathlib.Core.Path.{ap, _∙_}
-use native.Mathlib.Omega.{arith}
 use Rattle.files.specs.Work.Said.{partIn}
 use Rattle.files.proofs.Mirrors.{slots-room, slots-put}
 use Rattle.files.proofs.filling.put_search.Statement.{statement}
