@@ -24,7 +24,7 @@ use Rattle.search.proofs.FirstPassing.{search-is-passed}
 use Rattle.files.specs.Blocks.{blocksFor}
 use Rattle.files.specs.Reading.{blocksIn, contentWord, contentFrom, saidN, saidD, saidSteps, saidChecks, saidSubproblems, saidDomains, saidAllowed, saidAgenda, saidSearch, saidWords, agendaFrom, tableWords, refusalOfWords}
 use Rattle.files.specs.Promises.{Bytes}
-use Rattle.files.specs.Work.Said.{Numbers, StateSaid, numbersSaid, zeroIn, filled, sizedIn, Read, Ready}
+use Rattle.files.specs.Work.Said.{Numbers, StateSaid, numbersSaid, zeroIn, filled, sizedIn, Read, Ready, partIn}
 use Rattle.files.proofs.Lists.{seq, seq-join, map-is}
 use Rattle.files.proofs.Triangle.{table-other}
 use Rattle.files.proofs.Stacks.{slots-in}
@@ -41,8 +41,8 @@ use Rattle.files.proofs.Refused.{sized-numbers}
 -- ---- parts of the words read
 
 -- A part of them is so many words of the content.
-pub part-read : (file words : List ℕ) → Read file words → (from w : ℕ) → from + w ≤ 25553 → take ((from + w) - from) (drop from words) ≡ contentFrom file from w
-unfolding contentFrom
+pub part-read : (file words : List ℕ) → Read file words → (from w : ℕ) → from + w ≤ 25553 → partIn words from w ≡ contentFrom file from w
+unfolding contentFrom partIn
 part-read file words read from w h =
     sym (map-is (λ k. contentWord file (from + k)) w (take ((from + w) - from) (drop from words)) (part-long words from w (omega (arith, read .long)))
     (λ k l. sym (read .says (from + k)) ∙ sym (part-at words from w k l)))
@@ -175,33 +175,28 @@ module _ (file : List ℕ) (small : Bytes file) (whole : Whole file) (sized : si
 
 -- ---- as the code makes them
 
-module _ (file words tables : List ℕ) (small : Bytes file) (ready : Ready file words tables) (n d from r : ℕ) (s : State) (is-n : n ≡ saidN file)
-    (is-d : d ≡ saidD file) (is-from : from ≡ agendaFrom n d) (said : StateSaid file s)
-    (is-r : r ≡ searchRefusal n d (take ((9 + n) - 9) (drop 9 words)) tables (take ((from + 512 * (n + 2)) - from) (drop from words)) (s .counts .steps .0) (s .counts .checks .0) (s .subproblems)) where
-  pub sized-parts : Numbers n d × (saidSubproblems file ≤ 512)
-  sized-parts = sized-numbers file n d (saidSubproblems file) is-n is-d refl (ready .sized)
+module _ (file words tables ds slots : List ℕ) (small : Bytes file) (ready : Ready file words tables) (n d r : ℕ) (s : State) (is-n : n ≡ saidN file)
+    (is-d : d ≡ saidD file) (is-ds : ds ≡ partIn words 9 n) (is-slots : slots ≡ partIn words (agendaFrom (saidN file) (saidD file)) (512 * (saidN file + 2)))
+    (said : StateSaid file s) (is-r : r ≡ searchRefusal n d ds tables slots (s .counts .steps .0) (s .counts .checks .0) (s .subproblems)) where
+  fitting : Numbers (saidN file) (saidD file) × (saidSubproblems file ≤ 512)
+  fitting = sized-numbers file (saidN file) (saidD file) (saidSubproblems file) refl refl refl (ready .read .sized)
 
-  domains-read : take ((9 + n) - 9) (drop 9 words) ≡ saidDomains file
-  domains-read = part-read file words (ready .read) 9 n (omega (arith, sized-parts .0 .variables)) ∙ ap (contentFrom file 9) is-n
+  domains-read : ds ≡ saidDomains file
+  domains-read = is-ds ∙ part-read file words (ready .read) 9 n (omega (arith, fitting .0 .variables)) ∙ ap (contentFrom file 9) is-n
 
-  start-few : from ≤ 7977
-  start-few = omega (arith, triangle-few n d (sized-parts .0), sized-parts .0 .variables)
-
-  start-is : from ≡ agendaFrom (saidN file) (saidD file)
-  start-is = is-from ∙ rw (is-n, is-d) refl
-
-  slots-read : take ((from + 512 * (n + 2)) - from) (drop from words) ≡ agendaOf (saidN file) (512 * (saidN file + 2)) (saidSearch file .stack)
+  slots-read : slots ≡ agendaOf (saidN file) (512 * (saidN file + 2)) (saidSearch file .stack)
   slots-read =
-      part-read file words (ready .read) from (512 * (n + 2)) (omega (arith, start-few, sized-parts .0 .variables))
-      ∙ rw (start-is, is-n) (memory-is file small (file-whole file (ready .read .whole)) (ready .sized))
+      is-slots ∙ part-read file words (ready .read) (agendaFrom (saidN file) (saidD file)) (512 * (saidN file + 2))
+      (omega (arith, triangle-few (saidN file) (saidD file) (fitting .0), fitting .0 .variables))
+      ∙ memory-is file small (file-whole file (ready .read .whole)) (ready .read .sized)
 
-  made : r ≡ checked file small (file-whole file (ready .read .whole)) (ready .sized)
+  made : r ≡ checked file small (file-whole file (ready .read .whole)) (ready .read .sized)
   made = is-r ∙ rw (domains-read, slots-read, ready .made, said .steps, said .checks, said .subproblems, is-n, is-d) refl
 
   -- They pass.
   pub rules-kept : r ≡ 0 → 0 ≡ refusalOfWords file
-  rules-kept z = passes-none file small (file-whole file (ready .read .whole)) (ready .sized) (sym made ∙ z)
+  rules-kept z = passes-none file small (file-whole file (ready .read .whole)) (ready .read .sized) (sym made ∙ z)
 
   -- They refuse.
   pub rules-broken : (r ≡ 0 → ⊥) → 15 ≡ refusalOfWords file
-  rules-broken f = refused-given file small (file-whole file (ready .read .whole)) (ready .sized) (λ z. f (made ∙ z))
+  rules-broken f = refused-given file small (file-whole file (ready .read .whole)) (ready .read .sized) (λ z. f (made ∙ z))

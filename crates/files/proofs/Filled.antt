@@ -1,28 +1,30 @@
 -- Memory that load and save fill from the front: the words of the content, columns, rows, copies with zeros after them.
 -- Assumes nothing.
-use mathlib.Core.Path.{_≡_, refl, sym, ap, ap₂, _∙_}
+use mathlib.Core.Path.{_≡_, refl, sym, ap, _∙_}
 use mathlib.Core.List.{List, [], _∷_, _++_, map, map-append, append-assoc, append-nil}
 use mir.Syntax.{w64}
 use mir.Val.{Fits}
 use Prim.Native.Nat.{ℕ, suc, _+_, _-_, _*_, _/_, _%_, _≤_, _<_}
 use native.Mathlib.Omega.{arith}
-use native.Mathlib.Nat.{le-refl, le-trans, le-add-left, le-add-right, add-le-add, mul-assoc, mul-le-mul, mul-le-mul-right, zero-mul, zero-add, add-mul}
+use native.Mathlib.Nat.{mul-assoc, mul-le-mul, mul-le-mul-right, zero-add, add-zero, add-mul}
 use native.Mathlib.Numerals.{add-one}
 use native.Mathlib.Decide.{decLt}
-use lib.ListN.{length, getD, take, drop, set, replicate, length-append, length-drop, length-replicate, take-append-drop, List·getD-eq-default}
+use lib.ListN.{length, getD, take, drop, set, replicate, length-append, length-drop, length-replicate, replicate-append-replicate, take-append-drop, List·getD-eq-default}
 use lib.Seq.{getD-take, getD-drop, drop-cons, append-snoc, set-at, take-at, take-all, drop-drop, drop-length, length-take-le}
 use borrow.Rule.Slice.PartMut.{putMid, midOf, postOf, post-is, mid-len}
 use Rattle.splits.specs.Problem.{total}
 use Rattle.splits.specs.Splits.{below}
-use Rattle.search.proofs.Copies.{zeros-at, put-part, splice-between}
+use Rattle.search.specs.Work.Slots.{splice}
+use Rattle.search.proofs.Copies.{zeros-at, drop-zeros, put-part, splice-between, splice-splice}
 use Rattle.files.specs.Blocks.{wordAt}
 use Rattle.files.specs.Content.{each}
-use Rattle.files.specs.Reading.{blockWord, contentWord, contentFrom}
-use Rattle.files.specs.Work.Said.{Numbers, allowedIn, pairPart, rowPart, afterPart, tablePart}
+use Rattle.files.specs.Reading.{blockWord, contentWord, contentFrom, trianglePlace}
+use Rattle.files.specs.Work.Said.{Numbers, allowedIn, columnPart, pairPart, rowPart, afterPart, tablePart, partIn}
+use Rattle.files.specs.Work.Saved.{zeros}
 use Rattle.files.proofs.Lists.{map-length, map-at, map-is, map-same, each-more, each-same, each-split, each-one, each-length, total-const, seq, seq-is, seq-each, seq-join}
 use Rattle.files.proofs.Places.{content-from, length-from}
 use Rattle.files.proofs.Found.{part-words}
-use Rattle.files.proofs.Mirrors.{after-within, part-at, part-long, pair-zeros, mask-at}
+use Rattle.files.proofs.Mirrors.{after-within, part-at, pair-turned, pair-zeros, mask-at}
 
 -- ---- values written one after the other
 
@@ -50,7 +52,46 @@ copy-whole src l m k e s h =
     let last : k ≡ length l = s ∙ h in
     e ∙ ap (λ (t : List ℕ). take k src ++ t) (ap (λ (i : ℕ). drop i l) last ∙ drop-length l) ∙ append-nil (take k src) ∙ take-all k src (omega arith)
 
+-- ---- zeros, and words written in their place
+
+pub zeros-long : (l : List ℕ) (k : ℕ) → l ≡ zeros k → length l ≡ k
+unfolding zeros
+zeros-long l k e = ap length e ∙ length-replicate k 0
+
+-- What is written in front of zeros has the others after it.
+pub front-of-zeros : (p : List ℕ) (k : ℕ) → splice (zeros k) 0 p ≡ p ++ replicate (k - length p) 0
+unfolding splice zeros
+front-of-zeros p k = ap (λ (x : List ℕ). p ++ x) (ap (λ (j : ℕ). drop j (replicate k 0)) (zero-add (length p)) ∙ drop-zeros k (length p))
+
 -- ---- a part written after those before it
+
+-- No word is written.
+pub splice-none : (l : List ℕ) (a : ℕ) → splice l a [] ≡ l
+unfolding splice
+splice-none l a = ap (λ (j : ℕ). take a l ++ drop j l) (add-zero a) ∙ take-append-drop a l
+
+-- The parts f 0 to f (i - 1) are written into the words l from `at` to `end`, which are m now.
+pub record Passed (f : ℕ → List ℕ) (l : List ℕ) (at : ℕ) (m : List ℕ) (i end : ℕ) : Type 0 where
+  pub ends : end ≡ at + length (each f (below i))
+  pub kept : length m ≡ length l
+  pub made : m ≡ splice l at (each f (below i))
+
+module _ (f : ℕ → List ℕ) (l : List ℕ) (at : ℕ) where
+  -- None is written yet.
+  pub passed-none : Passed f l at l 0 at
+  unfolding each below
+  passed-none = record { ends = omega arith; kept = refl; made = sym (splice-none l at) }
+
+  -- One part more.
+  pub passed-more : (m m′ ys : List ℕ) (i end end′ : ℕ) → Passed f l at m i end → end ≤ length l → ys ≡ f i → m′ ≡ splice m end ys → end′ ≡ end + length ys
+      → length m′ ≡ length m → Passed f l at m′ (i + 1) end′
+  passed-more m m′ ys i end end′ inv h y e is-end same =
+      let next : each f (below i) ++ ys ≡ each f (below (i + 1)) = rw (y, add-one) (sym (each-more f i)) in
+      record {
+        ends = is-end ∙ omega (arith, inv .ends, length-append (each f (below i)) ys, ap length next);
+        kept = same ∙ inv .kept;
+        made = e ∙ rw (inv .made) (splice-splice l at (each f (below i)) ys end (sym (inv .ends)) h) ∙ ap (splice l at) next;
+      }
 
 -- What a callee left in the part that was lent to it comes after what was written before.
 pub part-more : (p q l m ys : List ℕ) (a w : ℕ) → m ≡ p ++ drop a l → length p ≡ a → ys ≡ q → length q ≡ w → a + w ≤ length l
@@ -106,25 +147,17 @@ content-in block k h =
     let at : 2 + (0 + k) % 253 ≡ 2 + k = omega arith in
     rw (div, at) refl
 
--- A block has 253 words between its first two and its check.
-pub content-count : (block all : List ℕ) → all ≡ map (blockWord block 0) (below 256) → length (take (255 - 2) (drop 2 all)) ≡ 253
-content-count block all e =
-    let long : length all ≡ 256 = ap length e ∙ map-length (blockWord block 0) 256 in
-    length-take-le 253 (drop 2 all) (omega (arith, length-drop 2 all))
-
-pub content-within : (block all : List ℕ) → all ≡ map (blockWord block 0) (below 256) → 255 ≤ length all
-content-within block all e = let long : length all ≡ 256 = ap length e ∙ map-length (blockWord block 0) 256 in omega arith
-
--- They are its content.
-pub content-block : (block all m : List ℕ) → all ≡ map (blockWord block 0) (below 256) → m ≡ take (255 - 2) (drop 2 all) → m ≡ contentFrom block 0 253
+-- The content of a block is its words between the first two and the check.
+content-block : (block : List ℕ) → take (255 - 2) (drop 2 (map (blockWord block 0) (below 256))) ≡ contentFrom block 0 253
 unfolding contentFrom
-content-block block all m e s =
-    s ∙ sym (map-is (λ k. contentWord block (0 + k)) 253 (take 253 (drop 2 all)) (content-count block all e)
+content-block block =
+    let all : List ℕ = map (blockWord block 0) (below 256) in
+    let long : length (take 253 (drop 2 all)) ≡ 253 = length-take-le 253 (drop 2 all) (omega (arith, length-drop 2 all, map-length (blockWord block 0) 256)) in
+    sym (map-is (λ k. contentWord block (0 + k)) 253 (take 253 (drop 2 all)) long
     (λ k h.
-    let at : getD all (2 + k) 0 ≡ blockWord block 0 (2 + k) = ap (λ (l : List ℕ). getD l (2 + k) 0) e ∙ map-at (blockWord block 0) 256 (2 + k) 0 (omega arith) in
-    sym (content-in block k h) ∙ sym (getD-take 253 (drop 2 all) k 0 h ∙ getD-drop 2 all k 0 ∙ at)))
+    sym (content-in block k h) ∙ sym (getD-take 253 (drop 2 all) k 0 h ∙ getD-drop 2 all k 0 ∙ map-at (blockWord block 0) 256 (2 + k) 0 (omega arith))))
 
--- The content of a block is that of its words in the file.
+-- It is that of its words in the file.
 content-part : (file : List ℕ) (b : ℕ) → contentFrom (take ((b * 512 + 512) - b * 512) (drop (b * 512) file)) 0 253 ≡ contentFrom file (b * 253) 253
 unfolding contentFrom contentWord
 content-part file b =
@@ -134,34 +167,16 @@ content-part file b =
     let at : 2 + (b * 253 + k) % 253 ≡ 2 + k = omega arith in
     sym (content-in block k h) ∙ part-words file b (2 + k) (omega arith) ∙ rw (div, at) refl)
 
+-- The content of a block is written.
+pub block-put : (file l m all : List ℕ) (b : ℕ) → all ≡ map (blockWord (take ((b * 512 + 512) - b * 512) (drop (b * 512) file)) 0) (below 256)
+    → m ≡ splice l (b * 253) (take (255 - 2) (drop 2 all)) → m ≡ splice l (b * 253) (contentFrom file (b * 253) 253)
+block-put file l m all b e s =
+    s ∙ ap (splice l (b * 253)) (rw e (content-block (take ((b * 512 + 512) - b * 512) (drop (b * 512) file))) ∙ content-part file b)
+
 -- Words of the content one after the other.
 from-join : (file : List ℕ) (a b : ℕ) → contentFrom file 0 (a + b) ≡ contentFrom file 0 a ++ contentFrom file a b
 unfolding contentFrom seq
 from-join file a b = seq-join (contentWord file) 0 a b ∙ ap (λ (x : ℕ). contentFrom file 0 a ++ contentFrom file x b) (zero-add a)
-
--- No block is read yet.
-pub blocks-none : (file l : List ℕ) → l ≡ contentFrom file 0 (0 * 253) ++ drop (0 * 253) l
-unfolding contentFrom below
-blocks-none file l = refl
-
--- One block more.
-pub blocks-more : (file l m ys : List ℕ) (b : ℕ) → m ≡ contentFrom file 0 (b * 253) ++ drop (b * 253) l
-    → ys ≡ contentFrom (take ((b * 512 + 512) - b * 512) (drop (b * 512) file)) 0 253 → b * 253 + 253 ≤ length l
-    → putMid (b * 253) ((b * 253 + 253) - b * 253) m ys ≡ contentFrom file 0 ((b + 1) * 253) ++ drop ((b + 1) * 253) l
-blocks-more file l m ys b e y h =
-    let up : b * 253 + 253 ≡ (b + 1) * 253 = omega arith in
-    part-more (contentFrom file 0 (b * 253)) (contentFrom file (b * 253) 253) l m ys (b * 253) 253 e (length-from file 0 (b * 253)) (y ∙ content-part file b) (length-from file (b * 253) 253) h
-    ∙ rw (← up, from-join) refl
-
--- The memory stays as long.
-pub blocks-kept : (file l m : List ℕ) (b blocks : ℕ) → m ≡ contentFrom file 0 (b * 253) ++ drop (b * 253) l → b ≤ blocks → length l ≡ blocks * 253 → length m ≡ blocks * 253
-blocks-kept file l m b blocks e h s =
-    ap length e ∙ length-append (contentFrom file 0 (b * 253)) (drop (b * 253) l) ∙ omega (arith, length-from file 0 (b * 253), length-drop (b * 253) l)
-
--- All blocks are read.
-pub blocks-end : (file l m : List ℕ) (b blocks : ℕ) → m ≡ contentFrom file 0 (b * 253) ++ drop (b * 253) l → b ≡ blocks → length l ≡ blocks * 253
-    → m ≡ contentFrom file 0 (blocks * 253)
-blocks-end file l m b blocks e s h = rw (e, s, sym h, drop-length, append-nil) refl
 
 -- Past its blocks the words of a content are zeros.
 pub content-past : (file : List ℕ) (k : ℕ) → length file ≤ k / 253 * 512 → contentWord file k ≡ 0
@@ -193,15 +208,50 @@ content-says file words blocks e h s k = elim (decLt k 25553) [
       List·getD-eq-default words 0 past ∙ sym (content-past file k (omega arith))
 ]
 
--- All words of a file's content, in memory for so many.
-pub content-made : (file l ys zs : List ℕ) (blocks : ℕ) → length file ≡ blocks * 512 → blocks ≤ 101 → length l ≡ 25553 → ys ≡ contentFrom file 0 (blocks * 253)
-    → zs ≡ replicate (length (midOf (blocks * 253) (length (ys ++ drop (blocks * 253) l) - blocks * 253) (ys ++ drop (blocks * 253) l))) 0
-    → putMid (blocks * 253) (length (ys ++ drop (blocks * 253) l) - blocks * 253) (ys ++ drop (blocks * 253) l) zs ≡ contentFrom file 0 25553
-content-made file l ys zs blocks e h s y z =
-    padded-made l ys zs (blocks * 253) (ap length y ∙ length-from file 0 (blocks * 253)) (omega arith) z
-    ∙ rw (y, s) (content-padded file blocks e h)
+-- The blocks passed are read into the words l, which are m now.
+pub record Blocks (file l m : List ℕ) (b : ℕ) : Type 0 where
+  pub passed : b ≤ length file / 512
+  pub long : length m ≡ 25553
+  pub made : m ≡ splice l 0 (contentFrom file 0 (b * 253))
+
+-- None is read yet.
+pub blocks-none : (file l : List ℕ) → l ≡ zeros 25553 → Blocks file l l 0
+unfolding contentFrom below
+blocks-none file l z = record { passed = omega arith; long = zeros-long l 25553 z; made = sym (splice-none l 0) }
+
+-- One block more.
+pub blocks-more : (file l m m′ : List ℕ) (b : ℕ) → l ≡ zeros 25553 → Blocks file l m b → b < length file / 512 → length file / 512 ≤ 101
+    → m′ ≡ splice m (b * 253) (contentFrom file (b * 253) 253) → length m′ ≡ length m → Blocks file l m′ (b + 1)
+blocks-more file l m m′ b z inv h few e same =
+    let up : b * 253 + 253 ≡ (b + 1) * 253 = omega arith in
+    record {
+      passed = omega arith;
+      long = same ∙ inv .long;
+      made = e ∙ rw (inv .made) (splice-splice l 0 (contentFrom file 0 (b * 253)) (contentFrom file (b * 253) 253) (b * 253)
+          (omega (arith, length-from file 0 (b * 253))) (omega (arith, zeros-long l 25553 z)))
+          ∙ ap (splice l 0) (sym (from-join file (b * 253) 253) ∙ ap (contentFrom file 0) up);
+    }
+
+-- All blocks are read, and zeros stand after them.
+pub blocks-end : (file l m : List ℕ) (b : ℕ) → l ≡ zeros 25553 → Blocks file l m b → b ≡ length file / 512 → length file ≡ length file / 512 * 512
+    → length file / 512 ≤ 101 → m ≡ contentFrom file 0 25553
+blocks-end file l m b z inv last whole few =
+    inv .made ∙ rw (z, last, ← content-padded file (length file / 512) whole few)
+    (front-of-zeros (contentFrom file 0 (length file / 512 * 253)) 25553
+    ∙ ap (λ (k : ℕ). contentFrom file 0 (length file / 512 * 253) ++ replicate (25553 - k) 0) (length-from file 0 (length file / 512 * 253)))
 
 -- ---- rows
+
+-- A part of so many words lies within so many more.
+pub part-within : (k n w : ℕ) → k < n → k * w + w ≤ n * w
+part-within k n w h = let up : (k + 1) * w ≤ n * w = mul-le-mul-right w (omega arith) in omega arith
+
+-- The masks of all tables are few.
+pub tables-few : (n d : ℕ) → Numbers n d → (n * n ≤ 1024) × (n * n * d ≤ 16384)
+tables-few n d s =
+    let square : n * n ≤ 32 * 32 = mul-le-mul (s .variables) (s .variables) in
+    let all : n * n * d ≤ 1024 * 16 = mul-le-mul square (s .values) in
+    (square, all)
 
 -- The masks of i with the variables after it stand together.
 pairs-together : (words : List ℕ) (n d i p from : ℕ) → p ≡ total i (λ h. n - suc h) → from ≡ 9 + n + p * d
@@ -224,278 +274,144 @@ module _ (words : List ℕ) (n d i : ℕ) where
   unfolding rowPart
   row-length j = each-length (λ k. pairPart words n d i k d) (λ k. d) j (λ k l. pair-length k d) ∙ total-const j d
 
-  -- No pair is written yet.
-  pub row-none : (l : List ℕ) → l ≡ rowPart words n d i 0 ++ drop (0 * d) l
-  unfolding rowPart below each
-  row-none l = rw zero-mul refl
+  -- One pair more in memory, which was turned.
+  module _ (l m : List ℕ) (at j end : ℕ) (h : j < i) (room : at + i * d ≤ length l) (inv : Passed (λ k. pairPart words n d i k d) l at m j end) where
+    pairs-ends : end ≡ at + j * d
+    unfolding rowPart
+    pairs-ends = inv .ends ∙ ap (λ (x : ℕ). at + x) (row-length j)
 
-  -- One pair more of a row.
-  next-pair : (j : ℕ) → rowPart words n d i (suc j) ≡ rowPart words n d i j ++ pairPart words n d i j d
-  unfolding rowPart
-  next-pair j = each-more (λ k. pairPart words n d i k d) j
+    pub pair-room : end + d ≤ length m
+    pair-room = omega (arith, part-within j i d h, pairs-ends, inv .kept)
 
-  -- One pair more in memory.
-  pub row-more : (l m ys : List ℕ) (j : ℕ) → m ≡ rowPart words n d i j ++ drop (j * d) l → ys ≡ pairPart words n d i j d → j * d + d ≤ length l
-      → putMid (j * d) ((j * d + d) - j * d) m ys ≡ rowPart words n d i (j + 1) ++ drop ((j + 1) * d) l
-  row-more l m ys j e y h =
-      let up : j * d + d ≡ (j + 1) * d = omega arith in
-      part-more (rowPart words n d i j) (pairPart words n d i j d) l m ys (j * d) d e (row-length j) y (pair-length j d) h
-      ∙ rw (← up, add-one, next-pair) refl
-
-  -- The memory stays as long.
-  pub row-kept : (l m : List ℕ) (j k : ℕ) → m ≡ rowPart words n d i j ++ drop (j * d) l → j ≤ k → length l ≡ k * d → length m ≡ k * d
-  row-kept l m j k e h s =
-      let within : j * d ≤ k * d = mul-le-mul-right d h in
-      ap length e ∙ length-append (rowPart words n d i j) (drop (j * d) l) ∙ omega (arith, row-length j, length-drop (j * d) l)
+    pub pairs-more : (m′ rows : List ℕ) (from end′ : ℕ) → from ≡ 9 + n + trianglePlace n d j i 0 → rows ≡ partIn words from d → length rows ≡ d
+        → m′ ≡ splice m end (columnPart rows (length rows)) → end′ ≡ end + length rows → length m′ ≡ length m
+        → Passed (λ k. pairPart words n d i k d) l at m′ (j + 1) end′
+    pairs-more m′ rows from end′ is-from r size e is-end same =
+        let turned : columnPart rows (length rows) ≡ pairPart words n d i j d = pair-turned words n d j i from is-from rows r size h in
+        let long : length (columnPart rows (length rows)) ≡ d = ap length turned ∙ pair-length j d in
+        passed-more (λ k. pairPart words n d i k d) l at m m′ (columnPart rows (length rows)) j end end′ inv (omega (arith, pair-room, inv .kept)) turned e
+        (omega (arith, size, long)) same
 
   -- All are written.
-  pub row-end : (l m : List ℕ) (j k : ℕ) → m ≡ rowPart words n d i j ++ drop (j * d) l → j ≡ k → length l ≡ k * d → m ≡ rowPart words n d i k
-  row-end l m j k e s h = rw (e, s, sym h, drop-length, append-nil) refl
+  pub pairs-end : (l m : List ℕ) (at j end : ℕ) → Passed (λ k. pairPart words n d i k d) l at m j end → j ≡ i
+      → (m ≡ splice l at (rowPart words n d i i)) × (end ≡ at + i * d)
+  unfolding rowPart
+  pairs-end l m at j end inv last =
+      (inv .made ∙ ap (λ (k : ℕ). splice l at (each (λ k. pairPart words n d i k d) (below k))) last, inv .ends ∙ ap (λ (x : ℕ). at + x) (row-length j ∙ ap (λ (k : ℕ). k * d) last))
 
   -- Zeros, and the masks that stand together.
-  module _ (l ys : List ℕ) (long : length l ≡ (n - i) * d) (h : i < n) (y : ys ≡ replicate (length (take d l)) 0) (p from : ℕ) (words-long : length words ≡ 25553)
-      (within : from + (n - (i + 1)) * d ≤ 7977) where
-    own : d ≤ length l
-    own = let some : 1 * d ≤ (n - i) * d = mul-le-mul-right d (omega arith) in omega arith
-
-    zeros : ys ≡ replicate d 0
-    zeros = y ∙ ap (λ (x : ℕ). replicate {A = ℕ} x 0) (length-take-le d l own)
-
-    size : length ys ≡ d
-    size = ap length zeros ∙ length-replicate d 0
-
-    count : length (take ((from + (n - (i + 1)) * d) - from) (drop from words)) ≡ (n - (i + 1)) * d
-    count = part-long words from ((n - (i + 1)) * d) (omega arith)
-
-    -- What is left for the masks.
-    pub after-rest : length (take ((from + (n - (i + 1)) * d) - from) (drop from words)) ≡ length (midOf d (length (ys ++ drop d l) - d) (ys ++ drop d l))
-    after-rest =
-        let sum : (n - i) * d ≡ (n - (i + 1)) * d + 1 * d = ap (λ (x : ℕ). x * d) (omega arith) ∙ add-mul (n - (i + 1)) 1 d in
-        count ∙ sym (rest-long l ys d size own ∙ omega arith)
-
-    -- Both.
-    pub after-made : (zs : List ℕ) → p ≡ total i (λ h. n - suc h) → from ≡ 9 + n + p * d → zs ≡ take ((from + (n - (i + 1)) * d) - from) (drop from words)
-        → putMid d (length (ys ++ drop d l) - d) (ys ++ drop d l) zs ≡ afterPart words n d i
-    unfolding afterPart
-    after-made zs is-p is-from z =
-        let f : ℕ → List ℕ = λ k. pairPart words n d i (i + k) d in
-        let w : ℕ = (n - (i + 1)) * d in
-        let one : n - i ≡ 1 + (n - suc i) = omega arith in
-        let none : ys ≡ f 0 = pair-zeros words (take d l) ys n d i (i + 0) (length-take-le d l own) (omega arith) (omega arith) y in
-        let rest : zs ≡ each (λ k. f (1 + k)) (below (n - suc i)) =
-        z ∙ sym (seq-is (λ k. getD words k 0) from w (take ((from + w) - from) (drop from words)) count (λ k l. sym (part-at words from w k l)))
-        ∙ ap (seq (λ k. getD words k 0) from) (rw add-one refl) ∙ sym (pairs-together words n d i p from is-p is-from) in
-        front-rest l ys zs d size own ∙ rw (none, rest) (sym (ap (λ (k : ℕ). each f (below k)) one ∙ each-split f 1 (n - suc i) ∙ rw (each-one f) refl))
+  after-made : (ws : List ℕ) → i < n → ws ≡ partIn words (9 + n + total i (λ h. n - suc h) * d) ((n - (i + 1)) * d) → length ws ≡ (n - (i + 1)) * d
+      → replicate d 0 ++ ws ≡ afterPart words n d i
+  unfolding afterPart partIn
+  after-made ws h e size =
+      let f : ℕ → List ℕ = λ k. pairPart words n d i (i + k) d in
+      let from : ℕ = 9 + n + total i (λ h. n - suc h) * d in
+      let w : ℕ = (n - (i + 1)) * d in
+      let one : n - i ≡ 1 + (n - suc i) = omega arith in
+      let none : replicate d 0 ≡ f 0 = pair-zeros words n d i (i + 0) (omega arith) (omega arith) in
+      let rest : ws ≡ each (λ k. f (1 + k)) (below (n - suc i)) =
+      sym (seq-is (λ k. getD words k 0) from w ws size (λ k l. sym (ap (λ (x : List ℕ). getD x k 0) e ∙ part-at words from w k l)))
+      ∙ ap (seq (λ k. getD words k 0) from) (rw add-one refl) ∙ sym (pairs-together words n d i (total i (λ h. n - suc h)) from refl refl) in
+      rw (none, rest) (sym (ap (λ (k : ℕ). each f (below k)) one ∙ each-split f 1 (n - suc i) ∙ rw (each-one f) refl))
 
   -- The row is put together of both.
-  pub row-split : i < n → rowPart words n d i i ++ afterPart words n d i ≡ rowPart words n d i n
+  row-split : i < n → rowPart words n d i i ++ afterPart words n d i ≡ rowPart words n d i n
   unfolding rowPart afterPart
   row-split h =
       let whole : n ≡ i + (n - i) = omega arith in
       sym (ap (λ (k : ℕ). each (λ k. pairPart words n d i k d) (below k)) whole ∙ each-split (λ k. pairPart words n d i k d) i (n - i))
 
-  pub after-length : length (afterPart words n d i) ≡ (n - i) * d
-  unfolding afterPart
-  after-length = each-length (λ k. pairPart words n d i (i + k) d) (λ k. d) (n - i) (λ k l. pair-length (i + k) d) ∙ total-const (n - i) d
-
 -- ---- the tables
 
--- A part of so many words lies within so many more.
-pub part-within : (k n w : ℕ) → k < n → k * w + w ≤ n * w
-part-within k n w h = let up : (k + 1) * w ≤ n * w = mul-le-mul-right w (omega arith) in omega arith
+-- Zeros are passed over.
+zeros-passed : (p : List ℕ) (k d : ℕ) → length p + d ≤ k → splice (zeros k) 0 p ≡ splice (zeros k) 0 (p ++ replicate d 0)
+zeros-passed p k d h = front-of-zeros p k ∙ ap (λ (j : ℕ). p ++ replicate j 0) left ∙ both (k - length (p ++ replicate d 0)) ∙ sym (front-of-zeros (p ++ replicate d 0) k)
+  where
+    left : k - length p ≡ d + (k - length (p ++ replicate d 0))
+    left = omega (arith, length-append p (replicate d 0), length-replicate {A = ℕ} d 0)
+
+    both : (j : ℕ) → p ++ replicate (d + j) 0 ≡ (p ++ replicate d 0) ++ replicate j 0
+    both j = ap (λ (x : List ℕ). p ++ x) (sym (replicate-append-replicate d j 0)) ∙ sym (append-assoc p (replicate d 0) (replicate j 0))
 
 module _ (words : List ℕ) (n d : ℕ) where
-  pub table-none : (l : List ℕ) → l ≡ tablePart words n d 0 ++ drop (0 * (n * d)) l
-  unfolding tablePart below each
-  table-none l = rw zero-mul refl
-
   -- So many rows have so many words.
   table-length : (i : ℕ) → length (tablePart words n d i) ≡ i * (n * d)
   unfolding tablePart
   table-length i = each-length (λ k. rowPart words n d k n) (λ k. n * d) i (λ k l. row-length words n d k n) ∙ total-const i (n * d)
 
-  -- One row more of the tables.
-  next-row : (i : ℕ) → tablePart words n d (suc i) ≡ tablePart words n d i ++ rowPart words n d i n
-  unfolding tablePart
-  next-row i = each-more (λ k. rowPart words n d k n) i
+  -- One row more in memory: the masks of i with those before it, nothing with itself, the rest.
+  module _ (l m : List ℕ) (i end : ℕ) (z : l ≡ zeros 16384) (s : Numbers n d) (h : i < n) (inv : Passed (λ k. rowPart words n d k n) l 0 m i end) where
+    rows-ends : end ≡ i * (n * d)
+    unfolding tablePart
+    rows-ends = inv .ends ∙ omega (arith, table-length i)
 
-  -- One row more in memory: the masks of a variable with those before it, then the rest.
-  module _ (l m xs : List ℕ) (i : ℕ) (e : m ≡ tablePart words n d i ++ drop (i * (n * d)) l) (x : xs ≡ rowPart words n d i i) (h : i < n)
-      (long : length l ≡ n * n * d) where
-    abbrev pub seam : ℕ
-    seam = i * (n * d) + i * d
+    row-width : i * d + d + (n - (i + 1)) * d ≡ n * d
+    row-width =
+        let sum : i + 1 + (n - (i + 1)) ≡ n = omega arith in
+        let all : n * d ≡ (i + 1) * d + (n - (i + 1)) * d = sym (ap (λ (k : ℕ). k * d) sum) ∙ add-mul (i + 1) (n - (i + 1)) d in
+        omega arith
 
-    abbrev pub half : List ℕ
-    half = putMid (i * (n * d)) (seam - i * (n * d)) m xs
+    rows-few : end + n * d ≤ 16384
+    rows-few = omega (arith, part-within i n (n * d) h, rows-ends, mul-assoc n n d, tables-few n d s .1)
 
-    ends : i * (n * d) + n * d ≡ seam + (n - i) * d
-    ends =
-        let sum : i + (n - i) ≡ n = omega arith in
-        let split : n * d ≡ i * d + (n - i) * d = sym (ap (λ (k : ℕ). k * d) sum) ∙ add-mul i (n - i) d in
-        omega (arith, split)
+    long : length m ≡ 16384
+    long = inv .kept ∙ zeros-long l 16384 z
 
-    within : seam + (n - i) * d ≤ length l
-    within = rw (← ends, long, mul-assoc n n d) (part-within i n (n * d) h)
+    pub before-room : end + i * d ≤ length m
+    before-room = omega (arith, rows-few, row-width, long)
 
-    first : half ≡ (tablePart words n d i ++ rowPart words n d i i) ++ drop seam l
-    first =
-        part-more (tablePart words n d i) (rowPart words n d i i) l m xs (i * (n * d)) (i * d) e (table-length i) x (row-length words n d i i)
-        (le-trans (le-add-right seam ((n - i) * d)) within)
+    module _ (own : ℕ) (is-own : own ≡ end + i * d) where
+      pub own-fits : Fits w64 (own + d)
+      own-fits = omega (arith, rows-few, row-width)
 
-    front-long : length (tablePart words n d i ++ rowPart words n d i i) ≡ seam
-    front-long = length-append (tablePart words n d i) (rowPart words n d i i) ∙ ap₂ _+_ (table-length i) (row-length words n d i i)
+      pub after-room : (k w : ℕ) → k ≡ length m → w ≡ (n - (i + 1)) * d → own + d + w ≤ k
+      after-room k w same is-w = omega (arith, rows-few, row-width, long)
 
-    pub half-long : length half ≡ n * n * d
-    half-long =
-        ap length first ∙ length-append (tablePart words n d i ++ rowPart words n d i i) (drop seam l)
-        ∙ rw (front-long, length-drop seam l) (let some = le-trans (le-add-right seam ((n - i) * d)) within in omega (arith, some, long))
-
-    pub half-room : length (midOf seam ((i * (n * d) + n * d) - seam) half) ≡ (n - i) * d
-    half-room =
-        mid-len seam (i * (n * d) + n * d) half (rw (half-long, ← long, ends) within) ∙ ap (λ (k : ℕ). k - seam) ends ∙ omega arith
-
-    pub table-more : (ys : List ℕ) → ys ≡ afterPart words n d i
-        → putMid seam ((i * (n * d) + n * d) - seam) half ys ≡ tablePart words n d (i + 1) ++ drop ((i + 1) * (n * d)) l
-    table-more ys y =
-        let up : seam + (n - i) * d ≡ (i + 1) * (n * d) = sym ends ∙ omega arith in
-        let row : (tablePart words n d i ++ rowPart words n d i i) ++ afterPart words n d i ≡ tablePart words n d (i + 1) =
-        append-assoc (tablePart words n d i) (rowPart words n d i i) (afterPart words n d i)
-        ∙ ap (λ (x : List ℕ). tablePart words n d i ++ x) (row-split words n d i h) ∙ sym (rw add-one (next-row i)) in
-        ap (λ (k : ℕ). putMid seam (k - seam) half ys) ends
-        ∙ part-more (tablePart words n d i ++ rowPart words n d i i) (afterPart words n d i) l half ys seam ((n - i) * d) first front-long y
-        (after-length words n d i) within ∙ ap₂ (λ (x : List ℕ) (k : ℕ). x ++ drop k l) row up
-
-  -- The memory stays as long.
-  pub table-kept : (l m : List ℕ) (i : ℕ) → m ≡ tablePart words n d i ++ drop (i * (n * d)) l → i ≤ n → length l ≡ n * n * d → length m ≡ n * n * d
-  table-kept l m i e h s =
-      let within : i * (n * d) ≤ n * (n * d) = mul-le-mul-right (n * d) h in
-      ap length e ∙ length-append (tablePart words n d i) (drop (i * (n * d)) l) ∙ omega (arith, table-length i, length-drop (i * (n * d)) l)
+      pub rows-more : (m₁ m₂ ws : List ℕ) (end′ : ℕ) → m₁ ≡ splice m end (rowPart words n d i i)
+          → ws ≡ partIn words (9 + n + total i (λ h. n - suc h) * d) ((n - (i + 1)) * d) → length ws ≡ (n - (i + 1)) * d
+          → m₂ ≡ splice m₁ (own + d) ws → end′ ≡ own + d + length ws → length m₁ ≡ length m → length m₂ ≡ length m₁
+          → Passed (λ k. rowPart words n d k n) l 0 m₂ (i + 1) end′
+      rows-more m₁ m₂ ws end′ e₁ w size e₂ is-end kept same =
+          let f : ℕ → List ℕ = λ k. rowPart words n d k n in
+          let t : List ℕ = each f (below i) in
+          let r : List ℕ = rowPart words n d i i in
+          let none : List ℕ = replicate d 0 in
+          let front : length (t ++ r) ≡ own = length-append t r ∙ omega (arith, inv .ends, row-length words n d i i) in
+          let seam : 0 + length ((t ++ r) ++ none) ≡ own + d = omega (arith, length-append (t ++ r) none, length-replicate {A = ℕ} d 0) in
+          let fits : own + d ≤ 16384 = omega (arith, rows-few, row-width) in
+          let first : m₁ ≡ splice l 0 (t ++ r) = e₁ ∙ rw (inv .made) (splice-splice l 0 t r end (sym (inv .ends)) (omega (arith, rows-few, zeros-long l 16384 z))) in
+          let past : m₁ ≡ splice l 0 ((t ++ r) ++ none) = first ∙ rw z (zeros-passed (t ++ r) 16384 d (omega arith)) in
+          let all : m₂ ≡ splice l 0 (((t ++ r) ++ none) ++ ws) =
+          e₂ ∙ rw past (splice-splice l 0 ((t ++ r) ++ none) ws (own + d) seam (omega (arith, zeros-long l 16384 z))) in
+          let row : r ++ (none ++ ws) ≡ f i = ap (λ (x : List ℕ). r ++ x) (after-made words n d i ws h w size) ∙ row-split words n d i h in
+          let whole : ((t ++ r) ++ none) ++ ws ≡ each f (below (i + 1)) =
+          append-assoc (t ++ r) none ws ∙ append-assoc t r (none ++ ws) ∙ ap (λ (x : List ℕ). t ++ x) row ∙ rw add-one (sym (each-more f i)) in
+          record {
+            ends = is-end ∙ omega (arith, ap length whole, length-append ((t ++ r) ++ none) ws);
+            kept = same ∙ kept ∙ inv .kept;
+            made = all ∙ ap (splice l 0) whole;
+          }
 
   -- All are written.
-  pub table-end : (l m : List ℕ) (i : ℕ) → m ≡ tablePart words n d i ++ drop (i * (n * d)) l → i ≡ n → length l ≡ n * n * d → m ≡ tablePart words n d n
-  table-end l m i e s h =
-      let all : n * (n * d) ≡ length l = omega arith in
-      rw (e, s, all, drop-length, append-nil) refl
+  pub tables-end : (l m : List ℕ) (i end : ℕ) → Passed (λ k. rowPart words n d k n) l 0 m i end → i ≡ n
+      → (m ≡ splice l 0 (tablePart words n d n)) × (end ≡ n * (n * d))
+  unfolding tablePart
+  tables-end l m i end inv last =
+      (inv .made ∙ ap (λ (k : ℕ). splice l 0 (each (λ k. rowPart words n d k n) (below k))) last, inv .ends ∙ omega (arith, table-length i ∙ ap (λ (k : ℕ). k * (n * d)) last))
 
--- A part of so many words from a place on: what is worked out to lend it fits, and it lies within.
-pub record Part (at width long : ℕ) : Type 0 where
-  pub start : Fits w64 at
-  pub end : Fits w64 (at + width)
-  pub bytes : Fits w64 (at * 2)
-  pub rises : at ≤ at + width
-  pub within : at + width ≤ long
+-- The pairs that stand before are those counted.
+pub after-read : (words ws : List ℕ) (n d i p : ℕ) → p ≡ total i (λ h. n - suc h) → ws ≡ partIn words (9 + n + p * d) ((n - (i + 1)) * d)
+    → ws ≡ partIn words (9 + n + total i (λ h. n - suc h) * d) ((n - (i + 1)) * d)
+after-read words ws n d i p e s = s ∙ rw e refl
 
-pub part-fits : (at width long : ℕ) → at + width ≤ long → long ≤ 65536 → Part at width long
-part-fits at width long h few =
-    record { start = omega arith; end = omega arith; bytes = omega arith; rises = omega arith; within = h }
-
--- The words of a row are few.
-pub row-few : (n d : ℕ) → Numbers n d → n * d ≤ 512
-row-few n d s = mul-le-mul (s .variables) (s .values)
-
--- So are those of the rows.
-pub rows-few : (n d i : ℕ) → Numbers n d → i ≤ n → i * (n * d) ≤ 16384
-rows-few n d i s h =
-    let few : i ≤ 32 = omega (arith, s .variables) in
-    let all : i * (n * d) ≤ 32 * 512 = mul-le-mul few (row-few n d s) in
-    omega arith
-
--- Those before a variable's own are part of its row.
-pub own-few : (n d i : ℕ) → Numbers n d → i < n → (i * d ≤ n * d) × (n * d ≤ 512)
-own-few n d i s h = (mul-le-mul-right d (omega arith), row-few n d s)
-
--- Words of a content that lie within it are a part of it.
-pub words-part : (from d words : ℕ) → words ≡ 25553 → from + d ≤ 25553 → Part from d words
-words-part from d words e h = part-fits from d words (omega arith) (omega arith)
-
--- So are the masks of a variable with one before it, of those with all before it.
-pub own-part : (n d i j words : ℕ) → Numbers n d → i < n → j < i → words ≡ i * d → Part (j * d) d words
-own-part n d i j words s h l e =
-    let few = own-few n d i s h in
-    part-fits (j * d) d words (rw e (part-within j i d l)) (rw e (le-trans (few .0) (le-trans (few .1) (omega arith))))
-
--- What a row of the tables asks of numbers: the masks before a variable's own place, then the rest.
-pub record TableRow (n d i words : ℕ) : Type 0 where
-  pub own : Fits w64 (i * d)
-  pub before : Part (i * (n * d)) (i * d) words
-  pub end : Fits w64 (i * (n * d) + n * d)
-  pub bytes : Fits w64 ((i * (n * d) + i * d) * 2)
-  pub rises : i * (n * d) + i * d ≤ i * (n * d) + n * d
-  pub within : i * (n * d) + n * d ≤ words
-
-pub table-row : (n d i words : ℕ) → Numbers n d → i < n → words ≡ n * n * d → TableRow n d i words
-table-row n d i words s h e =
-    let all : n * (n * d) ≡ n * n * d = sym (mul-assoc n n d) in
-    let some : i * (n * d) + n * d ≤ words = rw (e, ← all) (part-within i n (n * d) h) in
-    let few : words ≤ 16384 = rw (e, ← all) (rows-few n d n s (le-refl n)) in
-    let less : i * (n * d) + i * d ≤ i * (n * d) + n * d = add-le-add (le-refl (i * (n * d))) (own-few n d i s h .0) in
-    record {
-      own = small (i * d) (le-trans (le-add-left (i * d) (i * (n * d))) (le-trans less (le-trans some few)));
-      before = part-fits (i * (n * d)) (i * d) words (le-trans less some) (le-trans few (omega arith));
-      end = small (i * (n * d) + n * d) (le-trans some few);
-      bytes = twice (i * (n * d) + i * d) (le-trans less (le-trans some few));
-      rises = less;
-      within = some;
-    }
-  where
-    small : (x : ℕ) → x ≤ 16384 → Fits w64 x
-    small x l = omega arith
-
-    twice : (x : ℕ) → x ≤ 16384 → Fits w64 (x * 2)
-    twice x l = omega arith
-
--- A block is such a part of so many.
-pub block-part : (b blocks size words : ℕ) → b < blocks → blocks ≤ 101 → size ≤ 512 → words ≡ blocks * size → Part (b * size) size words
-block-part b blocks size words h few l e =
-    let all : blocks * size ≤ 101 * 512 = mul-le-mul few l in
-    part-fits (b * size) size words (rw e (part-within b blocks size h)) (rw e (le-trans all (omega arith)))
-
--- What is worked out to find the masks of a variable fits.
-pub row-width : (n d : ℕ) → Numbers n d → Fits w64 (n * d)
-row-width n d s = let few = row-few n d s in omega (arith, few)
-
--- Those of a variable with the ones after it, of which so many pairs stand before: where they begin, and how many words.
-pub after-part : (n d i p words : ℕ) → Numbers n d → i < n → p ≡ total i (λ h. n - suc h) → words ≡ 25553 → Part (9 + n + p * d) ((n - (i + 1)) * d) words
-after-part n d i p words s h e k =
-    let few = after-within n d i p s h e in
-    part-fits (9 + n + p * d) ((n - (i + 1)) * d) words (rw k (le-trans few (omega arith))) (omega arith)
-
+-- Those of a variable with the ones after it: what is worked out to find them fits, and they lie within.
 pub record AfterFits (n d i p : ℕ) : Type 0 where
   pub pairs : Fits w64 (p * d)
+  pub start : Fits w64 (9 + n + p * d)
   pub row : Fits w64 ((n - (i + 1)) * d)
+  pub within : 9 + n + p * d + (n - (i + 1)) * d ≤ 25553
 
 pub after-fits : (n d i p : ℕ) → Numbers n d → i < n → p ≡ total i (λ h. n - suc h) → AfterFits n d i p
 after-fits n d i p s h e =
     let few = after-within n d i p s h e in
-    let go : (x y : ℕ) → 9 + n + x + y ≤ 7977 → Fits w64 x × Fits w64 y = λ x y l. (omega arith, omega arith) in
-    let (pairs, row) = go (p * d) ((n - (i + 1)) * d) few in
-    record { pairs = pairs; row = row }
-
--- There is room for those of a variable with itself.
-pub own-fits : (l : List ℕ) (n d i : ℕ) → length l ≡ (n - i) * d → i < n → d ≤ length l
-own-fits l n d i e h = let some : 1 * d ≤ (n - i) * d = mul-le-mul-right d (omega arith) in omega arith
-
--- A part of the words and one of the memory, for the masks of two variables.
-pub turned-fits : (words m : List ℕ) (from at d : ℕ) → length words ≡ 25553 → from + d ≤ 25553 → d ≤ 16 → at + d ≤ length m
-    → (length (take ((from + d) - from) (drop from words)) ≤ 16) × (length (midOf at ((at + d) - at) m) ≡ length (take ((from + d) - from) (drop from words)))
-turned-fits words m from at d e h few within =
-    let size : length (take ((from + d) - from) (drop from words)) ≡ d = part-long words from d (omega arith) in
-    (omega arith, mid-len at (at + d) m within ∙ omega arith)
-
--- The masks of all tables are few.
-pub tables-few : (n d : ℕ) → Numbers n d → (n * n ≤ 1024) × (n * n * d ≤ 16384)
-tables-few n d s =
-    let square : n * n ≤ 32 * 32 = mul-le-mul (s .variables) (s .variables) in
-    let all : n * n * d ≤ 1024 * 16 = mul-le-mul square (s .values) in
-    (square, all)
-
--- The tables stand in the front of the room that was made for them.
-module _ (words ys l : List ℕ) (n d : ℕ) (e : ys ≡ tablePart words n d n) where
-  made-long : length ys ≡ n * n * d
-  made-long = ap length e ∙ table-length words n d n ∙ omega arith
-
-  pub made-fits : n * n * d ≤ length (ys ++ drop (n * n * d) l)
-  made-fits = rw length-append (omega (arith, made-long))
-
-  pub made-count : n * n * d ≡ length (take (n * n * d) (ys ++ drop (n * n * d) l))
-  made-count = sym (ap length (take-at ys (drop (n * n * d) l) (n * n * d) made-long) ∙ made-long)
+    record { pairs = omega arith; start = omega arith; row = omega arith; within = omega arith }

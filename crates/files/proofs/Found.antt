@@ -2,7 +2,7 @@
 -- Assumes nothing.
 use mathlib.Core.Path.{_≡_, refl, sym, ap, ap₂, _∙_}
 use mathlib.Core.Bool.{Bool, true, false, not, and-false}
-use mathlib.Core.List.{List, map}
+use mathlib.Core.List.{List}
 use Prim.Native.Nat.{ℕ, _+_, _-_, _*_, _/_, _≤_, _<_}
 use native.Mathlib.Omega.{arith}
 use lib.ListN.{length, getD, take, drop}
@@ -10,14 +10,13 @@ use lib.Seq.{getD-take, getD-drop}
 use lib.Dec.{eqb, leb}
 use borrow.Author.Tests.{le-leb, lt-leb, eq-eqb, ne-eqb}
 use Rattle.splits.specs.Subproblems.{every}
-use Rattle.splits.specs.Splits.{below}
 use Rattle.search.proofs.FirstLoops.{every-stop, every-turn}
 use Rattle.files.specs.Blocks.{wordAt, checkOf, blocksFor}
 use Rattle.files.specs.Reading.{blockWord, headOf, contentWord, saidN, saidD, saidSubproblems, goodBlock, refusalOfFile}
 use Rattle.files.specs.Work.Said.{goodIn, valueAt, numbersSaid, zeroIn, filled}
-use Rattle.files.proofs.Lists.{map-at, map-same}
+use Rattle.files.proofs.Lists.{map-same}
 
--- ---- the words of a block, and of bytes taken as one
+-- ---- the words of a block
 
 -- Words of the same bytes are the same.
 pub words-same : (l m : List ℕ) (b : ℕ) → ((i : ℕ) → i < 512 → getD l i 0 ≡ getD m (b * 512 + i) 0) → (k : ℕ) → k < 256 → blockWord l 0 k ≡ blockWord m b k
@@ -41,13 +40,6 @@ part-words file b = words-same (take ((b * 512 + 512) - b * 512) (drop (b * 512)
 pub value-of : (bytes : List ℕ) (i x : ℕ) → x ≡ getD bytes i 0 → x ≡ valueAt bytes i
 unfolding valueAt
 value-of bytes i x e = e
-
--- The check of bytes taken as one block is that of the bytes.
-pub check-whole : (bytes block : List ℕ) (r : ℕ) → block ≡ map (valueAt bytes) (below 512) → r ≡ checkOf (headOf block 0) → r ≡ checkOf (headOf bytes 0)
-unfolding valueAt
-check-whole bytes block r e h =
-    let at : (i : ℕ) → i < 512 → getD block i 0 ≡ getD bytes (0 * 512 + i) 0 = λ i q. ap (λ (l : List ℕ). getD l i 0) e ∙ map-at (valueAt bytes) 512 i 0 q ∙ ap (λ (j : ℕ). getD bytes j 0) (omega arith) in
-    h ∙ ap checkOf (heads-same block bytes 0 (words-same block bytes 0 at))
 
 -- ---- 14: one block
 

@@ -2,29 +2,31 @@
 -- Assumes nothing.
 use mathlib.Core.Path.{_≡_, refl, sym, ap, _∙_}
 use mathlib.Core.Bool.{Bool, true, false, cond, _&&_}
-use mathlib.Core.List.{List, _++_}
+use mathlib.Core.List.{List}
 use Prim.Native.Nat.{ℕ, _+_, _-_, _*_, _≤_}
 use native.Mathlib.Omega.{arith}
-use native.Mathlib.Nat.{mul-le-mul-right, div-mul-le-self}
+use native.Mathlib.Nat.{mul-assoc, mul-le-mul-right, div-mul-le-self}
 use native.Mathlib.Decide.{ℕ-discrete}
-use lib.ListN.{length, getD, take, drop}
+use lib.ListN.{length, getD, take, replicate, length-append}
 use lib.Seq.{take-at}
 use lib.Dec.{eqb, ltb}
 use borrow.Author.Tests.{eq-eqb, ne-eqb, eqb-true, ltb-false}
 use Rattle.splits.proofs.Tests.{and-left, and-right}
 use Rattle.search.specs.Agenda.{slotsIn, agendaOf}
+use Rattle.search.specs.Work.Slots.{splice}
 use Rattle.search.specs.FirstChecks.{orElse, wholeSlots, refusalOfLengths}
 use Rattle.search.proofs.FirstParts.{given-if, else-pass}
 use Rattle.files.specs.Reading.{blocksIn, contentWord, contentFrom, saidN, saidD, saidSteps, saidChecks, saidSubproblems, saidDomains, saidAllowed, saidSearch, triangleWords, tableWords, refusalOfFile, refusalOfWords}
 use Rattle.files.specs.Calls.{loadRefusal, Loads}
 use Rattle.files.specs.Promises.{Bytes}
-use Rattle.files.specs.Work.Said.{Numbers, StateSaid, sizedIn, allowedIn, pairPart, rowPart, tablePart, partIn, slotsPart, Lent, Read, Ready, Refused}
+use Rattle.files.specs.Work.Said.{Numbers, sizedIn, allowedIn, pairPart, rowPart, tablePart, partIn, slotsPart, Lent, Read, Ready, Refused, Told}
+use Rattle.files.specs.Work.Saved.{zeros}
 use Rattle.files.specs.declared.saved.Loaded.{Loaded}
 use Rattle.files.proofs.Lists.{each-same, map-same}
 use Rattle.files.proofs.Triangle.{table-length}
 use Rattle.files.proofs.Whole.{file-whole}
 use Rattle.files.proofs.Places.{length-from}
-use Rattle.files.proofs.Filled.{content-says}
+use Rattle.files.proofs.Filled.{front-of-zeros, content-says}
 use Rattle.files.proofs.Mirrors.{triangle-few, slots-few, allowed-self, allowed-said}
 use Rattle.files.proofs.Refused.{numbers-passed}
 use Rattle.files.proofs.Checked.{part-read, agenda-said}
@@ -95,18 +97,31 @@ tables-said file words t n d says is-n is-d e =
     e ∙ rw (is-n, is-d) (each-same _ _ (saidN file) (λ i l. each-same _ _ (saidN file) (λ j q. map-same _ _ (saidD file) (λ a p. mask-said file words says i j a))))
 
 -- The words that were read say the content.
-pub content-read : (file words : List ℕ) → refusalOfFile file ≡ 0 → words ≡ contentFrom file 0 25553 → Read file words
-content-read file words e h =
+pub content-read : (file words : List ℕ) → refusalOfFile file ≡ 0 → sizedIn file ≡ true → words ≡ contentFrom file 0 25553 → Read file words
+content-read file words e sized h =
     let whole = file-whole file e in
-    record { whole = e; long = ap length h ∙ length-from file 0 25553; says = content-says file words (blocksIn file) (whole .whole) (whole .few) h }
+    record { whole = e; sized = sized; long = ap length h ∙ length-from file 0 25553; says = content-says file words (blocksIn file) (whole .whole) (whole .few) h }
 
 -- What was made stands in the front of the room for it.
-pub made-ready : (file words ys l : List ℕ) (n d masks : ℕ) → Read file words → sizedIn file ≡ true → n ≡ saidN file → d ≡ saidD file
-    → masks ≡ n * n * d → ys ≡ tablePart words n d n → Ready file words (take masks (ys ++ drop masks l))
-made-ready file words ys l n d masks read sized is-n is-d is-masks e =
-    let made : ys ≡ tableWords (saidN file) (saidD file) (saidAllowed file) = tables-said file words ys n d (read .says) is-n is-d e in
-    let long : length ys ≡ masks = ap length made ∙ table-length (saidN file) (saidD file) (saidAllowed file) ∙ sym (is-masks ∙ rw (is-n, is-d) refl) in
-    record { read = read; sized = sized; made = take-at ys (drop masks l) masks long ∙ made }
+module _ (file words l m : List ℕ) (n d count : ℕ) (read : Read file words) (is-n : n ≡ saidN file) (is-d : d ≡ saidD file) (z : l ≡ zeros 16384)
+    (e : m ≡ splice l 0 (tablePart words n d n)) (is-count : count ≡ n * (n * d)) where
+  made : tablePart words n d n ≡ tableWords (saidN file) (saidD file) (saidAllowed file)
+  made = tables-said file words (tablePart words n d n) n d (read .says) is-n is-d refl
+
+  made-long : length (tablePart words n d n) ≡ count
+  made-long = ap length made ∙ table-length (saidN file) (saidD file) (saidAllowed file) ∙ sym (is-count ∙ sym (mul-assoc n n d) ∙ rw (is-n, is-d) refl)
+
+  made-taken : take count m ≡ tablePart words n d n
+  made-taken = ap (take count) (e ∙ rw z (front-of-zeros (tablePart words n d n) 16384)) ∙ take-at (tablePart words n d n) (replicate (16384 - length (tablePart words n d n)) 0) count made-long
+
+  pub made-ready : Ready file words (take count m)
+  made-ready = record { read = read; made = made-taken ∙ made }
+
+  pub made-fits : count ≤ length m
+  made-fits = rw (e, z, front-of-zeros, length-append) (omega (arith, made-long))
+
+  pub made-count : count ≡ length (take count m)
+  made-count = sym (ap length made-taken ∙ made-long)
 
 -- ---- load
 
@@ -132,43 +147,43 @@ module _ (file domains tables agenda : List ℕ) (r : ℕ) (is-r : r ≡ loadRef
       }
 
   -- Accepted: what the file says.
-  module _ (zero-r : r ≡ 0) (n d m : ℕ) (is-n : n ≡ saidN file) (is-d : d ≡ saidD file) (is-m : m ≡ saidSubproblems file) where
-    pub load-fits : Fitted (length domains) (length tables) (length agenda) n d m
-    load-fits = load-passed file (length domains) (length tables) (length agenda) n d m is-n is-d is-m (sym is-r ∙ zero-r)
+  module _ (zero-r : r ≡ 0) (words masks : List ℕ) (ready : Ready file words masks) where
+    abbrev fitted : Fitted (length domains) (length tables) (length agenda) (saidN file) (saidD file) (saidSubproblems file)
+    fitted = load-passed file (length domains) (length tables) (length agenda) (saidN file) (saidD file) (saidSubproblems file) refl refl refl (sym is-r ∙ zero-r)
 
     -- What is lent takes the search.
-    pub load-lent : (words all : List ℕ) → Ready file words all → Lent words all n d m domains tables agenda
-    load-lent words all ready = record {
-      numbers = load-fits .numbers;
-      few = load-fits .few;
+    pub load-lent : Lent file words masks domains tables agenda
+    load-lent = record {
+      numbers = fitted .numbers;
+      few = fitted .few;
       long = ready .read .long;
-      domains-words = load-fits .domains-words;
-      tables-words = ap length (ready .made) ∙ table-length (saidN file) (saidD file) (saidAllowed file) ∙ sym (load-fits .tables-words ∙ rw (is-n, is-d) refl);
-      agenda-words = load-fits .agenda-words;
+      domains-words = fitted .domains-words;
+      tables-words = ap length (ready .made) ∙ table-length (saidN file) (saidD file) (saidAllowed file) ∙ sym (fitted .tables-words);
+      agenda-words = fitted .agenda-words;
     }
 
     -- Everything that load returns and leaves.
-    pub load-accepted : (small : Bytes file) (words all : List ℕ) → Ready file words all → (s : Loaded) (domains′ tables′ agenda′ : List ℕ)
-        → s .refusal ≡ 0 → s .n ≡ n → s .d ≡ d → StateSaid file (s .state) → domains′ ≡ partIn words 9 n → tables′ ≡ all
-        → agenda′ ≡ slotsPart words n d m (length agenda) → Loads file domains domains′ tables tables′ agenda agenda′ s
-    unfolding refusal partIn slotsPart
-    load-accepted small words all ready s domains′ tables′ agenda′ is-s s-n s-d state ds ts as′ =
+    pub load-accepted : (small : Bytes file) (s : Loaded) (domains′ tables′ agenda′ : List ℕ) → Told file s → domains′ ≡ partIn words 9 (saidN file) → tables′ ≡ masks
+        → agenda′ ≡ slotsPart words (saidN file) (saidD file) (saidSubproblems file) (length agenda) → Loads file domains domains′ tables tables′ agenda agenda′ s
+    unfolding refusal slotsPart
+    load-accepted small s domains′ tables′ agenda′ told ds ts as′ =
+        let n : ℕ = saidN file in
         let z : refusal ≡ 0 = sym is-r ∙ zero-r in
-        let fitted = load-fits in
-        let from : ℕ = 9 + n + triangleWords n d in
-        let start : from ≤ 7977 = omega (arith, triangle-few n d (fitted .numbers), fitted .numbers .variables) in
-        let few : m * (n + 2) ≤ 17408 = slots-few n m 512 (fitted .numbers .variables) (fitted .few) (omega arith) in
-        let front : take ((9 + n) - 9) (drop 9 words) ≡ saidDomains file = part-read file words (ready .read) 9 n (omega (arith, fitted .numbers .variables)) ∙ ap (contentFrom file 9) is-n in
-        let back : take ((from + m * (n + 2)) - from) (drop from words) ≡ contentFrom file from (m * (n + 2)) = part-read file words (ready .read) from (m * (n + 2)) (omega arith) in
-        let slots : agenda′ ≡ agendaOf (saidN file) (length agenda) (saidSearch file .stack) = as′ ∙ rw (back, is-n, is-d, is-m) (agenda-said file (length agenda) small) in
+        let from : ℕ = 9 + n + triangleWords n (saidD file) in
+        let used : ℕ = saidSubproblems file * (n + 2) in
+        let start : from ≤ 7977 = omega (arith, triangle-few n (saidD file) (fitted .numbers), fitted .numbers .variables) in
+        let few : used ≤ 17408 = slots-few n (saidSubproblems file) 512 (fitted .numbers .variables) (fitted .few) (omega arith) in
+        let front : partIn words 9 n ≡ saidDomains file = part-read file words (ready .read) 9 n (omega (arith, fitted .numbers .variables)) in
+        let back : partIn words from used ≡ contentFrom file from used = part-read file words (ready .read) from used (omega arith) in
+        let slots : agenda′ ≡ agendaOf n (length agenda) (saidSearch file .stack) = as′ ∙ rw back (agenda-said file (length agenda) small) in
         record {
-          refusal = is-s ∙ sym z;
-          its-n = given refusal (saidN file) 0 (s .n) z (s-n ∙ is-n);
-          its-d = given refusal (saidD file) 0 (s .d) z (s-d ∙ is-d);
-          steps = given refusal (saidSteps file) 0 (s .state .counts .steps .0) z (state .steps);
-          checks = given refusal (saidChecks file) 0 (s .state .counts .checks .0) z (state .checks);
-          subproblems = given refusal (saidSubproblems file) 0 (s .state .subproblems) z (state .subproblems);
+          refusal = told .its ∙ sym z;
+          its-n = given refusal n 0 (s .n) z (told .its-n);
+          its-d = given refusal (saidD file) 0 (s .d) z (told .its-d);
+          steps = given refusal (saidSteps file) 0 (s .state .counts .steps .0) z (told .state .steps);
+          checks = given refusal (saidChecks file) 0 (s .state .counts .checks .0) z (told .state .checks);
+          subproblems = given refusal (saidSubproblems file) 0 (s .state .subproblems) z (told .state .subproblems);
           its-domains = given refusal (saidDomains file) domains domains′ z (ds ∙ front);
-          its-tables = given refusal (tableWords (saidN file) (saidD file) (saidAllowed file)) tables tables′ z (ts ∙ ready .made);
-          its-agenda = given refusal (agendaOf (saidN file) (length agenda) (saidSearch file .stack)) agenda agenda′ z slots;
+          its-tables = given refusal (tableWords n (saidD file) (saidAllowed file)) tables tables′ z (ts ∙ ready .made);
+          its-agenda = given refusal (agendaOf n (length agenda) (saidSearch file .stack)) agenda agenda′ z slots;
         }

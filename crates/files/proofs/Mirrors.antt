@@ -2,13 +2,15 @@
 -- Assumes nothing.
 use mathlib.Core.Path.{_≡_, refl, sym, ap, _∙_}
 use mathlib.Core.Bool.{cond}
-use mathlib.Core.List.{List, _++_, map, append-nil}
+use mathlib.Core.List.{List, _++_, map}
+use mir.Syntax.{w64}
+use mir.Val.{Fits}
 use Prim.Native.Nat.{ℕ, zero, suc, _+_, _-_, _*_, _/_, _^_, _≤_, _<_}
 use native.Mathlib.Omega.{arith}
-use native.Mathlib.Nat.{mul-le-mul, mul-le-mul-right, zero-mul, add-zero, add-suc, add-mul}
+use native.Mathlib.Nat.{mul-le-mul, mul-le-mul-right, zero-mul, zero-add, add-zero, add-suc, add-mul}
 use native.Mathlib.Numerals.{add-one}
 use lib.ListN.{length, getD, take, drop, replicate, length-drop, length-replicate, List·getD-eq-default}
-use lib.Seq.{getD-take, getD-drop, length-take-le, take-all}
+use lib.Seq.{getD-take, getD-drop, length-take-le}
 use lib.Dec.{ltb}
 use borrow.Author.Tests.{lt-ltb, le-ltb}
 use Rattle.splits.specs.Masks.{bit}
@@ -16,7 +18,8 @@ use Rattle.splits.specs.Problem.{total}
 use Rattle.splits.specs.Splits.{below}
 use Rattle.splits.proofs.Masks.{bit-above}
 use Rattle.search.specs.Matrix.{Turned}
-use Rattle.search.proofs.Copies.{zeros-at}
+use Rattle.search.specs.Work.Slots.{splice}
+use Rattle.search.proofs.Copies.{zeros-at, drop-zeros}
 use Rattle.files.specs.Reading.{contentWord, saidN, saidD, saidAllowed, triangleWords, trianglePlace, gathered, agendaFrom}
 use Rattle.files.specs.Work.Said.{Numbers, maskIn, allowedIn, columnOf, columnPart, pairPart, partIn, slotsPart}
 use Rattle.files.proofs.Lists.{map-is, map-same, total-below, padded-at}
@@ -120,18 +123,24 @@ module _ (rows all turned : List ℕ) (few : length rows ≤ 16) (e : all ≡ ro
       ∙ ap (λ (k : ℕ). gathered k (columnOf rows c)) (sym whole) ∙ gathered-less (length rows) (16 - length rows) (columnOf rows c) (column-past c)
 
   -- The first columns of the rows with zeros after them, rows for columns.
-  pub columns-made : (out : List ℕ) (k : ℕ) → k ≡ length rows → out ≡ take k turned → out ≡ columnPart rows (length rows)
+  columns-made : take (length rows) turned ≡ columnPart rows (length rows)
   unfolding columnPart
-  columns-made out k same s =
-      let size : length (take k turned) ≡ length rows = length-take-le k turned (omega (arith, t .long)) ∙ same in
-      s ∙ sym (map-is (λ c. gathered (length rows) (columnOf rows c)) (length rows) (take k turned) size
-      (λ c q. sym (getD-take k turned c 0 (omega arith) ∙ column-is c (omega arith))))
+  columns-made =
+      let size : length (take (length rows) turned) ≡ length rows = length-take-le (length rows) turned (omega (arith, t .long)) in
+      sym (map-is (λ c. gathered (length rows) (columnOf rows c)) (length rows) (take (length rows) turned) size
+      (λ c q. sym (getD-take (length rows) turned c 0 (omega arith) ∙ column-is c (omega arith))))
 
--- The same where there are 16 rows.
-pub columns-whole : (rows all turned out : List ℕ) → length rows ≡ 16 → all ≡ rows → Turned all turned → out ≡ turned → out ≡ columnPart rows (length rows)
-columns-whole rows all turned out e same t s =
-    let none : 16 - length rows ≡ 0 = omega arith in
-    columns-made rows all turned (omega arith) (same ∙ rw none (sym (append-nil rows))) t out 16 (sym e) (s ∙ sym (take-all 16 turned (omega (arith, t .long))))
+-- The rows are copied over zeros, turned, and the first columns written.
+pub columns-put : (rows all turned l m : List ℕ) (at end : ℕ) → length rows ≤ 16 → all ≡ splice (replicate 16 0) 0 rows → Turned all turned
+    → m ≡ splice l at (take (length rows) turned) → end ≡ at + length (take (length rows) turned)
+    → (m ≡ splice l at (columnPart rows (length rows))) × (end ≡ at + length rows)
+unfolding splice
+columns-put rows all turned l m at end few e t s is-end =
+    let rest : drop {A = ℕ} (0 + length rows) (replicate 16 0) ≡ replicate (16 - length rows) 0 =
+    ap (λ (k : ℕ). drop {A = ℕ} k (replicate 16 0)) (zero-add (length rows)) ∙ drop-zeros 16 (length rows) in (
+      s ∙ ap (splice l at) (columns-made rows all turned few (e ∙ ap (λ (x : List ℕ). rows ++ x) rest) t),
+      is-end ∙ ap (λ (k : ℕ). at + k) (length-take-le (length rows) turned (omega (arith, t .long))),
+    )
 
 -- ---- what is allowed
 
@@ -175,22 +184,20 @@ module _ (words : List ℕ) (n d i j at : ℕ) (e : at ≡ 9 + n + trianglePlace
   mask-row a h = part-at words at d a h ∙ ap (λ (k : ℕ). getD words k 0) (omega arith)
 
   -- The other way round they are turned.
-  pub pair-turned : (out : List ℕ) → at + d ≤ 25553 → length words ≡ 25553 → i < j
-      → out ≡ columnPart (take ((at + d) - at) (drop at words)) (length (take ((at + d) - at) (drop at words))) → out ≡ pairPart words n d j i d
-  unfolding pairPart columnPart columnOf
-  pair-turned out h w l s =
-      let rows : List ℕ = take ((at + d) - at) (drop at words) in
-      s ∙ ap (λ (k : ℕ). map (λ c. gathered k (λ b. bit (getD rows b 0) c)) (below k)) (part-long words at d (omega arith))
+  pub pair-turned : (rows : List ℕ) → rows ≡ partIn words at d → length rows ≡ d → i < j → columnPart rows (length rows) ≡ pairPart words n d j i d
+  unfolding partIn pairPart columnPart columnOf
+  pair-turned rows e size l =
+      ap (λ (k : ℕ). map (λ c. gathered k (λ b. bit (getD rows b 0) c)) (below k)) size
       ∙ map-same (λ c. gathered d (λ b. bit (getD rows b 0) c)) (allowedIn words n d j i) d
-      (λ c q. gathered-same d (λ b. bit (getD rows b 0) c) (λ b. bit (maskIn words n d i j b) c) (λ b k. ap (λ (x : ℕ). bit x c) (mask-row b k))
+      (λ c q. gathered-same d (λ b. bit (getD rows b 0) c) (λ b. bit (maskIn words n d i j b) c)
+      (λ b k. ap (λ (x : ℕ). bit x c) (ap (λ (x : List ℕ). getD x b 0) e ∙ mask-row b k))
       ∙ sym (allowed-below words n d j i c l))
 
 -- Of one with itself they are zeros.
-pub pair-zeros : (words l out : List ℕ) (n d i j : ℕ) → length l ≡ d → j ≤ i → i ≤ j → out ≡ replicate (length l) 0 → out ≡ pairPart words n d i j d
+pub pair-zeros : (words : List ℕ) (n d i j : ℕ) → j ≤ i → i ≤ j → replicate d 0 ≡ pairPart words n d i j d
 unfolding pairPart
-pair-zeros words l out n d i j e h k s =
-    s ∙ ap (λ (x : ℕ). replicate {A = ℕ} x 0) e
-    ∙ sym (map-is (allowedIn words n d i j) d (replicate d 0) (length-replicate d 0) (λ a q. allowed-self words n d i j a h k ∙ sym (zeros-at d a)))
+pair-zeros words n d i j h k =
+    sym (map-is (allowedIn words n d i j) d (replicate d 0) (length-replicate d 0) (λ a q. allowed-self words n d i j a h k ∙ sym (zeros-at d a)))
 
 -- ---- parts of the words
 
@@ -199,14 +206,27 @@ pub part-in : (words out : List ℕ) (from w : ℕ) → out ≡ take ((from + w)
 unfolding partIn
 part-in words out from w e = e
 
--- The slots, and zeros after them.
-pub slots-in : (words out : List ℕ) (n d m all from : ℕ) → n ≤ 32 → m ≤ 512 → length words ≡ 25553 → from ≡ agendaFrom n d → from ≤ 7977
-    → out ≡ take ((from + m * (n + 2)) - from) (drop from words) ++ replicate (all - length (take ((from + m * (n + 2)) - from) (drop from words))) 0
-    → out ≡ slotsPart words n d m all
-unfolding slotsPart partIn
-slots-in words out n d m all from few some long start first e =
-    let within : from + m * (n + 2) ≤ length words = omega (arith, slots-few n m 512 few some (omega arith)) in
-    e ∙ rw (part-long words from (m * (n + 2)) within, start) refl
+-- Slots in the words of a content, of numbers that a file says: they lie within, and are these.
+module _ (n d count : ℕ) (s : Numbers n d) (few : count ≤ 512) (m e from : ℕ) (is-m : m ≡ n) (is-e : e ≡ d) (start : (from ≡ agendaFrom m e) × (from ≤ 7977)) where
+  pub slots-fit : Fits w64 (count * (m + 2))
+  slots-fit = rw is-m (omega (arith, slots-few n count 512 (s .variables) few (omega arith)))
+
+  pub slots-within : (words : ℕ) → words ≡ 25553 → from + count * (m + 2) ≤ words
+  slots-within words long = rw is-m (omega (arith, slots-few n count 512 (s .variables) few (omega arith), start .1))
+
+  pub slots-found : (words slots : List ℕ) → (slots ≡ partIn words from (count * (m + 2))) × (length slots ≡ count * (m + 2))
+      → (slots ≡ partIn words (agendaFrom n d) (count * (n + 2))) × (length slots ≡ count * (n + 2))
+  slots-found words slots (found, size) = (found ∙ rw (start .0, is-m, is-e) refl, size ∙ rw is-m refl)
+
+-- They fit into memory, and zeros stand after them.
+module _ (words slots : List ℕ) (n d count m all : ℕ) (is-count : count ≡ m)
+    (found : (slots ≡ partIn words (agendaFrom n d) (count * (n + 2))) × (length slots ≡ count * (n + 2))) where
+  pub slots-room : m * (n + 2) ≤ all → length slots ≤ all
+  slots-room h = rw (found .1, is-count) h
+
+  pub slots-put : (out : List ℕ) → out ≡ slots ++ replicate (all - length slots) 0 → out ≡ slotsPart words n d m all
+  unfolding slotsPart
+  slots-put out s = s ∙ rw (found .1, found .0, is-count) refl
 
 -- What the words allow at the numbers that the file says is what the file says.
 pub allowed-said : (file words : List ℕ) → ((k : ℕ) → getD words k 0 ≡ contentWord file k) → (i j a : ℕ)

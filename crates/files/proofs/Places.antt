@@ -30,9 +30,12 @@ word-past file k h =
     rw (List·getD-eq-default file 0 high, List·getD-eq-default file 0 low) refl
 
 -- A word of one block.
-pub word-in : (block : List ℕ) (k high low : ℕ) → high ≡ getD block (2 * k) 0 → low ≡ getD block (2 * k + 1) 0 → high * 256 + low ≡ blockWord block 0 k
+pub word-here : (block : List ℕ) (k w : ℕ) → w ≡ wordAt block k → w ≡ blockWord block 0 k
 unfolding blockWord
-word-in block k high low e h = word-made block k high low e h ∙ ap (wordAt block) (sym (zero-add k))
+word-here block k w e = e ∙ ap (wordAt block) (sym (zero-add k))
+
+word-in : (block : List ℕ) (k high low : ℕ) → high ≡ getD block (2 * k) 0 → low ≡ getD block (2 * k + 1) 0 → high * 256 + low ≡ blockWord block 0 k
+word-in block k high low e h = word-here block k (high * 256 + low) (word-made block k high low e h)
 
 -- The same by its low byte first and its bytes exchanged.
 pub low-made : (block : List ℕ) (k low high : ℕ) → low ≡ getD block (2 * k) 0 → high ≡ getD block (2 * k + 1) 0 → low + high * 256 ≡ lowWord block k

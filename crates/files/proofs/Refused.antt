@@ -5,13 +5,14 @@ use mathlib.Core.Bool.{Bool, true, false, not, cond, _&&_}
 use mathlib.Core.List.{List}
 use Prim.Native.Nat.{ℕ, _+_, _-_, _*_, _/_, _^_, _≤_, _<_}
 use native.Mathlib.Omega.{arith}
+use native.Mathlib.Decide.{ℕ-discrete}
 use lib.Dec.{eqb, leb, ltb}
-use borrow.Author.Tests.{lt-ltb, le-ltb, leb-true, not-true, not-false}
+use borrow.Author.Tests.{ne-eqb, lt-ltb, le-ltb, leb-true, not-true, not-false}
 use Rattle.splits.specs.Subproblems.{every}
 use Rattle.splits.proofs.Tests.{and-left, and-right}
 use Rattle.search.specs.Agenda.{slotsIn}
-use Rattle.search.specs.FirstChecks.{allObey, refusalOfNumbers, refusalOfLengths, sizesRefusal}
-use Rattle.search.proofs.FirstParts.{given-if, else-first, else-rest}
+use Rattle.search.specs.FirstChecks.{orElse, allObey, refusalOfNumbers, refusalOfLengths, sizesRefusal}
+use Rattle.search.proofs.FirstParts.{given-if, else-first, else-rest, else-pass}
 use Rattle.files.specs.Blocks.{blocksFor}
 use Rattle.files.specs.Reading.{
   blocksIn,
@@ -30,7 +31,7 @@ use Rattle.files.specs.Reading.{
   wordCount,
 }
 use Rattle.files.specs.Calls.{loadRefusal}
-use Rattle.files.specs.Work.Said.{Numbers, numbersSaid, zeroIn, filled, sizedIn}
+use Rattle.files.specs.Work.Said.{Numbers, numbersSaid, zeroIn, filled, sizedIn, Read}
 
 -- Tests in a row, in groups.
 grouped : (t a b c d e f : Bool) → (t && a && b && c && d && e && f) ≡ ((t && (a && b)) && (c && d && e && f))
@@ -77,10 +78,12 @@ module _ (file : List ℕ) where
   sized-not-given b e y = rw (sym e ∙ y) refl
 
   -- What was found of them, and that 15 is given if they do not fit.
-  pub sized-found : (r : ℕ) → r ≡ cond (sizedIn file) 0 15 → r ≡ 0 → sizedIn file ≡ true
-  sized-found r e z = given-if (sizedIn file) 15 (λ x. absurd (omega arith)) (sym e ∙ z)
+  pub sizes-passed : (r : ℕ) → r ≡ orElse (refusalOfFile file) (cond (sizedIn file) 0 15) → r ≡ 0 → (refusalOfFile file ≡ 0) × (sizedIn file ≡ true)
+  sizes-passed r e z =
+      let both = else-pass (refusalOfFile file) (cond (sizedIn file) 0 15) (sym e ∙ z) in
+      (both .0, given-if (sizedIn file) 15 (λ x. absurd (omega arith)) (both .1))
 
-  pub sized-refused : (r : ℕ) → r ≡ cond (sizedIn file) 0 15 → (r ≡ 0 → ⊥) → r ≡ refusalOfWords file
+  sized-refused : (r : ℕ) → r ≡ cond (sizedIn file) 0 15 → (r ≡ 0 → ⊥) → r ≡ refusalOfWords file
   sized-refused r e f = go (sizedIn file) refl
     where
       go : (b : Bool) → sizedIn file ≡ b → r ≡ refusalOfWords file
@@ -126,6 +129,10 @@ module _ (file : List ℕ) where
     pub numbers-passed : refusalOfWords file ≡ 0 → Numbers n d × (m ≤ 512)
     numbers-passed e = sized-numbers (and-left (sizedIn file) rest (given-if (sizedIn file && rest) 15 (λ z. absurd (omega arith)) (sym words-tests ∙ e)))
 
+-- The numbers of a file that was read.
+pub read-numbers : (file words : List ℕ) (n d : ℕ) → Read file words → n ≡ saidN file → d ≡ saidD file → Numbers n d × (saidSubproblems file ≤ 512)
+read-numbers file words n d read is-n is-d = sized-numbers file n d (saidSubproblems file) is-n is-d refl (read .sized)
+
 -- ---- the refusal of load
 
 -- Where the numbers pass, what is refused of the sizes is refused of the lengths.
@@ -136,7 +143,7 @@ lengths-of n d domains tables agenda r h e =
     rw (le-ltb n 1 (h .some-variable), le-ltb 32 n (h .variables), le-ltb d 1 (h .some-value), le-ltb 16 d (h .values)) at e
 
 module _ (file : List ℕ) (domains tables agenda : ℕ) where
-  pub refused-14 : (r : ℕ) → r ≡ refusalOfFile file → (r ≡ 0 → ⊥) → r ≡ loadRefusal file domains tables agenda
+  refused-14 : (r : ℕ) → r ≡ refusalOfFile file → (r ≡ 0 → ⊥) → r ≡ loadRefusal file domains tables agenda
   unfolding loadRefusal
   refused-14 r e f = else-first r (refusalOfFile file) _ e f
 
@@ -144,6 +151,13 @@ module _ (file : List ℕ) (domains tables agenda : ℕ) where
   pub refused-15 : (r : ℕ) → refusalOfFile file ≡ 0 → r ≡ refusalOfWords file → (r ≡ 0 → ⊥) → r ≡ loadRefusal file domains tables agenda
   unfolding loadRefusal
   refused-15 r a e f = else-rest r (refusalOfFile file) _ a (else-first r (refusalOfWords file) _ e f)
+
+  -- 14, or 15 of the sizes.
+  pub refused-sizes : (r : ℕ) → r ≡ orElse (refusalOfFile file) (cond (sizedIn file) 0 15) → (r ≡ 0 → ⊥) → r ≡ loadRefusal file domains tables agenda
+  refused-sizes r e f = elim (ℕ-discrete (refusalOfFile file) 0) [
+    | yes z ↦ refused-15 r z (sized-refused file r (rw z at e) f) f
+    | no g ↦ refused-14 r (rw (ne-eqb (refusalOfFile file) 0 g) at e) f
+  ]
 
   module _ (n d m : ℕ) (is-n : n ≡ saidN file) (is-d : d ≡ saidD file) (is-m : m ≡ saidSubproblems file) where
     pub refused-3 : (r : ℕ) → refusalOfFile file ≡ 0 → refusalOfWords file ≡ 0 → r ≡ sizesRefusal n d domains tables agenda → (r ≡ 0 → ⊥)

@@ -3,7 +3,7 @@
 use mathlib.Core.Path.{_≡_, refl, sym, ap, _∙_}
 use mathlib.Core.Bool.{Bool, true, cond, _&&_}
 use mathlib.Core.List.{List, _++_}
-use Prim.Native.Nat.{ℕ, _+_, _*_, _/_, _%_, _^_, _≤_, _<_}
+use Prim.Native.Nat.{ℕ, _+_, _-_, _*_, _/_, _%_, _^_, _≤_, _<_}
 use native.Mathlib.Omega.{arith}
 use lib.ListN.{length, getD, drop, replicate}
 use lib.Dec.{eqb, leb, ltb}
@@ -50,7 +50,7 @@ module _ (n d : ℕ) (domains tables agenda : List ℕ) (s : State) where
       (and-left a b (and-left (a && b) c (and-left (a && b && c) f (given-if (a && b && c && f) 6 (λ z. absurd (omega arith)) e))))
 
   -- What the first checks leave where they pass.
-  pub first-passed : searchRefusal n d domains tables agenda (s .counts .steps .0) (s .counts .checks .0) (s .subproblems) ≡ 0 → Savable n d domains tables agenda s
+  first-passed : searchRefusal n d domains tables agenda (s .counts .steps .0) (s .counts .checks .0) (s .subproblems) ≡ 0 → Savable n d domains tables agenda s
   unfolding searchRefusal
   first-passed e =
       let search : ℕ = refusalOfSearch (problemOf n d domains tables) agenda (s .counts .steps .0) (s .counts .checks .0) (s .subproblems) in
@@ -72,6 +72,10 @@ module _ (n d : ℕ) (domains tables agenda : List ℕ) (s : State) where
         few = omega arith;
         agenda-words = slots-within n (length agenda) (s .subproblems) fit;
       }
+
+  pub save-passed : (r : ℕ) → r ≡ searchRefusal n d domains tables agenda (s .counts .steps .0) (s .counts .checks .0) (s .subproblems) → r ≡ 0
+      → Savable n d domains tables agenda s
+  save-passed r e z = first-passed (sym e ∙ z)
 
   module _ (file : List ℕ) where
     -- The refusal of save.
@@ -96,7 +100,7 @@ module _ (n d : ℕ) (domains tables agenda : List ℕ) (s : State) where
       counted-blocks : (words + 252) / 253 ≡ blocksFor (length (handedContent n d domains tables agenda s))
       unfolding blocksFor
       counted-blocks =
-          let all : words ≡ length (handedContent n d domains tables agenda s) = is-words ∙ sym (handed-length n d domains tables agenda s (first-passed (sym is-r ∙ zero-r)) small) in
+          let all : words ≡ length (handedContent n d domains tables agenda s) = is-words ∙ sym (handed-length n d domains tables agenda s (save-passed r is-r zero-r) small) in
           ap (λ (x : ℕ). (x + 252) / 253) all
 
       -- 13 or none is left.
@@ -127,12 +131,13 @@ module _ (n d : ℕ) (domains tables agenda : List ℕ) (s : State) where
           ∙ ap (λ (x : ℕ). firstBlocks blocks blocks content ++ drop x file) (sym (blocks-length blocks blocks content))
 
       pub save-written : (x : Saved) (after : List ℕ) → 512 * ((words + 252) / 253) ≤ length file → x .refusal ≡ 0 → x .blocks ≡ (words + 252) / 253
-          → (content : List ℕ) (zeros : ℕ) → content ≡ handedContent n d domains tables agenda s ++ replicate zeros 0
+          → (content : List ℕ) → content ≡ handedContent n d domains tables agenda s ++ replicate (25553 - wordCount n d (s .subproblems)) 0
           → after ≡ filePart ((words + 252) / 253) content ((words + 252) / 253) file → Saves n d domains tables agenda s file after x
       unfolding refusal
-      save-written x after h a b content zeros c e =
+      save-written x after h a b content c e =
           let same : after ≡ filePart ((words + 252) / 253) (handedContent n d domains tables agenda s) ((words + 252) / 253) file =
-          e ∙ ap (λ (l : List ℕ). filePart ((words + 252) / 253) l ((words + 252) / 253) file) c ∙ file-same (handedContent n d domains tables agenda s) zeros ((words + 252) / 253) file in
+          e ∙ ap (λ (l : List ℕ). filePart ((words + 252) / 253) l ((words + 252) / 253) file) c
+          ∙ file-same (handedContent n d domains tables agenda s) (25553 - wordCount n d (s .subproblems)) ((words + 252) / 253) file in
           let none : refusal ≡ 0 = last ∙ rw (le-ltb (length file) (512 * ((words + 252) / 253)) h) refl in
           record {
             refusal = a ∙ sym none;

@@ -6,27 +6,29 @@ use mir.Syntax.{w64}
 use mir.Val.{Fits}
 use Prim.Native.Nat.{ℕ, zero, suc, _+_, _-_, _*_, _/_, _%_, _^_, _≤_, _<_}
 use native.Mathlib.Omega.{arith}
-use native.Mathlib.Nat.{le-refl, le-trans, le-add-right, mul-le-mul, mul-le-mul-right, mul-assoc, add-mul}
+use native.Mathlib.Nat.{mul-le-mul, mul-le-mul-right, mul-assoc, add-mul}
 use native.Mathlib.Numerals.{add-one}
 use lib.ListN.{length, getD, take, drop, set, replicate, length-append, length-drop, List·getD-append}
 use lib.Seq.{length-take-le, take-suc, drop-cons, append-snoc, set-at, take-all, take-at, drop-length, ext-getD}
-use borrow.Rule.Slice.PartMut.{putMid, midOf, mid-len}
+use borrow.Rule.Slice.PartMut.{putMid}
 use Rattle.splits.specs.Problem.{total, tableOf}
 use Rattle.splits.specs.Splits.{below}
+use Rattle.search.specs.Work.Slots.{splice}
 use Rattle.search.specs.declared.state.State.{State}
+use Rattle.search.proofs.Copies.{splice-splice}
 use Rattle.search.proofs.Encoding.{stack-of-words, length-stackOf}
 use Rattle.files.specs.Blocks.{fileBytes, wordAt, checkOf, contentOfBlock, headedBlock, blockWords, firstBlocks}
 use Rattle.files.specs.Content.{each, triangle, contentOf}
-use Rattle.files.specs.Reading.{blockWord, headOf, triangleWords, agendaFrom, wordCount}
-use Rattle.files.specs.Work.Said.{Numbers}
+use Rattle.files.specs.Reading.{blockWord, headOf, triangleWords, wordCount}
+use Rattle.files.specs.Work.Said.{Numbers, partIn}
 use Rattle.files.specs.Calls.{handedContent}
-use Rattle.files.specs.Work.Saved.{Savable, header, blockPart, filePart}
-use Rattle.files.proofs.Lists.{map-is, each-length, each-none, each-more, total-below, seq, seq-is, padded-at}
+use Rattle.files.specs.Work.Saved.{zeros, Savable, header, blockPart, filePart}
+use Rattle.files.proofs.Lists.{map-is, each-length, total-below, seq, seq-is, padded-at}
 use Rattle.files.proofs.Words.{bytes-length, bytes-append, word-read}
 use Rattle.files.proofs.Triangle.{rest, rest-total, total-mul, row, row-length, row-words, triangle-rows, triangle-length}
 use Rattle.files.proofs.Blocks.{content-length, content-at, headed-length, block-length, block-headed, block-check, blocks-length}
 use Rattle.files.proofs.Mirrors.{triangle-few, slots-few, part-at, part-long}
-use Rattle.files.proofs.Filled.{Part, part-fits, part-more, front-rest, rest-long, tables-few}
+use Rattle.files.proofs.Filled.{zeros-long, front-of-zeros, Passed, passed-more, part-more, tables-few}
 
 -- ---- the words of the tables
 
@@ -40,10 +42,10 @@ module _ (n d : ℕ) where
   before-all = total-mul n (rest n) d ∙ ap (λ (x : ℕ). x * d) (rest-total n)
 
   -- Row i lies within the tables, in the words to write and in those to read.
-  pub before-within : (i : ℕ) → i < n → before n d i + (n - (i + 1)) * d ≤ triangleWords n d
+  before-within : (i : ℕ) → i < n → before n d i + (n - (i + 1)) * d ≤ triangleWords n d
   before-within i h = rw (add-one, ← before-all) (total-below n (λ h. rest n h * d) i h)
 
-  pub from-within : (i : ℕ) → i < n → (i * n + i + 1) * d + (n - (i + 1)) * d ≤ n * n * d
+  from-within : (i : ℕ) → i < n → (i * n + i + 1) * d + (n - (i + 1)) * d ≤ n * n * d
   from-within i h = let up : (i + 1) * (n * d) ≤ n * (n * d) = mul-le-mul-right (n * d) (omega arith) in omega (arith, from-whole i h)
     where
       from-whole : (i : ℕ) → i < n → (i * n + i + 1) * d + (n - (i + 1)) * d ≡ (i + 1) * (n * d)
@@ -51,217 +53,140 @@ module _ (n d : ℕ) where
           let sum : i * n + i + 1 + (n - (i + 1)) ≡ (i + 1) * n = omega arith in
           sym (add-mul (i * n + i + 1) (n - (i + 1)) d) ∙ ap (λ (x : ℕ). x * d) sum ∙ mul-assoc (i + 1) n d
 
-  module _ (s : Numbers n d) (words : ℕ) where
-    -- It is a part of so many words.
-    pub row-part : (i : ℕ) → words ≡ n * n * d → i < n → Part ((i * n + i + 1) * d) ((n - (i + 1)) * d) words
-    row-part i e h =
-        let few = tables-few n d s .1 in
-        part-fits ((i * n + i + 1) * d) ((n - (i + 1)) * d) words (rw e (from-within i h)) (rw e (le-trans few (omega arith)))
-
-    pub out-part : (i at : ℕ) → i < n → at ≡ before n d i → words ≡ triangleWords n d → Part at ((n - (i + 1)) * d) words
-    out-part i at h e k =
-        let few = triangle-few n d s in
-        part-fits at ((n - (i + 1)) * d) words (rw (e, k) (before-within i h)) (rw k (le-trans few (omega arith)))
-
-  -- What is worked out to find it fits.
-  pub record Found (i : ℕ) : Type 0 where
-    pub row : Fits w64 ((n - (i + 1)) * d)
+  -- What is worked out to find it in the tables fits, and it is a part of them.
+  pub record RowIn (i words : ℕ) : Type 0 where
     pub square : Fits w64 (i * n)
     pub own : Fits w64 (i * n + i)
     pub next : Fits w64 (i * n + i + 1)
+    pub row : Fits w64 ((n - (i + 1)) * d)
+    pub start : Fits w64 ((i * n + i + 1) * d)
+    pub within : (i * n + i + 1) * d + (n - (i + 1)) * d ≤ words
 
-  pub row-found : (i : ℕ) → Numbers n d → i < n → Found i
-  row-found i s h =
+  pub row-in : (i words : ℕ) → Numbers n d × ((words ≡ n * n * d) × (i < n)) → RowIn i words
+  row-in i words (s, (e, h)) =
       let few = s .variables in
       let less : i ≤ 32 = omega arith in
       let more : n - (i + 1) ≤ 32 = omega arith in
       let square : i * n ≤ 32 * 32 = mul-le-mul less few in
       let row : (n - (i + 1)) * d ≤ 32 * 16 = mul-le-mul more (s .values) in
-      record { row = omega arith; square = omega arith; own = omega arith; next = omega arith }
+      let all : (i * n + i + 1) * d + (n - (i + 1)) * d ≤ words = rw e (from-within i h) in
+      record {
+        square = omega arith;
+        own = omega arith;
+        next = omega arith;
+        row = omega arith;
+        start = omega (arith, tables-few n d s .1);
+        within = all;
+      }
 
-module _ (n d : ℕ) (s : Numbers n d) (t : List ℕ) (long : length t ≡ n * n * d) where
+module _ (n d : ℕ) (t : List ℕ) where
   -- The rows passed.
-  abbrev pub rows : ℕ → List ℕ
+  abbrev rows : ℕ → List ℕ
   rows i = each (row n d (tableOf n d t)) (below i)
 
-  pub rows-length : (i : ℕ) → length (rows i) ≡ before n d i
+  rows-length : (i : ℕ) → length (rows i) ≡ before n d i
   rows-length i = each-length (row n d (tableOf n d t)) (λ h. rest n h * d) i (λ h l. row-length n d (tableOf n d t) h)
 
-  -- As much of the one is lent as of the other.
-  pub row-lent : (i at : ℕ) (l : List ℕ) → i < n → at ≡ before n d i → length l ≡ triangleWords n d
-      → length (take (((i * n + i + 1) * d + (n - (i + 1)) * d) - (i * n + i + 1) * d) (drop ((i * n + i + 1) * d) t))
-      ≡ length (midOf at ((at + (n - (i + 1)) * d) - at) l)
-  row-lent i at l h e k =
-      let w : ℕ = (n - (i + 1)) * d in
-      part-long t ((i * n + i + 1) * d) w (row-part n d s (length t) i long h .within) ∙ sym (mid-len at (at + w) l (out-part n d s (length l) i at h e k .within) ∙ omega arith)
-
-  -- What was copied is the row.
-  row-copied : (i : ℕ) (ys : List ℕ) → i < n
-      → ys ≡ take (((i * n + i + 1) * d + (n - (i + 1)) * d) - (i * n + i + 1) * d) (drop ((i * n + i + 1) * d) t) → ys ≡ row n d (tableOf n d t) i
-  row-copied i ys h e =
+  -- The words read are the row.
+  row-read : length t ≡ n * n * d → (i : ℕ) (ys : List ℕ) → i < n → ys ≡ partIn t ((i * n + i + 1) * d) ((n - (i + 1)) * d) → ys ≡ row n d (tableOf n d t) i
+  unfolding partIn
+  row-read long i ys h e =
       let from : ℕ = (i * n + i + 1) * d in
       let w : ℕ = (n - (i + 1)) * d in
       let same : w ≡ rest n i * d = rw add-one refl in
       e ∙ sym (seq-is (λ k. getD t k 0) from w (take ((from + w) - from) (drop from t)) (part-long t from w (rw long (from-within n d i h))) (λ k l. sym (part-at t from w k l)))
       ∙ ap (seq (λ k. getD t k 0) from) same ∙ sym (row-words n d t i)
 
-  -- None is written yet.
-  pub rows-none : (l : List ℕ) → l ≡ rows 0 ++ drop 0 l
-  rows-none l = ap (λ (x : List ℕ). x ++ l) (sym (each-none (row n d (tableOf n d t))))
+  module _ (long : length t ≡ n * n * d) (l m : List ℕ) (at i end : ℕ) (room : at + triangleWords n d ≤ length l) (inv : Passed (row n d (tableOf n d t)) l at m i end) where
+    -- There is room for the next row.
+    pub row-room : (w : ℕ) → i < n → w ≡ (n - (i + 1)) * d → end + w ≤ length m
+    row-room w h size = omega (arith, inv .ends, inv .kept, rows-length i, before-within n d i h)
 
-  -- One row more.
-  pub rows-more : (l m ys : List ℕ) (i at : ℕ) → i < n → at ≡ before n d i → m ≡ rows i ++ drop at l
-      → ys ≡ take (((i * n + i + 1) * d + (n - (i + 1)) * d) - (i * n + i + 1) * d) (drop ((i * n + i + 1) * d) t) → at + (n - (i + 1)) * d ≤ length l
-      → putMid at ((at + (n - (i + 1)) * d) - at) m ys ≡ rows (i + 1) ++ drop (at + (n - (i + 1)) * d) l
-  rows-more l m ys i at h is-at e y k =
-      let size : length (row n d (tableOf n d t) i) ≡ (n - (i + 1)) * d = row-length n d (tableOf n d t) i ∙ rw add-one refl in
-      part-more (rows i) (row n d (tableOf n d t) i) l m ys at ((n - (i + 1)) * d) e (rows-length i ∙ sym is-at) (row-copied i ys h y) size k
-      ∙ rw (add-one, each-more (row n d (tableOf n d t)) i) refl
+    -- One row more.
+    pub rows-more : (m′ ys : List ℕ) (end′ : ℕ) → i < n → ys ≡ partIn t ((i * n + i + 1) * d) ((n - (i + 1)) * d)
+        → m′ ≡ splice m end ys → end′ ≡ end + length ys → length m′ ≡ length m → Passed (row n d (tableOf n d t)) l at m′ (i + 1) end′
+    rows-more m′ ys end′ h y e is-end same =
+        passed-more (row n d (tableOf n d t)) l at m m′ ys i end end′ inv (omega (arith, row-room ((n - (i + 1)) * d) h refl, inv .kept))
+        (row-read long i ys h y) e is-end same
 
-  -- The memory stays as long.
-  pub rows-kept : (l m : List ℕ) (i at : ℕ) → at ≡ before n d i → m ≡ rows i ++ drop at l → at ≤ length l → length m ≡ length l
-  rows-kept l m i at is-at e h = ap length e ∙ length-append (rows i) (drop at l) ∙ omega (arith, rows-length i, length-drop at l)
-
-  -- All rows are written.
-  pub rows-end : (l m : List ℕ) (i at : ℕ) → at ≡ before n d i → m ≡ rows i ++ drop at l → i ≡ n → length l ≡ triangleWords n d → m ≡ triangle n d (tableOf n d t)
-  rows-end l m i at is-at e end size =
-      let last : at ≡ length l = is-at ∙ ap (before n d) end ∙ before-all n d ∙ sym size in
-      e ∙ ap (λ (x : ℕ). rows i ++ drop x l) last ∙ ap (λ (x : List ℕ). rows i ++ x) (drop-length l) ∙ append-nil (rows i) ∙ ap rows end
-      ∙ sym (triangle-rows n d (tableOf n d t))
-
--- How many words the rows before the next have.
-pub before-next : (n d i at : ℕ) → at ≡ total i (λ h. rest n h * d) → at + (n - (i + 1)) * d ≡ total (i + 1) (λ h. rest n h * d)
-unfolding total
-before-next n d i at e = rw (e, add-one) refl
+    -- All rows are written.
+    pub rows-end : i ≡ n → (m ≡ splice l at (triangle n d (tableOf n d t))) × (end ≡ at + triangleWords n d)
+    rows-end last = (
+      inv .made ∙ ap (splice l at) (ap rows last ∙ sym (triangle-rows n d (tableOf n d t))),
+      inv .ends ∙ ap (λ (x : ℕ). at + x) (rows-length i ∙ ap (before n d) last ∙ before-all n d),
+    )
 
 -- ---- the words of the content
 
 -- Nine words come first.
-pub header-long : (n d : ℕ) (s : State) (l : List ℕ) → l ≡ header n d s → length l ≡ 9
+header-long : (n d : ℕ) (s : State) → length (header n d s) ≡ 9
 unfolding header
-header-long n d s l e = ap length e
+header-long n d s = refl
 
--- A part from one place to another: what is worked out to lend it fits, and it lies within.
-pub record Between (at end long : ℕ) : Type 0 where
-  pub bytes : Fits w64 (at * 2)
-  pub rises : at ≤ end
-  pub within : end ≤ long
-
-between : (at end long : ℕ) → at ≤ end → end ≤ long → long ≤ 65536 → Between at end long
-between at end long h k few = record { bytes = omega arith; rises = h; within = k }
-
--- The parts of a content, written one after the other into the words l.
 module _ (n d : ℕ) (domains tables agenda : List ℕ) (s : State) (hands : Savable n d domains tables agenda s) where
-  -- The masks for i below j, and how many words the used slots are.
+  -- The masks for i below j, how many words the used slots are, and these.
   abbrev masks : List ℕ
   masks = triangle n d (tableOf n d tables)
 
   abbrev used : ℕ
   used = s .subproblems * (n + 2)
 
-  abbrev pub front : List ℕ
-  front = header n d s ++ domains ++ masks
+  abbrev slots : List ℕ
+  slots = take used agenda
 
-  header-length : length (header n d s) ≡ 9
-  header-length = header-long n d s (header n d s) refl
+  -- All four parts.
+  abbrev four : List ℕ
+  four = header n d s ++ domains ++ masks ++ slots
 
-  used-length : length (take used agenda) ≡ used
+  pub used-length : length slots ≡ used
   used-length = length-take-le used agenda (hands .agenda-words)
 
-  -- The first two parts.
-  two : length (header n d s ++ domains) ≡ 9 + n
-  two = length-append (header n d s) domains ∙ omega (arith, header-length, hands .domains-words)
+  four-length : length four ≡ wordCount n d (s .subproblems)
+  four-length =
+      length-append (header n d s ++ domains ++ masks) slots
+      ∙ omega (
+        arith,
+        length-append (header n d s ++ domains) masks,
+        length-append (header n d s) domains,
+        header-long n d s,
+        hands .domains-words,
+        triangle-length n d (tableOf n d tables),
+        used-length,
+      )
 
-  -- The first three.
-  three : length front ≡ 9 + n + triangleWords n d
-  three = length-append (header n d s ++ domains) masks ∙ omega (arith, two, triangle-length n d (tableOf n d tables))
-
-  -- All of them fit.
-  pub few : 9 + n + triangleWords n d + used ≤ 25385
+  -- They fit.
+  pub few : wordCount n d (s .subproblems) ≤ 25385
   few =
       let slots = slots-few n (s .subproblems) 512 (hands .numbers .variables) (hands .few) (omega arith) in
       omega (arith, triangle-few n d (hands .numbers), slots, hands .numbers .variables)
 
-  module _ (l : List ℕ) (long : length l ≡ 25553) (from : ℕ) (is-from : from ≡ agendaFrom n d) where
-    start : from ≡ 9 + n + triangleWords n d
-    start = is-from
-
-    module _ (ys ds : List ℕ) (y : ys ≡ header n d s) (e : ds ≡ domains) where
-      -- The header and the domains.
-      second : putMid 9 ((9 + n) - 9) (ys ++ drop 9 l) ds ≡ (header n d s ++ domains) ++ drop (9 + n) l
-      second =
-          part-more (header n d s) domains l (ys ++ drop 9 l) ds 9 n (ap (λ (x : List ℕ). x ++ drop 9 l) y) header-length e (hands .domains-words)
-          (omega (arith, few))
-
-      -- There is room for the domains.
-      one-long : length (ys ++ drop 9 l) ≡ 25553
-      one-long = length-append ys (drop 9 l) ∙ omega (arith, ap length y ∙ header-length, length-drop 9 l, long)
-
-      pub domains-within : 9 + n ≤ length (ys ++ drop 9 l)
-      domains-within = rw one-long (le-trans (le-trans (le-add-right (9 + n) (triangleWords n d)) (le-trans (le-add-right (9 + n + triangleWords n d) used) few)) (omega arith))
-
-      pub domains-room : length domains ≡ length (midOf 9 ((9 + n) - 9) (ys ++ drop 9 l))
-      domains-room = hands .domains-words ∙ sym (mid-len 9 (9 + n) (ys ++ drop 9 l) domains-within ∙ omega arith)
-
-      -- There is room for the masks.
-      two-long : length (putMid 9 ((9 + n) - 9) (ys ++ drop 9 l) ds) ≡ 25553
-      two-long =
-          ap length second ∙ length-append (header n d s ++ domains) (drop (9 + n) l) ∙ omega (arith, two, length-drop (9 + n) l, few, long)
-
-      pub masks-part : Between (9 + n) from (length (putMid 9 ((9 + n) - 9) (ys ++ drop 9 l) ds))
-      masks-part = rw two-long (between (9 + n) from 25553 (omega (arith, start)) (omega (arith, start, few)) (omega arith))
-
-      pub masks-room : length (midOf (9 + n) (from - (9 + n)) (putMid 9 ((9 + n) - 9) (ys ++ drop 9 l) ds)) ≡ triangleWords n d
-      masks-room =
-          let whole : List ℕ = (header n d s ++ domains) ++ drop (9 + n) l in
-          let size : length whole ≡ 25553 = length-append (header n d s ++ domains) (drop (9 + n) l) ∙ omega (arith, two, length-drop (9 + n) l, few) in
-          ap (λ (m : List ℕ). length (midOf (9 + n) (from - (9 + n)) m)) second ∙ mid-len (9 + n) from whole (omega (arith, start, few)) ∙ omega (arith, start)
-
-      -- They come next.
-      pub third : (ms : List ℕ) → ms ≡ masks → putMid (9 + n) (from - (9 + n)) (putMid 9 ((9 + n) - 9) (ys ++ drop 9 l) ds) ms ≡ front ++ drop from l
-      third ms t =
-          rw start (part-more (header n d s ++ domains) masks l (putMid 9 ((9 + n) - 9) (ys ++ drop 9 l) ds) ms (9 + n) (triangleWords n d) second two t
-          (triangle-length n d (tableOf n d tables)) (omega (arith, few)))
-
-    module _ (m : List ℕ) (e : m ≡ front ++ drop from l) where
-      after : length (midOf from (length m - from) m) ≡ 25553 - from
-      after =
-          ap (λ (x : List ℕ). length (midOf from (length x - from) x)) e ∙ rest-long l front from (three ∙ sym start) (omega (arith, start, few))
-          ∙ ap (λ (k : ℕ). k - from) long
-
-      -- There is room for the used slots.
-      pub slots-part : Between from (length m) (length m)
-      slots-part =
-          let size : length m ≡ 25553 = ap length e ∙ length-append front (drop from l) ∙ omega (arith, three, start, length-drop from l, few, long) in
-          rw size (between from 25553 25553 (omega (arith, start, few)) (le-refl 25553) (omega arith))
-
-      pub slots-room : length (take used agenda) ≤ length (midOf from (length m - from) m)
-      slots-room = rw (after, used-length) (omega (arith, start, few))
-
-      -- They come last, and zeros after them.
-      pub slots-made : (zs : List ℕ) → zs ≡ take used agenda ++ replicate (length (midOf from (length m - from) m) - length (take used agenda)) 0
-          → putMid from (length m - from) m zs ≡ front ++ take used agenda ++ replicate (25553 - (9 + n + triangleWords n d + used)) 0
-      slots-made zs z =
-          let left : 25553 - from - used ≡ 25553 - (9 + n + triangleWords n d + used) = omega (arith, start) in
-          ap (λ (x : List ℕ). putMid from (length x - from) x zs) e ∙ front-rest l front zs from (three ∙ sym start) (omega (arith, start, few))
-          ∙ ap (λ (x : List ℕ). front ++ x) (z ∙ rw (after, used-length, left) refl)
-          ∙ sym (append-assoc front (take used agenda) (replicate (25553 - (9 + n + triangleWords n d + used)) 0))
-
   module _ (small : (i : ℕ) → getD agenda i 0 < 2 ^ 16) where
     -- The content is its four parts, one after the other.
-    pub parts : handedContent n d domains tables agenda s ≡ front ++ take used agenda
+    parts : handedContent n d domains tables agenda s ≡ four
     unfolding header contentOf
     parts =
         rw (length-stackOf n agenda (s .subproblems), stack-of-words n agenda (s .subproblems) (hands .agenda-words) small) refl
 
-    -- How many words they are.
-    pub handed-length : length (handedContent n d domains tables agenda s) ≡ 9 + n + triangleWords n d + s .subproblems * (n + 2)
-    handed-length = ap length parts ∙ length-append front (take used agenda) ∙ omega (arith, three, used-length)
+    -- Written one after the other where zeros stood, they are the content, and zeros after it.
+    pub content-put : (l l₁ l₂ l₃ l₄ first : List ℕ) (a b c : ℕ) → l ≡ zeros 25553 → first ≡ header n d s → (l₁ ≡ splice l 0 first) × (a ≡ 0 + length first)
+        → (l₂ ≡ splice l₁ a domains) × (b ≡ a + length domains) → (l₃ ≡ splice l₂ b masks) × (c ≡ b + triangleWords n d) → l₄ ≡ splice l₃ c slots
+        → l₄ ≡ handedContent n d domains tables agenda s ++ replicate (25553 - wordCount n d (s .subproblems)) 0
+    content-put l l₁ l₂ l₃ l₄ first a b c z h (e₁, is-a) (e₂, is-b) (e₃, is-c) e₄ =
+        let long : length l ≡ 25553 = zeros-long l 25553 z in
+        let nine : length first ≡ 9 = ap length h ∙ header-long n d s in
+        let size : length masks ≡ triangleWords n d = triangle-length n d (tableOf n d tables) in
+        let two : l₂ ≡ splice l 0 (first ++ domains) =
+        e₂ ∙ rw e₁ (splice-splice l 0 first domains a (omega arith) (omega arith)) in
+        let three : l₃ ≡ splice l 0 (first ++ domains ++ masks) =
+        e₃ ∙ rw two (splice-splice l 0 (first ++ domains) masks b (omega (arith, length-append first domains)) (omega (arith, hands .domains-words, few))) in
+        let all : l₄ ≡ splice l 0 (first ++ domains ++ masks ++ slots) =
+        e₄ ∙ rw three (splice-splice l 0 (first ++ domains ++ masks) slots c
+        (omega (arith, length-append first domains, length-append (first ++ domains) masks)) (omega (arith, hands .domains-words, few))) in
+        all ∙ rw (z, h, ← four-length, parts) (front-of-zeros four 25553)
 
-    -- What is written is the content, and zeros after it.
-    pub content-made : (w : List ℕ) → w ≡ front ++ take used agenda ++ replicate (25553 - (9 + n + triangleWords n d + used)) 0
-        → w ≡ handedContent n d domains tables agenda s ++ replicate (25553 - wordCount n d (s .subproblems)) 0
-    content-made w e = e ∙ ap (λ (x : List ℕ). x ++ replicate (25553 - (9 + n + triangleWords n d + used)) 0) (sym parts)
+    -- How many words they are.
+    pub handed-length : length (handedContent n d domains tables agenda s) ≡ wordCount n d (s .subproblems)
+    handed-length = ap length parts ∙ four-length
 
 -- ---- the words of a block
 

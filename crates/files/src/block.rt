@@ -26,7 +26,7 @@ pub(crate) fn byte(file: &[u8], at: usize) -> u8
 }
 
 // Word `k` of the bytes; 0 past the end.
-fn word(file: &[u8], k: usize) -> u16
+pub(crate) fn word(file: &[u8], k: usize) -> u16
     ensures { λ r. ⌜ r ≡ wordAt (now (file .entry)) k ⌝ }
 {
     if k < file.len() {
@@ -41,14 +41,6 @@ pub(crate) fn content_word(file: &[u8], k: usize) -> u16
     ensures { λ r. ⌜ r ≡ contentWord (now (file .entry)) k ⌝ }
 {
     word(file, 256 * (k / 253) + (2 + k % 253))
-}
-
-// Word `k` of one block.
-pub(crate) fn word_in(block: &[u8], k: usize) -> u16
-    requires { ⌜ (length (now block) ≡ 512) × (k < 256) ⌝ }
-    ensures { λ r. ⌜ r ≡ blockWord (now (block .entry)) 0 k ⌝ }
-{
-    wide(block[2 * k]) * 256 + wide(block[2 * k + 1])
 }
 
 // Word `k` of one block if its low byte came first.

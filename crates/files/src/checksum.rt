@@ -1,13 +1,11 @@
 // The check of a block: the ones' complement checksum of RFC 1071 over the 255 words before it.
 use crate::block;
 ghost use mathlib.Core.Path.{_≡_};
-ghost use mathlib.Core.List.{map};
 ghost use Prim.Native.Nat.{_+_, _/_, _%_, _<_};
 ghost use lib.ListN.{length};
 ghost use Rattle.splits.specs.Problem.{total};
-ghost use Rattle.splits.specs.Splits.{below};
 ghost use Rattle.files.specs.Blocks.{checkOf};
-ghost use Rattle.files.specs.Reading.{headOf};
+ghost use Rattle.files.specs.Reading.{blockWord, headOf};
 ghost use Rattle.files.specs.Calls.{Check-of};
 ghost use Rattle.files.specs.Work.Said.{valueAt};
 
@@ -42,23 +40,23 @@ pub(crate) fn check(block: &[u8]) -> u16
     65535 - (sum as u16)
 }
 
-// The bytes as one block: the first 512, or all and zeros after them.
-fn as_block(bytes: &[u8]) -> [u8; 512]
-    ensures { λ r. ⌜ r ≡ map (valueAt (now (bytes .entry))) (below 512) ⌝ }
+// The sum of the first 255 words of bytes; those past the end are 0, and add nothing.
+fn sum_of(bytes: &[u8]) -> u32
+    ensures { λ r. ⌜ r ≡ total 255 (blockWord (now (bytes .entry)) 0) ⌝ }
 {
-    let mut block = [0u8; 512];
-    let mut i = 0;
-    while i < 512 {
-        block[i] = block::byte(bytes, i);
-        i += 1;
+    let mut sum: u32 = 0;
+    let mut k = 0;
+    while k < 255 {
+        sum += block::word(bytes, k) as u32;
+        k += 1;
     }
-    block
+    sum
 }
 
-// The check of one block: of the first 255 words; those past the end of fewer bytes are 0, and add nothing.
+// The check of one block, of any number of bytes.
 pub fn check_of(block: &[u8]) -> u16
     ensures { λ r. ⌜ Check-of (now (block .entry)) r ⌝ }
 {
-    let whole = as_block(block);
-    check(&whole[..512])
+    let sum = folded(folded(sum_of(block)));
+    65535 - (sum as u16)
 }

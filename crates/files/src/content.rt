@@ -4,21 +4,22 @@ use crate::said;
 use search::state::State;
 ghost use mathlib.Core.Path.{_≡_};
 ghost use mathlib.Core.List.{_++_};
-ghost use Prim.Native.Nat.{_+_, _-_, _*_, _≤_};
+ghost use Prim.Native.Nat.{_+_, _-_, _*_, _≤_, _<_};
 ghost use lib.ListN.{length, replicate};
 ghost use Rattle.splits.specs.Problem.{tableOf};
 ghost use Rattle.files.specs.Content.{triangle};
-ghost use Rattle.files.specs.Reading.{triangleWords, agendaFrom, wordCount};
+ghost use Rattle.files.specs.Reading.{saidN, saidD, triangleWords, agendaFrom, wordCount};
 ghost use Rattle.files.specs.Calls.{handedContent};
-ghost use Rattle.files.specs.Work.Said.{Numbers};
-ghost use Rattle.files.specs.Work.Saved.{Savable, header};
+ghost use Rattle.search.specs.Work.Slots.{splice};
+ghost use Rattle.files.specs.Work.Said.{Numbers, partIn};
+ghost use Rattle.files.specs.Work.Saved.{zeros, Savable, header};
 
 // How many words of a content come before its agenda.
 pub(crate) fn agenda_from(n: usize, d: usize) -> usize
     requires { ⌜ Numbers n d ⌝ }
     ensures { λ r. ⌜ (r ≡ agendaFrom n d) × (r ≤ 7977) ⌝ }
 {
-    9 + n + said::triangle_words(n, d)
+    9 + n + n * (n - 1) / 2 * d
 }
 
 // How many words a content has.
@@ -27,6 +28,15 @@ pub(crate) fn words(n: usize, d: usize, subproblems: usize) -> usize
     ensures { λ r. ⌜ (r ≡ wordCount n d subproblems) × (r ≤ 25385) ⌝ }
 {
     agenda_from(n, d) + subproblems * (n + 2)
+}
+
+// The words of so many slots, in the words of a file's content.
+pub(crate) fn slots<'a>(file: &[u8], words: &'a [u16], count: usize) -> &'a [u16]
+    requires { ⌜ Numbers (saidN (now file)) (saidD (now file)) × ((count ≤ 512) × (length (now words) ≡ 25553)) ⌝ }
+    ensures { λ r. ⌜ (now r ≡ partIn (now (words .entry)) (agendaFrom (saidN (now (file .entry))) (saidD (now (file .entry)))) (count * (saidN (now (file .entry)) + 2))) × (length (now r) ≡ count * (saidN (now (file .entry)) + 2)) ⌝ }
+{
+    let n = said::n(file);
+    copying::part(words, agenda_from(n, said::d(file)), count * (n + 2))
 }
 
 // The nine words before the domains: n, d, the steps in two words and the checks in four, high first, the number of subproblems.
@@ -49,25 +59,29 @@ fn header(n: usize, d: usize, state: State) -> [u16; 9]
     ]
 }
 
-// The masks for `i` below `j`: of each variable those with the variables after it, which stand together.
-fn put_masks(n: usize, d: usize, tables: &[u16], words: &mut [u16])
-    requires { ⌜ Numbers n d × ((length (now tables) ≡ n * n * d) × (length (now words) ≡ triangleWords n d)) ⌝ }
-    ensures { λ r. ⌜ now (words .exit) ≡ triangle n d (tableOf n d (now (tables .entry))) ⌝ }
+// The masks of `i` with the variables after it, which stand together.
+fn masks_after(n: usize, d: usize, tables: &[u16], i: usize) -> &[u16]
+    requires { ⌜ Numbers n d × ((length (now tables) ≡ n * n * d) × (i < n)) ⌝ }
+    ensures { λ r. ⌜ (now r ≡ partIn (now (tables .entry)) ((i * n + i + 1) * d) ((n - (i + 1)) * d)) × (length (now r) ≡ (n - (i + 1)) * d) ⌝ }
 {
-    let mut i = 0;
-    let mut at = 0;
-    while i < n {
-        let row = (n - (i + 1)) * d;
-        let from = (i * n + i + 1) * d;
-        let to = from + row;
-        let end = at + row;
-        copying::put_words(&tables[from..to], &mut words[at..end]);
-        at = end;
-        i += 1;
-    }
+    copying::part(tables, (i * n + i + 1) * d, (n - (i + 1)) * d)
 }
 
-// The whole content, and zeros after it.
+// The masks for `i` below `j`, from `at` on; where they end.
+fn put_masks(n: usize, d: usize, tables: &[u16], words: &mut [u16], at: usize) -> usize
+    requires { ⌜ Numbers n d × ((length (now tables) ≡ n * n * d) × (at + triangleWords n d ≤ length (now words))) ⌝ }
+    ensures { λ r. ⌜ (now (words .exit) ≡ splice (now (words .entry)) at (triangle n d (tableOf n d (now (tables .entry))))) × (r ≡ at + triangleWords n d) ⌝ }
+{
+    let mut i = 0;
+    let mut end = at;
+    while i < n {
+        end = copying::put_at(masks_after(n, d, tables, i), words, end);
+        i += 1;
+    }
+    end
+}
+
+// The whole content, in words that are zeros: its parts one after the other.
 pub(crate) fn put(
     n: usize,
     d: usize,
@@ -77,15 +91,13 @@ pub(crate) fn put(
     state: State,
     words: &mut [u16],
 )
-    requires { ⌜ Savable n d (now domains) (now tables) (now agenda) state × (length (now words) ≡ 25553) ⌝ }
+    requires { ⌜ Savable n d (now domains) (now tables) (now agenda) state × (now words ≡ zeros 25553) ⌝ }
     ensures { λ r. ⌜ now (words .exit) ≡ handedContent n d (now (domains .entry)) (now (tables .entry)) (now (agenda .entry)) state ++ replicate (25553 - wordCount n d (state .subproblems)) 0 ⌝ }
 {
     let first = header(n, d, state);
-    let masks = 9 + n;
-    let slots = agenda_from(n, d);
     let used = state.subproblems * (n + 2);
-    copying::put_words(&first[..9], &mut words[..9]);
-    copying::put_words(domains, &mut words[9..masks]);
-    put_masks(n, d, tables, &mut words[masks..slots]);
-    copying::put_padded(&agenda[..used], &mut words[slots..]);
+    let at = copying::put_at(&first[..9], words, 0);
+    let at = copying::put_at(domains, words, at);
+    let at = put_masks(n, d, tables, words, at);
+    copying::put_at(&agenda[..used], words, at);
 }

@@ -6,9 +6,9 @@ use search::state::Counts;
 use search::state::State;
 use search::state::Steps;
 ghost use mathlib.Core.Path.{_≡_};
-ghost use lib.ListN.{length};
 ghost use Rattle.files.specs.Calls.{Saves, Loads};
-ghost use Rattle.files.specs.Work.Said.{Refused, Read};
+ghost use Rattle.files.specs.Work.Said.{Refused, Told, Read};
+ghost use Rattle.files.specs.Work.Saved.{zeros};
 
 mod block;
 pub mod checksum;
@@ -67,15 +67,27 @@ fn refuse(refusal: u32) -> Loaded
     }
 }
 
+// What a file says that is not refused.
+fn accept(file: &[u8]) -> Loaded
+    ensures { λ r. ⌜ Told (now (file .entry)) r ⌝ }
+{
+    Loaded {
+        refusal: 0,
+        n: said::n(file),
+        d: said::d(file),
+        state: said::state(file),
+    }
+}
+
 // Room for the content of the largest file, 101 times 253 words, and for its tables.
 fn room_for_content() -> [u16; 25553]
-    ensures { λ r. ⌜ 25553 ≡ length r ⌝ }
+    ensures { λ r. ⌜ r ≡ zeros 25553 ⌝ }
 {
     [0; 25553]
 }
 
 fn room_for_tables() -> [u16; 16384]
-    ensures { λ r. ⌜ 16384 ≡ length r ⌝ }
+    ensures { λ r. ⌜ r ≡ zeros 16384 ⌝ }
 {
     [0; 16384]
 }
@@ -84,7 +96,7 @@ fn room_for_tables() -> [u16; 16384]
 pub fn load(file: &[u8], domains: &mut [u16], tables: &mut [u16], agenda: &mut [u16]) -> Loaded
     ensures { λ r. ⌜ Loads (now (file .entry)) (now (domains .entry)) (now (domains .exit)) (now (tables .entry)) (now (tables .exit)) (now (agenda .entry)) (now (agenda .exit)) r ⌝ }
 {
-    let refusal = reading::refusal_of_file(file);
+    let refusal = reading::refusal_of_sizes(file);
     if refusal != 0 {
         return refuse(refusal);
     }
@@ -93,7 +105,7 @@ pub fn load(file: &[u8], domains: &mut [u16], tables: &mut [u16], agenda: &mut [
     load_content(file, &words[..25553], domains, tables, agenda)
 }
 
-// The same past 14, with the words of the content.
+// The same of a file whose sizes fit, with the words of its content.
 fn load_content(
     file: &[u8],
     words: &[u16],
@@ -104,15 +116,8 @@ fn load_content(
     requires { ⌜ Read (now file) (now words) ⌝ }
     ensures { λ r. ⌜ Loads (now (file .entry)) (now (domains .entry)) (now (domains .exit)) (now (tables .entry)) (now (tables .exit)) (now (agenda .entry)) (now (agenda .exit)) r ⌝ }
 {
-    let refusal = reading::refusal_of_numbers(file);
-    if refusal != 0 {
-        return refuse(refusal);
-    }
-    let n = said::n(file);
-    let d = said::d(file);
-    let count = n * n * d;
     let mut room = room_for_tables();
-    filling::put_tables(words, n, d, &mut room[..count]);
+    let count = filling::put_tables(words, said::n(file), said::d(file), &mut room[..16384]);
     let masks = &room[..count];
     let refusal = reading::refusal(
         file,
@@ -125,21 +130,6 @@ fn load_content(
     if refusal != 0 {
         return refuse(refusal);
     }
-    let state = said::state(file);
-    filling::put_search(
-        words,
-        masks,
-        n,
-        d,
-        state.subproblems,
-        domains,
-        tables,
-        agenda,
-    );
-    Loaded {
-        refusal: 0,
-        n,
-        d,
-        state,
-    }
+    filling::put_search(file, words, masks, domains, tables, agenda);
+    accept(file)
 }

@@ -2,12 +2,14 @@
 use crate::block;
 use crate::checksum;
 use crate::content;
+use crate::copying;
 use crate::said;
 ghost use mathlib.Core.Path.{_≡_};
 ghost use mathlib.Core.Bool.{cond};
 ghost use Prim.Native.Nat.{_+_, _-_, _*_, _/_, _<_, _≤_};
 ghost use lib.ListN.{length};
 ghost use Rattle.splits.specs.Subproblems.{every};
+ghost use Rattle.search.specs.FirstChecks.{orElse};
 ghost use Rattle.files.specs.Reading.{goodBlock, refusalOfFile, refusalOfWords};
 ghost use Rattle.files.specs.Calls.{loadRefusal};
 ghost use Rattle.files.specs.Work.Said.{goodIn, numbersSaid, zeroIn, filled, sizedIn, Ready};
@@ -17,13 +19,13 @@ fn is_good(block: &[u8], number: usize, blocks: usize) -> bool
     requires { ⌜ length (now block) ≡ 512 ⌝ }
     ensures { λ r. ⌜ r ≡ goodIn (now (block .entry)) number blocks ⌝ }
 {
-    if (block::word_in(block, 0) as usize) != number {
+    if (block::word(block, 0) as usize) != number {
         return false;
     }
-    if (block::word_in(block, 1) as usize) != blocks {
+    if (block::word(block, 1) as usize) != blocks {
         return false;
     }
-    block::word_in(block, 255) == checksum::check(block)
+    block::word(block, 255) == checksum::check(block)
 }
 
 // Whether every block is good.
@@ -44,7 +46,7 @@ fn all_good(file: &[u8], blocks: usize) -> bool
 }
 
 // 14, or none.
-pub(crate) fn refusal_of_file(file: &[u8]) -> u32
+fn refusal_of_file(file: &[u8]) -> u32
     ensures { λ r. ⌜ r ≡ refusalOfFile (now (file .entry)) ⌝ }
 {
     let blocks = file.len() / 512;
@@ -112,7 +114,7 @@ fn fills(file: &[u8], words: usize) -> bool
 }
 
 // 15, or none, of the numbers and of how many words there are.
-pub(crate) fn refusal_of_numbers(file: &[u8]) -> u32
+fn refusal_of_numbers(file: &[u8]) -> u32
     ensures { λ r. ⌜ r ≡ cond (sizedIn (now (file .entry))) 0 15 ⌝ }
 {
     if !numbers_fit(file) {
@@ -125,22 +127,29 @@ pub(crate) fn refusal_of_numbers(file: &[u8]) -> u32
     15
 }
 
+// 14; then 15 of the numbers and of how many words there are; or none.
+pub(crate) fn refusal_of_sizes(file: &[u8]) -> u32
+    ensures { λ r. ⌜ r ≡ orElse (refusalOfFile (now (file .entry))) (cond (sizedIn (now (file .entry))) 0 15) ⌝ }
+{
+    let refusal = refusal_of_file(file);
+    if refusal != 0 {
+        return refusal;
+    }
+    refusal_of_numbers(file)
+}
+
 // 15, or none, of the rules: the first checks of the search that the words say, in an agenda of 512 slots.
 fn refusal_of_rules(file: &[u8], words: &[u16], tables: &[u16]) -> u32
     requires { ⌜ Ready (now file) (now words) (now tables) ⌝ }
     ensures { λ r. ⌜ r ≡ refusalOfWords (now (file .entry)) ⌝ }
 {
     let n = said::n(file);
-    let d = said::d(file);
-    let last = 9 + n;
-    let from = content::agenda_from(n, d);
-    let end = from + 512 * (n + 2);
     let refusal = search::first::search_refusal(
         n,
-        d,
-        &words[9..last],
+        said::d(file),
+        copying::part(words, 9, n),
         tables,
-        &words[from..end],
+        content::slots(file, words, 512),
         said::state(file),
     );
     if refusal == 0 {
@@ -149,7 +158,7 @@ fn refusal_of_rules(file: &[u8], words: &[u16], tables: &[u16]) -> u32
     15
 }
 
-// The refusal of load past 14, of the numbers of words lent as domains, tables and agenda; 0 for none.
+// The refusal of load past 14 and the sizes, of the numbers of words lent as domains, tables and agenda; 0 for none.
 pub(crate) fn refusal(
     file: &[u8],
     words: &[u16],

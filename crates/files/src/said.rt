@@ -7,7 +7,7 @@ use search::state::Steps;
 ghost use mathlib.Core.Path.{_≡_};
 ghost use Prim.Native.Nat.{suc, _+_, _-_, _*_, _<_, _≤_};
 ghost use Rattle.splits.specs.Problem.{total};
-ghost use Rattle.files.specs.Reading.{contentWord, saidN, saidD, saidSubproblems, triangleWords, trianglePlace};
+ghost use Rattle.files.specs.Reading.{contentWord, saidN, saidD, saidSubproblems, trianglePlace};
 ghost use Rattle.files.specs.Work.Said.{Numbers, StateSaid};
 
 // The number of variables.
@@ -58,14 +58,6 @@ pub(crate) fn pairs_before(n: usize, i: usize) -> usize
     ensures { λ r. ⌜ (r ≡ total i (λ h. n - suc h)) × (r ≤ 1024) ⌝ }
 {
     n * i - i * (i + 1) / 2
-}
-
-// How many words of tables a file of n variables and d values has.
-pub(crate) fn triangle_words(n: usize, d: usize) -> usize
-    requires { ⌜ Numbers n d ⌝ }
-    ensures { λ r. ⌜ (r ≡ triangleWords n d) × (r ≤ 7936) ⌝ }
-{
-    n * (n - 1) / 2 * d
 }
 
 // Where the masks for `i` below `j` begin in a content.

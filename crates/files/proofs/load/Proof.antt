@@ -1,21 +1,22 @@
--- `load` meets its contract: 14 changes nothing; else the content decides.
+-- `load` meets its contract: 14 and wrong sizes change nothing; else the content decides.
 -- Assumes nothing.
 use borrow.Author.Needs.{needs}
-use mathlib.Core.Path.{sym, _∙_}
 use Rattle.files.proofs.Whole.{file-whole}
-use Rattle.files.proofs.Refused.{refused-14}
+use Rattle.files.proofs.Refused.{refused-sizes, sizes-passed}
 use Rattle.files.proofs.LoadOutcomes.{load-refused, content-read}
 use Rattle.files.proofs.load.Statement.{statement}
 use Rattle.files.proofs.load.Tie as tie
 
-refusal-of-file-requires : tie.Need-refusal-of-file-requires
-refusal-of-file-requires c κs = search needs
+refusal-of-sizes-requires : tie.Need-refusal-of-sizes-requires
+refusal-of-sizes-requires c κs = search needs
 
 refuse-requires : tie.Need-refuse-requires
 refuse-requires c κs = search needs
 
 returns : tie.Need-returns
-returns c = load-refused _ _ _ _ _ (refused-14 _ _ _ _ _ (c .before .before .refusal-of-file .ensures) (c .before .if1 .taken)) (c .before .if1 .taken) _ (c .refuse .ensures)
+returns c =
+    let is = refused-sizes _ _ _ _ _ (c .before .before .refusal-of-sizes .ensures) (c .before .if1 .taken) in
+    load-refused _ _ _ _ _ is (c .before .if1 .taken) _ (c .refuse .ensures)
 
 room-for-content-requires : tie.Need-room-for-content-requires
 room-for-content-requires c κs = search needs
@@ -25,14 +26,18 @@ slice-aggregate-put-content c = search needs
 
 put-content-requires : tie.Need-put-content-requires
 put-content-requires c κs =
-    let whole = file-whole (c .before .before .before .before .before .before .before .before .args .file .now) (sym (c .before .before .before .refusal-of-file .ensures) ∙ c .before .before .if1 .left) in
-    (whole .whole, (whole .few, sym (c .before .room-for-content .ensures)))
+    let passed = sizes-passed _ _ (c .before .before .before .refusal-of-sizes .ensures) (c .before .before .if1 .left) in
+    let whole = file-whole _ (passed .0) in
+    (whole .whole, (whole .few, c .before .room-for-content .ensures))
 
 slice-aggregate-load-content : tie.Need-slice-aggregate-load-content
 slice-aggregate-load-content c = search needs
 
 load-content-requires : tie.Need-load-content-requires
-load-content-requires c κs = content-read _ _ (sym (c .before .before .before .before .before .before .before .before .before .refusal-of-file .ensures) ∙ c .before .before .before .before .before .before .before .before .if1 .left) (c .before .before .before .before .before .put-content .ensures)
+load-content-requires c κs =
+    let put = c .before .before .before .before .before in
+    let passed = sizes-passed _ _ (put .before .before .before .before .refusal-of-sizes .ensures) (put .before .before .before .if1 .left) in
+    content-read _ _ (passed .0) (passed .1) (put .put-content .ensures)
 
 same-length : tie.Need-same-length
 same-length c = c .before .before .before .before .before .before .load-content .kept .1 .1 .0
@@ -50,7 +55,7 @@ pub load-spec : {M : Type 1} → statement M
 load-spec =
     tie.close
     (tie.spec
-    refusal-of-file-requires
+    refusal-of-sizes-requires
     refuse-requires
     returns
     room-for-content-requires

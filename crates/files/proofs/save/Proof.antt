@@ -1,11 +1,10 @@
 -- `save` meets its contract: refused, nothing is changed; else the blocks are written.
 -- Assumes nothing.
 use borrow.Author.Needs.{needs}
-use mathlib.Core.Path.{refl, sym, _∙_}
+use mathlib.Core.Path.{refl, _∙_}
 use native.Mathlib.Omega.{arith}
-use Prim.Native.Nat.{_-_}
-use Rattle.files.specs.Reading.{wordCount}
-use Rattle.files.proofs.SaveOutcomes.{first-passed, save-refused, save-short, save-written}
+use Rattle.files.proofs.SaveOutcomes.{save-passed, save-refused, save-short, save-written}
+use Rattle.files.proofs.Filled.{zeros-long}
 use Rattle.files.proofs.save.Statement.{statement}
 use Rattle.files.proofs.save.Tie as tie
 
@@ -16,7 +15,7 @@ returns : tie.Need-returns
 returns c = save-refused _ _ _ _ _ _ _ _ _ (c .before .search-refusal .ensures) (c .if1 .taken) refl refl
 
 words-requires : tie.Need-words-requires
-words-requires c κs = let hands = first-passed _ _ _ _ _ _ (sym (c .before .search-refusal .ensures) ∙ c .if1 .left) in (hands .numbers, hands .few)
+words-requires c κs = let hands = save-passed _ _ _ _ _ _ _ (c .before .search-refusal .ensures) (c .if1 .left) in (hands .numbers, hands .few)
 
 add-blocks : tie.Need-add-blocks
 add-blocks c = search needs
@@ -25,7 +24,10 @@ mul-if2 : tie.Need-mul-if2
 mul-if2 c = search needs
 
 returns-2 : tie.Need-returns-2
-returns-2 c = save-short _ _ _ _ _ _ _ (λ i. omega (arith, c .before .before .before .before .before .shared-slice-known3 .given i)) _ _ (c .before .before .before .search-refusal .ensures) (c .before .before .if1 .left) (c .before .words .ensures .0) _ (c .if2 .taken) refl refl
+returns-2 c =
+    let small = c .before .before .before .before .before .shared-slice-known3 .given in
+    save-short _ _ _ _ _ _ _ (λ i. omega (arith, small i)) _ _ (c .before .before .before .search-refusal .ensures) (c .before .before .if1 .left)
+    (c .before .words .ensures .0) _ (c .if2 .taken) refl refl
 
 room-for-content-requires : tie.Need-room-for-content-requires
 room-for-content-requires c κs = search needs
@@ -34,19 +36,32 @@ slice-aggregate-put : tie.Need-slice-aggregate-put
 slice-aggregate-put c = search needs
 
 put-requires : tie.Need-put-requires
-put-requires c κs = (first-passed _ _ _ _ _ _ (sym (c .before .before .before .before .before .search-refusal .ensures) ∙ c .before .before .before .before .if1 .left), sym (c .before .room-for-content .ensures))
+put-requires c κs =
+    let passed = c .before .before .before .before in
+    (save-passed _ _ _ _ _ _ _ (passed .before .search-refusal .ensures) (passed .if1 .left), c .before .room-for-content .ensures)
 
 slice-aggregate-put-blocks : tie.Need-slice-aggregate-put-blocks
 slice-aggregate-put-blocks c = search needs
 
 put-blocks-requires : tie.Need-put-blocks-requires
-put-blocks-requires c κs = (c .before .before .before .put .kept .1 .1 .1 .1 .1 .1 .0 ∙ sym (c .before .before .before .before .before .room-for-content .ensures), (omega (arith, c .before .before .before .before .before .before .before .words .ensures .1), c .before .before .before .before .before .before .if2 .left))
+put-blocks-requires c κs =
+    let put = c .before .before .before in
+    let long = put .put .kept .1 .1 .1 .1 .1 .1 .0 ∙ zeros-long _ _ (put .before .before .room-for-content .ensures) in
+    let counted = put .before .before .before .before in
+    (long, (omega (arith, counted .words .ensures .1), put .before .before .before .if2 .left))
 
 same-length : tie.Need-same-length
 same-length c = c .before .before .put-blocks .kept .1 .1 .0
 
 returns-3 : tie.Need-returns-3
-returns-3 c = save-written _ _ _ _ _ _ _ (λ i. omega (arith, c .before .before .before .before .before .before .before .before .before .before .before .before .before .before .shared-slice-known3 .given i)) _ _ (c .before .before .before .before .before .before .before .before .before .before .before .before .search-refusal .ensures) (c .before .before .before .before .before .before .before .before .before .before .before .if1 .left) (c .before .before .before .before .before .before .before .before .before .before .words .ensures .0) _ _ (c .before .before .before .before .before .before .before .before .before .if2 .left) refl refl _ (25553 - wordCount (c .before .before .before .before .before .before .before .before .before .before .before .before .before .before .before .before .before .args .n) (c .before .before .before .before .before .before .before .before .before .before .before .before .before .before .before .before .before .args .d) (c .before .before .before .before .before .before .before .before .before .before .before .before .before .before .before .before .before .args .state .subproblems)) (c .before .before .before .before .before .before .put .ensures) (c .before .before .put-blocks .ensures)
+returns-3 c =
+    let put = c .before .before .before .before .before .before in
+    let fits = put .before .before .before in
+    let counted = fits .before in
+    let passed = counted .before in
+    let small = passed .before .before .before .shared-slice-known3 .given in
+    save-written _ _ _ _ _ _ _ (λ i. omega (arith, small i)) _ _ (passed .before .search-refusal .ensures) (passed .if1 .left) (counted .words .ensures .0) _ _
+    (fits .if2 .left) refl refl _ (put .put .ensures) (c .before .before .put-blocks .ensures)
 
 pub save-spec : {M : Type 1} → statement M
 save-spec =

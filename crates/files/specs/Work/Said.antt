@@ -109,26 +109,26 @@ unfoldable pub slotsPart : List ℕ → ℕ → ℕ → ℕ → ℕ → List ℕ
 slotsPart words n d subproblems all =
     partIn words (agendaFrom n d) (subproblems * (n + 2)) ++ replicate (all - subproblems * (n + 2)) 0
 
--- Memory that takes a search of n, d and so many subproblems.
-pub record Lent (words all : List ℕ) (n d subproblems : ℕ) (domains tables agenda : List ℕ) : Type 0 where
-  pub numbers : Numbers n d
-  pub few : subproblems ≤ 512
-  pub long : length words ≡ 25553
-  pub domains-words : length domains ≡ n
-  pub tables-words : length all ≡ length tables
-  pub agenda-words : subproblems * (n + 2) ≤ length agenda
-
--- A file that passed 14, and the words of its content.
+-- A file that passed 14 and whose numbers fit, and the words of its content.
 pub record Read (file words : List ℕ) : Type 0 where
   pub whole : refusalOfFile file ≡ 0
+  pub sized : sizedIn file ≡ true
   pub long : length words ≡ 25553
   pub says : (k : ℕ) → getD words k 0 ≡ contentWord file k
 
--- Its numbers fit, too, and its tables are made.
+-- Its tables are made, too.
 pub record Ready (file words tables : List ℕ) : Type 0 where
   pub read : Read file words
-  pub sized : sizedIn file ≡ true
   pub made : tables ≡ tableWords (saidN file) (saidD file) (saidAllowed file)
+
+-- Memory that takes the search that a file says.
+pub record Lent (file words masks domains tables agenda : List ℕ) : Type 0 where
+  pub numbers : Numbers (saidN file) (saidD file)
+  pub few : saidSubproblems file ≤ 512
+  pub long : length words ≡ 25553
+  pub domains-words : length domains ≡ saidN file
+  pub tables-words : length masks ≡ length tables
+  pub agenda-words : saidSubproblems file * (saidN file + 2) ≤ length agenda
 
 -- A refusal, and zeros.
 pub record Refused (refusal : ℕ) (r : Loaded) : Type 0 where
@@ -138,3 +138,10 @@ pub record Refused (refusal : ℕ) (r : Loaded) : Type 0 where
   pub steps : r .state .counts .steps .0 ≡ 0
   pub checks : r .state .counts .checks .0 ≡ 0
   pub subproblems : r .state .subproblems ≡ 0
+
+-- What a file says, and no refusal.
+pub record Told (file : List ℕ) (r : Loaded) : Type 0 where
+  pub its : r .refusal ≡ 0
+  pub its-n : r .n ≡ saidN file
+  pub its-d : r .d ≡ saidD file
+  pub state : StateSaid file (r .state)

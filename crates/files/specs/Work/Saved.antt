@@ -2,11 +2,15 @@
 use mathlib.Core.Path.{_≡_}
 use mathlib.Core.List.{List, [], _∷_, _++_}
 use Prim.Native.Nat.{ℕ, _+_, _*_, _/_, _%_, _^_, _≤_}
-use lib.ListN.{length, take, drop}
+use lib.ListN.{length, take, drop, replicate}
 use Rattle.search.specs.declared.state.State.{State}
 use Rattle.files.specs.Blocks.{fileBytes, blockWords, firstBlocks}
 use Rattle.files.specs.Content.{firstWord}
 use Rattle.files.specs.Work.Said.{Numbers}
+
+-- Words that are zeros.
+unfoldable pub zeros : ℕ → List ℕ
+zeros words = replicate words 0
 
 -- What the first checks leave.
 pub record Savable (n d : ℕ) (domains tables agenda : List ℕ) (s : State) : Type 0 where

@@ -31,7 +31,10 @@ sub-result : tie.Need-sub-result
 sub-result c = search needs
 
 returns : tie.Need-returns
-returns c = check-made _ _ _ _ _ (λ i. omega (arith, c .before .before .before .before .before .shared-slice-known .given i)) (sum-read _ _ _ (c .before .before .before .before .words-of .ensures) (c .before .before .sum .ensures)) (c .before .folded .ensures) (c .folded2 .ensures)
+returns c =
+    let words = c .before .before .before .before in
+    let read = sum-read _ _ _ (words .words-of .ensures) (c .before .before .sum .ensures) in
+    check-made _ _ _ _ _ (λ i. omega (arith, words .before .shared-slice-known .given i)) read (c .before .folded .ensures) (c .folded2 .ensures)
 
 pub check-spec : {M : Type 1} → statement M
 check-spec =

@@ -1,23 +1,37 @@
 -- `content::agenda_from` meets its contract.
 -- Assumes nothing.
 use borrow.Author.Needs.{needs}
-use mathlib.Core.Path.{ap}
-use Prim.Native.Nat.{ℕ, _+_}
+use mathlib.Core.Path.{refl}
 use native.Mathlib.Omega.{arith}
+use Rattle.files.proofs.Mirrors.{square-few, triangle-few}
 use Rattle.files.proofs.content.agenda_from.Statement.{statement}
 use Rattle.files.proofs.content.agenda_from.Tie as tie
 
 add-result : tie.Need-add-result
 add-result c = search needs
 
-triangle-words-requires : tie.Need-triangle-words-requires
-triangle-words-requires c κs = search needs
+sub-result : tie.Need-sub-result
+sub-result c = search needs
+
+mul-result : tie.Need-mul-result
+mul-result c = omega (arith, square-few _ _ (c .pre))
+
+mul-result-2 : tie.Need-mul-result-2
+mul-result-2 c = omega (arith, triangle-few _ _ (c .pre))
 
 add-result-2 : tie.Need-add-result-2
-add-result-2 c = search needs
+add-result-2 c = omega (arith, triangle-few _ _ (c .pre))
 
 returns : tie.Need-returns
-returns c = (ap (λ (x : ℕ). 9 + c .before .args .n + x) (c .triangle-words .ensures .0), omega arith)
+returns c = (refl, omega (arith, triangle-few _ _ (c .pre)))
 
 pub agenda-from-spec : {M : Type 1} → statement M
-agenda-from-spec = tie.close (tie.spec add-result triangle-words-requires add-result-2 returns)
+agenda-from-spec =
+    tie.close
+    (tie.spec
+    add-result
+    sub-result
+    mul-result
+    mul-result-2
+    add-result-2
+    returns)

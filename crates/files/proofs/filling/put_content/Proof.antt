@@ -1,58 +1,55 @@
--- `filling::put_content` meets its contract.
+-- `filling::put_content` meets its contract. The invariant: the blocks passed are read.
 -- Assumes nothing.
 use borrow.Author.Needs.{needs}
+use mathlib.Core.Path.{sym, _∙_}
+use Prim.Native.Nat.{_-_}
 use native.Mathlib.Omega.{arith}
-use mathlib.Core.Path.{sym}
-use lib.Seq.{length-take-le}
-use Rattle.files.proofs.Filled.{content-made}
+use Rattle.files.proofs.Filled.{zeros-long, Blocks, blocks-none, blocks-more, blocks-end}
 use Rattle.files.proofs.filling.put_content.Statement.{statement}
 use Rattle.files.proofs.filling.put_content.Tie as tie
 
-mul-used : tie.Need-mul-used
-mul-used c = search needs
+abbrev Inv-loop : tie.InvT-loop
+Inv-loop file words₀ blocks b₀ words b = Blocks file words₀ words b
 
-slice-relend-prefix-put-blocks : tie.Need-slice-relend-prefix-put-blocks
-slice-relend-prefix-put-blocks c = search needs
+abbrev μ-loop : tie.MeasureT-loop
+μ-loop file words₀ blocks b₀ words b = blocks - b
 
-slice-aggregate-put-blocks : tie.Need-slice-aggregate-put-blocks
-slice-aggregate-put-blocks c = sym (length-take-le _ _ (omega arith))
+loop-holds : tie.Need-loop-holds Inv-loop μ-loop
+loop-holds c = blocks-none _ _ (c .before .before .pre .1 .1)
 
-put-blocks-requires : tie.Need-put-blocks-requires
-put-blocks-requires c κs = (c .before .before .before .pre .0, (c .before .before .before .pre .1 .0, length-take-le _ _ (omega arith)))
+put-block-requires : tie.Need-put-block-requires Inv-loop μ-loop
+put-block-requires c κs = (omega arith, (omega arith, c .before .before .loop .inv .long))
 
-mul-put-zeros : tie.Need-mul-put-zeros
-mul-put-zeros c = search needs
+add-b : tie.Need-add-b Inv-loop μ-loop
+add-b c = search needs
 
-sub-put-zeros : tie.Need-sub-put-zeros
-sub-put-zeros c = search needs
+loop-less : tie.Need-loop-less Inv-loop μ-loop
+loop-less c = search needs
 
-part-put-zeros-start : tie.Need-part-put-zeros-start
-part-put-zeros-start c = search needs
+loop-again : tie.Need-loop-again Inv-loop μ-loop
+loop-again c =
+    let pre = c .before .before .before .before .before .before .before .before .pre in
+    let put = c .before .before .put-block in
+    blocks-more _ _ _ _ _ (pre .1 .1) (c .before .before .before .before .before .loop .inv) (omega arith) (pre .1 .0) (put .ensures) (put .kept .1 .1 .0)
 
-part-put-zeros-end : tie.Need-part-put-zeros-end
-part-put-zeros-end c = search needs
+same-length : tie.Need-same-length Inv-loop μ-loop
+same-length c = c .before .loop .inv .long ∙ sym (zeros-long _ _ (c .before .before .before .before .pre .1 .1))
 
-put-zeros-requires : tie.Need-put-zeros-requires
-put-zeros-requires c κs = search needs
-
-same-length : tie.Need-same-length
-same-length c = search needs
-
-returns : tie.Need-returns
-returns c = content-made _ _ _ _ _ (c .before .before .before .before .before .before .before .before .before .before .pre .0) (c .before .before .before .before .before .before .before .before .before .before .pre .1 .0) (c .before .before .before .before .before .before .before .before .before .before .pre .1 .1) (c .before .before .before .before .before .before .put-blocks .ensures) (c .before .before .put-zeros .ensures)
+returns : tie.Need-returns Inv-loop μ-loop
+returns c =
+    let pre = c .before .before .before .before .pre in
+    blocks-end _ _ _ _ (pre .1 .1) (c .before .loop .inv) (omega arith) (pre .0) (pre .1 .0)
 
 pub put-content-spec : {M : Type 1} → statement M
 put-content-spec =
     tie.close
     (tie.spec
-    mul-used
-    slice-relend-prefix-put-blocks
-    slice-aggregate-put-blocks
-    put-blocks-requires
-    mul-put-zeros
-    sub-put-zeros
-    part-put-zeros-start
-    part-put-zeros-end
-    put-zeros-requires
+    Inv-loop
+    μ-loop
+    loop-holds
+    put-block-requires
+    add-b
+    loop-less
+    loop-again
     same-length
     returns)

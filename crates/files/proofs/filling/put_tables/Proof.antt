@@ -1,81 +1,45 @@
 -- `filling::put_tables` meets its contract. The invariant: the rows passed are written.
 -- Assumes nothing.
 use borrow.Author.Needs.{needs}
-use mathlib.Core.Path.{_≡_, _∙_}
-use Prim.Native.Nat.{_+_, _-_, _*_, _≤_}
+use Prim.Native.Nat.{_-_, _≤_}
 use native.Mathlib.Omega.{arith}
-use mathlib.Core.List.{_++_}
-use lib.ListN.{length, drop}
-use borrow.Rule.Slice.PartMut.{mid-len}
-use Rattle.files.specs.Work.Said.{tablePart}
-use Rattle.files.proofs.Filled.{table-none, half-long, half-room, table-more, table-kept, table-end, table-row, row-width}
+use Rattle.files.specs.Work.Said.{rowPart}
+use Rattle.files.proofs.Filled.{Passed, passed-none, before-room, own-fits, after-room, rows-more, tables-end}
 use Rattle.files.proofs.filling.put_tables.Statement.{statement}
 use Rattle.files.proofs.filling.put_tables.Tie as tie
 
 abbrev Inv-loop : tie.InvT-loop
-Inv-loop words n d masks₀ row i₀ masks i = (i ≤ n) × ((length masks ≡ n * n * d) × (masks ≡ tablePart words n d i ++ drop (i * (n * d)) masks₀))
+Inv-loop words n d masks₀ i₀ end₀ masks i end = (i ≤ n) × Passed (λ k. rowPart words n d k n) masks₀ 0 masks i end
 
 abbrev μ-loop : tie.MeasureT-loop
-μ-loop words n d masks₀ row i₀ masks i = n - i
-
-mul-row : tie.Need-mul-row Inv-loop μ-loop
-mul-row c = row-width _ _ (c .before .before .pre .0)
+μ-loop words n d masks₀ i₀ end₀ masks i end = n - i
 
 loop-holds : tie.Need-loop-holds Inv-loop μ-loop
-loop-holds c = (omega arith, (omega arith, table-none _ _ _ _))
-
-mul-at : tie.Need-mul-at Inv-loop μ-loop
-mul-at c = table-row _ _ _ _ (c .before .before .before .before .pre .0) (c .loop-test .taken) (c .before .loop .inv .1 .0) .before .start
-
-mul-own : tie.Need-mul-own Inv-loop μ-loop
-mul-own c = table-row _ _ _ _ (c .before .before .before .before .pre .0) (c .loop-test .taken) (c .before .loop .inv .1 .0) .own
-
-add-own : tie.Need-add-own Inv-loop μ-loop
-add-own c = table-row _ _ _ _ (c .before .before .before .before .pre .0) (c .loop-test .taken) (c .before .loop .inv .1 .0) .before .end
-
-add-end : tie.Need-add-end Inv-loop μ-loop
-add-end c = table-row _ _ _ _ (c .before .before .before .before .pre .0) (c .loop-test .taken) (c .before .loop .inv .1 .0) .end
-
-mul-put-before : tie.Need-mul-put-before Inv-loop μ-loop
-mul-put-before c = table-row _ _ _ _ (c .before .before .before .before .pre .0) (c .loop-test .taken) (c .before .loop .inv .1 .0) .before .bytes
-
-sub-put-before : tie.Need-sub-put-before Inv-loop μ-loop
-sub-put-before c = table-row _ _ _ _ (c .before .before .before .before .pre .0) (c .loop-test .taken) (c .before .loop .inv .1 .0) .before .rises
-
-part-put-before-start : tie.Need-part-put-before-start Inv-loop μ-loop
-part-put-before-start c = table-row _ _ _ _ (c .before .before .before .before .pre .0) (c .loop-test .taken) (c .before .loop .inv .1 .0) .before .rises
-
-part-put-before-end : tie.Need-part-put-before-end Inv-loop μ-loop
-part-put-before-end c = table-row _ _ _ _ (c .before .before .before .before .pre .0) (c .loop-test .taken) (c .before .loop .inv .1 .0) .before .within
+loop-holds c = (omega arith, passed-none _ _ _)
 
 put-before-requires : tie.Need-put-before-requires Inv-loop μ-loop
 put-before-requires c κs =
-    let a = c .before .before .before .before .before .args in
     let pre = c .before .before .before .before .before .pre in
-    let i = c .before .before .loop .i in
-    let at = i * (a .n * a .d) in
-    let taken = c .before .loop-test .taken in
-    (pre .0, (taken, (pre .1 .0, mid-len at (at + i * a .d) (c .before .before .loop .masks) (table-row _ _ _ _ (c .before .before .before .before .before .pre .0) (c .before .loop-test .taken) (c .before .before .loop .inv .1 .0) .before .within) ∙ omega arith)))
+    let room = before-room _ _ _ _ _ _ _ (pre .1 .1) (pre .0) (c .before .loop-test .taken) (c .before .before .loop .inv .1) in
+    (pre .0, (c .before .loop-test .taken, (pre .1 .0, room)))
 
-mul-put-after : tie.Need-mul-put-after Inv-loop μ-loop
-mul-put-after c = table-row _ _ _ _ (c .before .before .before .before .before .before .before .before .pre .0) (c .before .before .before .before .loop-test .taken) (c .before .before .before .before .before .loop .inv .1 .0) .bytes
+after-requires : tie.Need-after-requires Inv-loop μ-loop
+after-requires c κs = search needs
 
-sub-put-after : tie.Need-sub-put-after Inv-loop μ-loop
-sub-put-after c = table-row _ _ _ _ (c .before .before .before .before .before .before .before .before .pre .0) (c .before .before .before .before .loop-test .taken) (c .before .before .before .before .before .loop .inv .1 .0) .rises
+add-put-at : tie.Need-add-put-at Inv-loop μ-loop
+add-put-at c =
+    let put = c .before .before .before .before .put-before in
+    let b6 = c .before .before .before .before .before .before in
+    let pre = b6 .before .before .before .before .pre in
+    own-fits _ _ _ _ _ _ _ (pre .1 .1) (pre .0) (b6 .loop-test .taken) (b6 .before .loop .inv .1) _ (put .ensures .1)
 
-part-put-after-start : tie.Need-part-put-after-start Inv-loop μ-loop
-part-put-after-start c = table-row _ _ _ _ (c .before .before .before .before .before .before .before .before .pre .0) (c .before .before .before .before .loop-test .taken) (c .before .before .before .before .before .loop .inv .1 .0) .rises
-
-part-put-after-end : tie.Need-part-put-after-end Inv-loop μ-loop
-part-put-after-end c =
-    let a = c .before .before .before .before .before .before .before .before .args in
-    table-row _ _ _ _ (c .before .before .before .before .before .before .before .before .pre .0) (c .before .before .before .before .loop-test .taken) (half-long (a .words .now) (a .n) (a .d) (a .masks .now) _ _ _ (c .before .before .before .before .before .loop .inv .1 .1) (c .before .before .put-before .ensures) (c .before .before .before .before .loop-test .taken) (c .before .before .before .before .before .before .before .before .pre .1 .1)) .within
-
-put-after-requires : tie.Need-put-after-requires Inv-loop μ-loop
-put-after-requires c κs =
-    let a = c .before .before .before .before .before .before .before .before .before .args in
-    let pre = c .before .before .before .before .before .before .before .before .before .pre in
-    (pre .0, (c .before .before .before .before .before .loop-test .taken, (pre .1 .0, half-room (a .words .now) (a .n) (a .d) (a .masks .now) _ _ _ (c .before .before .before .before .before .before .loop .inv .1 .1) (c .before .before .before .put-before .ensures) (c .before .before .before .before .before .loop-test .taken) (c .before .before .before .before .before .before .before .before .before .pre .1 .1))))
+put-at-requires : tie.Need-put-at-requires Inv-loop μ-loop
+put-at-requires c κs =
+    let put = c .before .before .before .before .put-before in
+    let b6 = c .before .before .before .before .before .before in
+    let pre = b6 .before .before .before .before .pre in
+    after-room _ _ _ _ _ _ _ (pre .1 .1) (pre .0) (b6 .loop-test .taken) (b6 .before .loop .inv .1) _ (put .ensures .1) _ _
+    (put .kept .1 .1 .1 .1 .0) (c .before .after .ensures .1)
 
 add-i : tie.Need-add-i Inv-loop μ-loop
 add-i c = search needs
@@ -85,17 +49,21 @@ loop-less c = search needs
 
 loop-again : tie.Need-loop-again Inv-loop μ-loop
 loop-again c =
-    let a = c .before .before .before .before .before .before .before .before .before .before .before .before .args in
-    let next = table-more (a .words .now) (a .n) (a .d) (a .masks .now) _ _ _ (c .before .before .before .before .before .before .before .before .before .loop .inv .1 .1) (c .before .before .before .before .before .before .put-before .ensures) (c .before .before .before .before .before .before .before .before .loop-test .taken) (c .before .before .before .before .before .before .before .before .before .before .before .before .pre .1 .1) _ (c .before .before .put-after .ensures) in
-    (omega arith, (table-kept _ _ _ _ _ _ next (omega arith) (c .before .before .before .before .before .before .before .before .before .before .before .before .pre .1 .1), next))
+    let last = c .before .before .put-at in
+    let b4 = c .before .before .before .before in
+    let first = b4 .before .before .before .put-before in
+    let b9 = b4 .before .before .before .before .before in
+    let pre = b9 .before .before .before .before .pre in (
+      omega arith,
+      rows-more _ _ _ _ _ _ _ (pre .1 .1) (pre .0) (b9 .loop-test .taken) (b9 .before .loop .inv .1) _ (first .ensures .1) _ _ _ _
+          (first .ensures .0) (b4 .after .ensures .0) (b4 .after .ensures .1) (last .ensures .0) (last .ensures .1) (first .kept .1 .1 .1 .1 .0) (last .kept .1 .0),
+    )
 
 same-length : tie.Need-same-length Inv-loop μ-loop
 same-length c = search needs
 
 returns : tie.Need-returns Inv-loop μ-loop
-returns c =
-    let inv = c .before .loop .inv in
-    table-end _ _ _ _ _ _ (inv .1 .1) (omega arith) (c .before .before .before .before .pre .1 .1)
+returns c = tables-end _ _ _ _ _ _ _ (c .before .loop .inv .1) (omega arith)
 
 pub put-tables-spec : {M : Type 1} → statement M
 put-tables-spec =
@@ -103,22 +71,11 @@ put-tables-spec =
     (tie.spec
     Inv-loop
     μ-loop
-    mul-row
     loop-holds
-    mul-at
-    mul-own
-    add-own
-    add-end
-    mul-put-before
-    sub-put-before
-    part-put-before-start
-    part-put-before-end
     put-before-requires
-    mul-put-after
-    sub-put-after
-    part-put-after-start
-    part-put-after-end
-    put-after-requires
+    after-requires
+    add-put-at
+    put-at-requires
     add-i
     loop-less
     loop-again

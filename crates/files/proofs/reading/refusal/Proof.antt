@@ -3,7 +3,7 @@
 use borrow.Author.Needs.{needs}
 use mathlib.Core.Path.{refl, sym, _∙_}
 use native.Mathlib.Omega.{arith}
-use Rattle.files.proofs.Refused.{refused-15, refused-3, slots-last, twelve, none-left, sized-numbers}
+use Rattle.files.proofs.Refused.{refused-15, refused-3, slots-last, twelve, none-left, read-numbers}
 use Rattle.files.proofs.reading.refusal.Statement.{statement}
 use Rattle.files.proofs.reading.refusal.Tie as tie
 
@@ -23,10 +23,17 @@ sizes-refusal-requires : tie.Need-sizes-refusal-requires
 sizes-refusal-requires c κs = tt
 
 returns-2 : tie.Need-returns-2
-returns-2 c = refused-3 _ _ _ _ _ _ _ (c .before .before .before .n .ensures) (c .before .before .d .ensures) refl _ (c .before .before .before .before .before .before .before .before .before .pre .read .whole) (sym (c .before .before .before .before .before .refusal-of-rules .ensures) ∙ c .before .before .before .before .if1 .left) (c .before .sizes-refusal .ensures) (c .if2 .taken)
+returns-2 c =
+    let n = c .before .before .before in
+    let passed = n .before in
+    let rules = sym (passed .before .refusal-of-rules .ensures) ∙ passed .if1 .left in
+    let pre = passed .before .before .before .before .before .pre in
+    refused-3 _ _ _ _ _ _ _ (n .n .ensures) (c .before .before .d .ensures) refl _ (pre .read .whole) rules (c .before .sizes-refusal .ensures) (c .if2 .taken)
 
 add-if3 : tie.Need-add-if3
-add-if3 c = let s = sized-numbers (c .before .before .before .before .before .before .before .before .before .args .file .now) _ _ _ (c .before .before .before .n .ensures) (c .before .before .d .ensures) refl (c .before .before .before .before .before .before .before .before .before .pre .sized) in omega (arith, s .0 .variables)
+add-if3 c =
+    let pre = c .before .before .before .before .before .before .before .before .before .pre in
+    omega (arith, read-numbers _ _ _ _ (pre .read) (c .before .before .before .n .ensures) (c .before .before .d .ensures) .0 .variables)
 
 div-if3 : tie.Need-div-if3
 div-if3 c = search needs
@@ -35,10 +42,22 @@ subproblems-requires : tie.Need-subproblems-requires
 subproblems-requires c κs = search needs
 
 returns-3 : tie.Need-returns-3
-returns-3 c = slots-last _ _ _ _ _ _ _ (c .before .before .before .before .before .n .ensures) (c .before .before .before .before .d .ensures) (c .before .subproblems .ensures) _ _ (c .before .before .before .before .before .before .before .before .before .before .before .pre .read .whole) (sym (c .before .before .before .before .before .before .before .refusal-of-rules .ensures) ∙ c .before .before .before .before .before .before .if1 .left) (c .before .before .before .sizes-refusal .ensures) (c .before .before .if2 .left) (twelve _ _ _ (c .if3 .taken))
+returns-3 c =
+    let n = c .before .before .before .before .before in
+    let passed = n .before in
+    let rules = sym (passed .before .refusal-of-rules .ensures) ∙ passed .if1 .left in
+    let pre = passed .before .before .before .before .before .pre in
+    slots-last _ _ _ _ _ _ _ (n .n .ensures) (c .before .before .before .before .d .ensures) (c .before .subproblems .ensures) _ _ (pre .read .whole) rules
+    (c .before .before .before .sizes-refusal .ensures) (c .before .before .if2 .left) (twelve _ _ _ (c .if3 .taken))
 
 returns-4 : tie.Need-returns-4
-returns-4 c = slots-last _ _ _ _ _ _ _ (c .before .before .before .before .before .n .ensures) (c .before .before .before .before .d .ensures) (c .before .subproblems .ensures) _ _ (c .before .before .before .before .before .before .before .before .before .before .before .pre .read .whole) (sym (c .before .before .before .before .before .before .before .refusal-of-rules .ensures) ∙ c .before .before .before .before .before .before .if1 .left) (c .before .before .before .sizes-refusal .ensures) (c .before .before .if2 .left) (none-left _ _ _ (c .if3 .left))
+returns-4 c =
+    let n = c .before .before .before .before .before in
+    let passed = n .before in
+    let rules = sym (passed .before .refusal-of-rules .ensures) ∙ passed .if1 .left in
+    let pre = passed .before .before .before .before .before .pre in
+    slots-last _ _ _ _ _ _ _ (n .n .ensures) (c .before .before .before .before .d .ensures) (c .before .subproblems .ensures) _ _ (pre .read .whole) rules
+    (c .before .before .before .sizes-refusal .ensures) (c .before .before .if2 .left) (none-left _ _ _ (c .if3 .left))
 
 pub refusal-spec : {M : Type 1} → statement M
 refusal-spec =

@@ -1,4 +1,4 @@
--- `copying::put_words` meets its contract. The invariant: the words passed are copied.
+-- `copying::put_each` meets its contract. The invariant: the words passed are copied.
 -- Assumes nothing.
 use borrow.Author.Needs.{needs}
 use mathlib.Core.Path.{_≡_, refl}
@@ -8,8 +8,8 @@ use native.Mathlib.Omega.{arith}
 use lib.ListN.{length, take, drop, length-set}
 use Rattle.search.proofs.Copies.{copy-more}
 use Rattle.files.proofs.Filled.{copy-whole}
-use Rattle.files.proofs.copying.put_words.Statement.{statement}
-use Rattle.files.proofs.copying.put_words.Tie as tie
+use Rattle.files.proofs.copying.put_each.Statement.{statement}
+use Rattle.files.proofs.copying.put_each.Tie as tie
 
 abbrev Inv-loop : tie.InvT-loop
 Inv-loop words out₀ i₀ out i = (i ≤ length words) × ((length out ≡ length words) × (out ≡ take i words ++ drop i out₀))
@@ -51,8 +51,8 @@ returns c =
     let end : c .before .loop .i ≡ length (c .before .before .args .words .now) = omega arith in
     copy-whole _ _ _ _ (c .before .loop .inv .1 .1) end (c .before .before .pre)
 
-pub put-words-spec : {M : Type 1} → statement M
-put-words-spec =
+pub put-each-spec : {M : Type 1} → statement M
+put-each-spec =
     tie.close
     (tie.spec
     Inv-loop
