@@ -14,7 +14,7 @@ use lib.Seq.{getD-take, getD-drop, drop-cons, append-snoc, set-at, take-at, take
 use borrow.Rule.Slice.PartMut.{putMid, midOf, postOf, post-is, mid-len}
 use Rattle.splits.specs.Problem.{total}
 use Rattle.splits.specs.Splits.{below}
-use Rattle.search.specs.Work.Slots.{splice}
+use Rattle.search.specs.Parts.{splice}
 use Rattle.search.proofs.Copies.{zeros-at, drop-zeros, put-part, splice-between, splice-splice}
 use Rattle.files.specs.Blocks.{wordAt}
 use Rattle.files.specs.Content.{each}

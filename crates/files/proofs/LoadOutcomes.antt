@@ -13,7 +13,7 @@ use lib.Dec.{eqb, ltb}
 use borrow.Author.Tests.{eq-eqb, ne-eqb, eqb-true, ltb-false}
 use Rattle.splits.proofs.Tests.{and-left, and-right}
 use Rattle.search.specs.Agenda.{slotsIn, agendaOf}
-use Rattle.search.specs.Work.Slots.{splice}
+use Rattle.search.specs.Parts.{splice}
 use Rattle.search.specs.FirstChecks.{orElse, wholeSlots, refusalOfLengths}
 use Rattle.search.proofs.FirstParts.{given-if, else-pass}
 use Rattle.files.specs.Reading.{blocksIn, contentWord, contentFrom, saidN, saidD, saidSteps, saidChecks, saidSubproblems, saidDomains, saidAllowed, saidSearch, triangleWords, tableWords, refusalOfFile, refusalOfWords}

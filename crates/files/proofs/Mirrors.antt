@@ -18,7 +18,7 @@ use Rattle.splits.specs.Problem.{total}
 use Rattle.splits.specs.Splits.{below}
 use Rattle.splits.proofs.Masks.{bit-above}
 use Rattle.search.specs.Matrix.{Turned}
-use Rattle.search.specs.Work.Slots.{splice}
+use Rattle.search.specs.Parts.{splice}
 use Rattle.search.proofs.Copies.{zeros-at, drop-zeros}
 use Rattle.files.specs.Reading.{contentWord, saidN, saidD, saidAllowed, triangleWords, trianglePlace, gathered, agendaFrom}
 use Rattle.files.specs.Work.Said.{Numbers, maskIn, allowedIn, columnOf, columnPart, pairPart, partIn, slotsPart}

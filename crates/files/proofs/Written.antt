@@ -13,7 +13,7 @@ use lib.Seq.{length-take-le, take-suc, drop-cons, append-snoc, set-at, take-all,
 use borrow.Rule.Slice.PartMut.{putMid}
 use Rattle.splits.specs.Problem.{total, tableOf}
 use Rattle.splits.specs.Splits.{below}
-use Rattle.search.specs.Work.Slots.{splice}
+use Rattle.search.specs.Parts.{splice}
 use Rattle.search.specs.declared.state.State.{State}
 use Rattle.search.proofs.Copies.{splice-splice}
 use Rattle.search.proofs.Encoding.{stack-of-words, length-stackOf}

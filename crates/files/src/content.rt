@@ -10,7 +10,7 @@ ghost use Rattle.splits.specs.Problem.{tableOf};
 ghost use Rattle.files.specs.Content.{triangle};
 ghost use Rattle.files.specs.Reading.{saidN, saidD, triangleWords, agendaFrom, wordCount};
 ghost use Rattle.files.specs.Calls.{handedContent};
-ghost use Rattle.search.specs.Work.Slots.{splice};
+ghost use Rattle.search.specs.Parts.{splice};
 ghost use Rattle.files.specs.Work.Said.{Numbers, partIn};
 ghost use Rattle.files.specs.Work.Saved.{zeros, Savable, header};
 

@@ -7,7 +7,7 @@ ghost use mathlib.Core.Path.{_≡_};
 ghost use Prim.Native.Nat.{suc, _+_, _-_, _*_, _/_, _<_, _≤_};
 ghost use lib.ListN.{length};
 ghost use Rattle.splits.specs.Problem.{total};
-ghost use Rattle.search.specs.Work.Slots.{splice};
+ghost use Rattle.search.specs.Parts.{splice};
 ghost use Rattle.files.specs.Reading.{contentFrom, saidN, saidD, saidSubproblems};
 ghost use Rattle.files.specs.Work.Said.{Numbers, columnPart, rowPart, tablePart, partIn, slotsPart, Lent};
 ghost use Rattle.files.specs.Work.Saved.{zeros};

@@ -10,7 +10,8 @@ use lib.ListN.{length, getD, take, drop, set, replicate, length-append, length-t
 use lib.Seq.{length-take-le, take-suc, drop-cons, append-snoc, set-at, take-at, drop-at, drop-drop, drop-length}
 use borrow.Rule.Slice.PartMut.{putMid, midOf, post-is, mid-len}
 use borrow.Author.Fill.{fill-more}
-use Rattle.search.specs.Work.Slots.{splice, SlotIn}
+use Rattle.search.specs.Parts.{splice}
+use Rattle.search.specs.Work.Slots.{SlotIn}
 
 -- One word more of a copy.
 pub copy-more : (src d m : List ℕ) (i x : ℕ) → m ≡ take i src ++ drop i d → x ≡ getD src i 0 → i < length src → i < length d

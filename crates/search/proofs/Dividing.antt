@@ -16,7 +16,8 @@ use Rattle.splits.specs.Splits.{precluded, precludedBy, without, pieces, filled
 use Rattle.splits.specs.Calls.{Piece, Candidates}
 use Rattle.splits.specs.declared.subproblem.Subproblem.{Subproblem}
 use Rattle.search.specs.Agenda.{slotWords, slotsIn}
-use Rattle.search.specs.Work.Slots.{splice, SlotIn}
+use Rattle.search.specs.Parts.{splice}
+use Rattle.search.specs.Work.Slots.{SlotIn}
 use Rattle.search.specs.Work.Steps.{Replaced}
 use Rattle.search.specs.Work.Choices.{chosenFor}
 use Rattle.search.specs.Work.Found.{AtTop, RoomFor, Puts, requestBy, leftBy, several}

@@ -11,7 +11,8 @@ use lib.ListN.{length, getD, take, drop, set, replicate, length-append, length-t
 use lib.Seq.{length-take-le, drop-cons, append-snoc, set-at, take-at, drop-at, getD-at, getD-take, getD-drop, getD-append-add, take-add, ext-getD, take-take}
 use Rattle.splits.specs.declared.subproblem.Subproblem.{Subproblem}
 use Rattle.search.specs.Agenda.{holding, Shape, slotWords, subproblemOf, slotAt, stackOf, stackWords, agendaOf}
-use Rattle.search.specs.Work.Slots.{splice, SlotIn}
+use Rattle.search.specs.Parts.{splice}
+use Rattle.search.specs.Work.Slots.{SlotIn}
 use Rattle.search.proofs.Copies.{drop-zeros, splice-between}
 
 -- What the loop that copies domains makes.

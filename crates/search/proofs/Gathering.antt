@@ -16,7 +16,8 @@ use Rattle.splits.specs.Calls.{readable, Piece, Candidates}
 use Rattle.splits.specs.declared.subproblem.Subproblem.{Subproblem}
 use Rattle.splits.proofs.ByKind.{few}
 use Rattle.search.specs.Agenda.{slotWords, stackWords}
-use Rattle.search.specs.Work.Slots.{splice, SlotIn}
+use Rattle.search.specs.Parts.{splice}
+use Rattle.search.specs.Work.Slots.{SlotIn}
 use Rattle.search.specs.Work.Steps.{Placed, Replaced}
 use Rattle.search.proofs.Copies.{splice-splice, splice-cover, slot-below}
 use Rattle.search.proofs.Encoding.{length-slot}

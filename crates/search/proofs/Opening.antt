@@ -14,7 +14,8 @@ use Rattle.splits.specs.declared.subproblem.Subproblem.{Subproblem}
 use Rattle.splits.proofs.Tests.{some-same}
 use Rattle.search.specs.Agenda.{holding, slotWords, stackWords, agendaOf, slotsIn}
 use Rattle.search.specs.Calls.{opening}
-use Rattle.search.specs.Work.Slots.{splice, SlotIn}
+use Rattle.search.specs.Parts.{splice}
+use Rattle.search.specs.Work.Slots.{SlotIn}
 use Rattle.search.specs.Work.Ends.{Openable}
 use Rattle.search.proofs.Encoding.{agenda-push}
 

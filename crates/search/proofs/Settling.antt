@@ -26,7 +26,8 @@ use Rattle.splits.proofs.Refusals.{is-none}
 use Rattle.splits.proofs.Promises.{by-row}
 use Rattle.search.specs.Agenda.{slotWords, stackWords, slotsIn}
 use Rattle.search.specs.Chooser.{fewest, request}
-use Rattle.search.specs.Work.Slots.{splice, SlotIn}
+use Rattle.search.specs.Parts.{splice}
+use Rattle.search.specs.Work.Slots.{SlotIn}
 use Rattle.search.specs.Work.Kept.{Regular}
 use Rattle.search.specs.Work.Choices.{kindFor, chosenFor}
 use Rattle.search.specs.Work.Steps.{Replaced, Taking, refusalFor}

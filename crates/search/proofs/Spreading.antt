@@ -25,7 +25,8 @@ use Rattle.splits.proofs.Domains.{length-changed, changed-before, changed-after
 use Rattle.splits.proofs.Subproblems.{empty-at, precluded-empty}
 use Rattle.search.specs.Agenda.{slotWords}
 use Rattle.search.specs.Chooser.{request}
-use Rattle.search.specs.Work.Slots.{splice, SlotIn}
+use Rattle.search.specs.Parts.{splice}
+use Rattle.search.specs.Work.Slots.{SlotIn}
 use Rattle.search.specs.Work.Steps.{Replaced}
 use Rattle.search.specs.Work.Lanes.{outsideTo, filled}
 use Rattle.search.specs.Work.Found.{AtTop, RoomFor, FurtherOf, FurtherPiece, several}

@@ -28,7 +28,7 @@ use Rattle.splits.specs.Ranges.{Sized}
 use Rattle.search.specs.Agenda.{problemOf, Shape, subproblemOf, slotAt, stackOf, stackWords, slotsIn, agendaOf}
 use Rattle.search.specs.Verdicts.{finished}
 use Rattle.search.specs.Runs.{Search, splitTop, step, refusalOfTop, refusalOfRequest, runFrom}
-use Rattle.search.specs.Work.Slots.{splice}
+use Rattle.search.specs.Parts.{splice}
 use Rattle.search.specs.Work.Kept.{Regular, Ready}
 use Rattle.search.specs.Work.Steps.{Replaced, Taking, StopsAt, refusalFor}
 use Rattle.search.specs.Calls.{searchOf}

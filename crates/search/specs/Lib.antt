@@ -1,5 +1,6 @@
 -- The search, in the order of document 01. What only mirrors a loop of the code stands in Work.
 pub mod Agenda
+pub mod Parts
 pub mod Verdicts
 pub mod Runs
 pub mod Chooser

@@ -15,7 +15,7 @@ use Rattle.search.specs.Agenda.{problemOf, subproblemOf, slotAt, stackWo
 use Rattle.search.specs.Runs.{Stopped, runFrom, run, requestsIn}
 use Rattle.search.specs.Chooser.{chooseFrom, choose}
 use Rattle.search.specs.Calls.{searchOf}
-use Rattle.search.specs.Work.Slots.{splice}
+use Rattle.search.specs.Parts.{splice}
 use Rattle.search.specs.Work.Kept.{Ready}
 use Rattle.search.specs.declared.state.State.{State}
 use Rattle.search.specs.declared.step.Stop.{Stop}
