@@ -23,24 +23,16 @@ use Rattle.files.proofs.Refusals.{save-none}
 use Rattle.files.proofs.Saving.{saved-few}
 use Rattle.console.specs.Bytes.{Whole, wordsOf, bytesOf}
 use Rattle.console.specs.Calls.{OpensWords, RunsWords, ChoosesWords, LoadsWords}
-use Rattle.console.specs.Work.Rooms.{Turned, Said, WritesBack, Shorter, FrontOf}
+use Rattle.console.specs.Work.Rooms.{Turned, WritesBack, Shorter, FrontOf}
 use Rattle.console.specs.Work.Parts.{Listed, RunsAt, Narrow}
 use Rattle.console.proofs.Words.{words-length, bytes-length, word-at, words-small, words-append, bytes-append, bytes-again, middle-said}
-use Rattle.console.proofs.Runs.{choose-narrow, run-past, run-lower}
+use Rattle.console.proofs.Runs.{choose-narrow, run-narrow, run-past, run-lower}
 use Rattle.console.proofs.SoFar.{whole-words, requests-count}
 use Rattle.console.proofs.Reaching.{Zeros, runs-front}
 
 -- How many words are lent.
 pub count-is : {b words : List ℕ} {most : ℕ} → Turned b most words → length b / 2 ≡ length (take (length b / 2) words)
 count-is {b} {words} t = sym (length-take-le (length b / 2) words (t .room))
-
--- They are those that the bytes say.
-pub said-part : {b words : List ℕ} {most : ℕ} → Turned b most words → Whole b → Said (take (length b / 2) words) b
-said-part t w = record { even = w; same = t .said }
-
--- So much room they want again.
-pub said-room : {words b : List ℕ} (y : List ℕ) → Said words b → length y ≡ length words → length b ≡ 2 * length y
-said-room {words} {b} y s kept = let words-long : length words ≡ length b / 2 = ap length (s .same) ∙ words-length b in omega (arith, s .even)
 
 -- Lists of one length that agree from k on.
 drop-same : (k : ℕ) (a b : List ℕ) → length a ≡ length b → ((i : ℕ) → k ≤ i → i < length a → getD a i 0 ≡ getD b i 0) → drop k a ≡ drop k b
@@ -53,17 +45,30 @@ module _ {b words : List ℕ} {most : ℕ} (y : List ℕ) (t : Turned b most wor
   left-length : length y ≡ length b / 2
   left-length = kept ∙ sym (count-is t)
 
+  -- The part again.
+  left-again : take (length b / 2) (y ++ drop (length b / 2) words) ≡ y
+  left-again = take-at y (drop (length b / 2) words) (length b / 2) left-length
+
   -- The whole is as long as it was.
   pub left-long : most ≡ length (y ++ drop (length b / 2) words)
   left-long = rw (length-append, length-drop) (omega (arith, left-length, t .room, t .long))
 
+  pub left-fits : length b / 2 ≤ length (y ++ drop (length b / 2) words)
+  left-fits = rw length-append (omega (arith, left-length))
+
+  pub left-count : length b / 2 ≡ length (take (length b / 2) (y ++ drop (length b / 2) words))
+  left-count = sym (ap length left-again ∙ left-length)
+
   -- It is as long as turning it back asks.
   pub left-asks : Whole b → (length b % 2 ≡ 0) × (length b ≤ 2 * length (y ++ drop (length b / 2) words))
-  left-asks w = (w, rw length-append (omega (arith, left-length)))
+  left-asks w = (w, omega (arith, left-fits))
 
-  -- The part again, turned back.
+  pub left-bytes : Whole b → length b ≡ 2 * length (take (length b / 2) (y ++ drop (length b / 2) words))
+  left-bytes w = omega (arith, left-count)
+
+  -- Turned back.
   pub left-said : {after : List ℕ} → after ≡ bytesOf (take (length b / 2) (y ++ drop (length b / 2) words)) → after ≡ bytesOf y
-  left-said s = s ∙ ap bytesOf (take-at y (drop (length b / 2) words) (length b / 2) left-length)
+  left-said s = s ∙ ap bytesOf left-again
 
 module _ {n d v m x : ℕ} {domains tables agenda ds ts xs after : List ℕ} (y : List ℕ) (e : Turned domains v ds) (f : Turned tables m ts) (g : Turned agenda x xs)
     (kept : length y ≡ length (take (length agenda / 2) xs)) (said : after ≡ bytesOf (take (length agenda / 2) (y ++ drop (length agenda / 2) xs))) where
@@ -76,14 +81,16 @@ module _ {n d v m x : ℕ} {domains tables agenda ds ts xs after : List ℕ} (y 
       → ChoosesWords n d domains tables agenda after limit s r
   chooses-words h = record { left = y; chooses = rw (← (e .said), ← (f .said), ← (g .said)) h; said = left-said y g kept said }
 
--- A run in the words of an agenda that left y, of which what can have changed is written back.
-pub runs-at : {n d : ℕ} {domains tables agenda words y requests after : List ℕ} {s : State} {r : Ran} → Said words agenda → length y ≡ length words
-    → ((i : ℕ) → getD agenda i 0 < 256) → s .counts .steps .0 < 2 ^ 32 → Listed n (length requests)
-    → Runs n d domains tables words y (wordsOf requests) s r → WritesBack n (s .subproblems) (r .taken) (r .state .subproblems) y agenda after
+-- A run that left y in the part of the words that was lent to it, of which what can have changed is written back.
+pub runs-at : {n d most : ℕ} {domains tables agenda xs requests after : List ℕ} {s : State} {r : Ran} (y : List ℕ) → Turned agenda most xs → Whole agenda
+    → length y ≡ length (take (length agenda / 2) xs) → ((i : ℕ) → getD agenda i 0 < 256) → s .counts .steps .0 < 2 ^ 32 → Listed n (length requests)
+    → Runs n d domains tables (take (length agenda / 2) xs) y (wordsOf requests) s r
+    → WritesBack n (s .subproblems) (r .taken) (r .state .subproblems) (take (length agenda / 2) (y ++ drop (length agenda / 2) xs)) agenda after
     → RunsAt n d domains tables agenda after requests s r
-runs-at {n} {d} {domains} {tables} {agenda} {words} {y} {requests} {after} {s} {r} its kept small stepped listed h back =
-    let runs : Runs n d domains tables (wordsOf agenda) y (wordsOf requests) s r = rw (← (its .same)) h in
-    let long : length y ≡ length (wordsOf agenda) = kept ∙ ap length (its .same) in
+runs-at {n} {d} {domains = domains} {tables = tables} {agenda = agenda} {requests = requests} {after = after} {s = s} {r = r} y t w kept small stepped listed h written =
+    let runs : Runs n d domains tables (wordsOf agenda) y (wordsOf requests) s r = rw (← (t .said)) h in
+    let back : WritesBack n (s .subproblems) (r .taken) (r .state .subproblems) y agenda after = rw (left-again y t kept) at written in
+    let long : length y ≡ length (wordsOf agenda) = kept ∙ ap length (t .said) in
     let whole = whole-words n requests (listed .requests, listed .whole) in
     let fits : s .counts .steps .0 ≤ 4294967295 = omega arith in
     let low : take (back .from) y ≡ take (back .from) (wordsOf agenda) =
@@ -93,7 +100,18 @@ runs-at {n} {d} {domains} {tables} {agenda} {words} {y} {requests} {after} {s} {
     drop-same (back .to) y (wordsOf agenda) long
     (λ i l m. let (b, a) = back .front .past i l m in
     run-past n d domains tables (wordsOf agenda) s (words-small agenda small) fits y (wordsOf requests) r whole runs i (omega arith) m b a) in
-    record { left = y; runs = runs; said = back .said ∙ middle-said (back .from) (back .to) agenda y (its .even) small (back .order) low past }
+    record { left = y; runs = runs; said = back .said ∙ middle-said (back .from) (back .to) agenda y w small (back .order) low past }
+
+-- A run of a list that was turned into words whole: what it returns fits 32 bits.
+pub few-runs : (n d : ℕ) {most : ℕ} (domains tables : List ℕ) {agenda xs : List ℕ} (y requests words : List ℕ) (s : State) (r : Ran) → Turned agenda most xs
+    → take (length requests / 2) words ≡ wordsOf requests → ((i : ℕ) → getD agenda i 0 < 256) → s .counts .steps .0 < 2 ^ 32 → s .subproblems < 4294967296
+    → Listed n (length requests) → Runs n d domains tables (take (length agenda / 2) xs) y (take (length requests / 2) words) s r
+    → Runs n d domains tables (take (length agenda / 2) xs) y (wordsOf requests) s r × Narrow r
+few-runs n d domains tables {agenda} {xs} y requests words s r t e small stepped few listed h =
+    let list : Runs n d domains tables (take (length agenda / 2) xs) y (wordsOf requests) s r = rw (← e) h in
+    let runs : Runs n d domains tables (wordsOf agenda) y (wordsOf requests) s r = rw (← (t .said)) list in
+    let whole = whole-words n requests (listed .requests, listed .whole) in
+    (list, run-narrow n d domains tables (wordsOf agenda) s (words-small agenda small) (omega arith) y (wordsOf requests) r whole few runs)
 
 -- A run at the words that the bytes of the problem say.
 pub runs-words : {n d v m : ℕ} {domains tables agenda ds ts requests after : List ℕ} {s : State} {r : Ran} → Turned domains v ds → Turned tables m ts

@@ -29,7 +29,7 @@ use Rattle.search.specs.declared.state.State.{State}
 use Rattle.files.proofs.Accepted.{Accepts, words-accept}
 use Rattle.console.specs.Bytes.{Whole, wordsOf, bytesOf}
 use Rattle.console.specs.Calls.{WholeProblem, unwhole, unwholeFile}
-use Rattle.console.specs.Work.Rooms.{fits, roomFor, wholeList, Fits, Room, Front, WritesBack, Shorter, Reach, FrontOf}
+use Rattle.console.specs.Work.Rooms.{fits, roomFor, few, wholeList, Fits, Short, Room, Front, WritesBack, Shorter, Reach, FrontOf}
 use Rattle.console.proofs.Words.{words-length}
 use Rattle.console.proofs.Reaching.{zeros-each}
 
@@ -418,9 +418,15 @@ pub front-whole : (n subproblems requests : ℕ) (agenda : List ℕ) → FrontOf
 front-whole n subproblems requests agenda =
     record { reach = reach-all n subproblems requests (length agenda); zero = λ i l. List·getD-eq-default agenda 0 l }
 
--- What stands in so many bytes fits half of the longest agenda.
-pub short-fits : {bytes most : ℕ} → Fits bytes most → bytes ≤ 17408 → Fits bytes 8704
-short-fits h l = record { even = h .even; some = h .some; few = l }
+-- What is few is short.
+pub few-short : {agenda requests most : ℕ} {b : Bool} → b ≡ few agenda requests → b ≡ true → Fits agenda most → Short agenda requests
+unfolding few
+few-short {agenda} {requests} is y h =
+    let both : (leb agenda 17408 && leb requests 1120) ≡ true = sym is ∙ y in
+    record {
+      of-agenda = record { even = h .even; some = h .some; few = leb-true agenda 17408 (and-left (leb agenda 17408) (leb requests 1120) both) };
+      of-requests = leb-true requests 1120 (and-right (leb agenda 17408) (leb requests 1120) both);
+    }
 
 -- The front is lent as whole words, some.
 pub front-fits : {n subproblems requests r : ℕ} {agenda : List ℕ} {most : ℕ} → FrontOf n subproblems requests agenda r → Fits (length agenda) most

@@ -5,7 +5,7 @@ ghost use lib.ListN.{length, take};
 ghost use lib.Dec.{ltb};
 ghost use Rattle.search.specs.FirstChecks.{zerosFrom};
 ghost use Rattle.console.specs.Bytes.{wordsOf, bytesOf};
-ghost use Rattle.console.specs.Work.Rooms.{fits, roomFor, wholeList, Fits, Turned, Front, WritesBack, Reach, FrontOf};
+ghost use Rattle.console.specs.Work.Rooms.{fits, roomFor, few, wholeList, Fits, Turned, Front, WritesBack, Reach, FrontOf};
 
 // The word of two bytes.
 fn word(low: u8, high: u8) -> u16
@@ -99,6 +99,16 @@ pub(crate) fn room_for(domains: usize, tables: usize, agenda: usize) -> bool
         return false;
     }
     none_empty(domains, tables, agenda)
+}
+
+// Whether so many bytes of an agenda and of requests are few: 256 slots and 16 requests of 32 variables.
+pub(crate) fn few(agenda: usize, requests: usize) -> bool
+    ensures { λ r. ⌜ r ≡ few agenda requests ⌝ }
+{
+    if 17408 < agenda {
+        return false;
+    }
+    requests <= 1120
 }
 
 // Whether so many bytes are whole requests; of n above 32 no length is.

@@ -14,7 +14,7 @@ ghost use lib.ListN.{length};
 ghost use Rattle.files.specs.Calls.{Saves};
 ghost use Rattle.console.specs.Bytes.{wordsOf};
 ghost use Rattle.console.specs.Calls.{OpensWords, OpensBytes, RunsWords, RunsBytes, ChoosesWords, ChoosesBytes, SavesBytes, unloaded, LoadsWords, LoadsBytes};
-ghost use Rattle.console.specs.Work.Rooms.{Fits, Room, Said};
+ghost use Rattle.console.specs.Work.Rooms.{Fits, Short, Room};
 ghost use Rattle.console.specs.Work.Parts.{Listed, RunsAt, Narrow, NarrowLoaded};
 
 // Opening, at the words.
@@ -51,33 +51,7 @@ pub(crate) fn open(n: usize, d: usize, domains: &[u8], tables: &[u8], agenda: &m
     numbers::unopened(n, d)
 }
 
-// A run in the words of an agenda, and then in its bytes.
-fn run_in(
-    n: usize,
-    d: usize,
-    domains: &[u16],
-    tables: &[u16],
-    words: &mut [u16],
-    agenda: &mut [u8],
-    requests: &[u8],
-    state: State,
-) -> Ran
-    requires { ⌜ Said (now words) (now agenda) × (Listed n (length (now requests)) × (state .subproblems < 4294967296)) ⌝ }
-    ensures { λ r. ⌜ RunsAt n d (now (domains .entry)) (now (tables .entry)) (now (agenda .entry)) (now (agenda .exit)) (now (requests .entry)) state r × Narrow r ⌝ }
-{
-    let ran = parts::run_parts(n, d, domains, tables, words, requests, state);
-    bytes::write_back(
-        n,
-        state.subproblems,
-        ran.taken,
-        ran.state.subproblems,
-        words,
-        agenda,
-    );
-    ran
-}
-
-// A run in an agenda of 8,704 words at most, 256 slots of 32 variables: the words made for it are no more than these need.
+// A run of a few requests in a short agenda: the words made for it are no more than these need.
 fn run_short(
     n: usize,
     d: usize,
@@ -87,25 +61,36 @@ fn run_short(
     requests: &[u8],
     state: State,
 ) -> Ran
-    requires { ⌜ Fits (length (now agenda)) 8704 × (Listed n (length (now requests)) × (state .subproblems < 4294967296)) ⌝ }
+    requires { ⌜ Short (length (now agenda)) (length (now requests)) × (Listed n (length (now requests)) × (state .subproblems < 4294967296)) ⌝ }
     ensures { λ r. ⌜ RunsAt n d (now (domains .entry)) (now (tables .entry)) (now (agenda .entry)) (now (agenda .exit)) (now (requests .entry)) state r × Narrow r ⌝ }
 {
     let room = agenda.len() / 2;
+    let count = requests.len() / 2;
     let mut words = [0u16; 8704];
     bytes::words_of(agenda, &mut words);
-    run_in(
+    let mut listed = [0u16; 560];
+    bytes::any_words_of(requests, &mut listed);
+    let ran = search::run(
         n,
         d,
         domains,
         tables,
         &mut words[..room],
-        agenda,
-        requests,
+        &listed[..count],
         state,
-    )
+    );
+    bytes::write_back(
+        n,
+        state.subproblems,
+        ran.taken,
+        ran.state.subproblems,
+        &words[..room],
+        agenda,
+    );
+    ran
 }
 
-// A run in any agenda.
+// A run of any requests in any agenda.
 fn run_long(
     n: usize,
     d: usize,
@@ -121,16 +106,16 @@ fn run_long(
     let room = agenda.len() / 2;
     let mut words = [0u16; 17408];
     bytes::words_of(agenda, &mut words);
-    run_in(
+    let ran = parts::run_parts(n, d, domains, tables, &mut words[..room], requests, state);
+    bytes::write_back(
         n,
-        d,
-        domains,
-        tables,
-        &mut words[..room],
+        state.subproblems,
+        ran.taken,
+        ran.state.subproblems,
+        &words[..room],
         agenda,
-        requests,
-        state,
-    )
+    );
+    ran
 }
 
 // A run, at the words.
@@ -153,8 +138,7 @@ fn run_words(
     bytes::words_of(tables, &mut table_words);
     let domains = &domain_words[..variables];
     let tables = &table_words[..masks];
-    // So many bytes are the words that run_short has room for.
-    if agenda.len() <= 17408 {
+    if bytes::few(agenda.len(), requests.len()) {
         return run_short(n, d, domains, tables, agenda, requests, state);
     }
     run_long(n, d, domains, tables, agenda, requests, state)

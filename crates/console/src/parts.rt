@@ -48,27 +48,8 @@ fn end_of(n: usize, at: usize, bytes: usize) -> usize
     at + part
 }
 
-// Runs a few requests: the words made for them are no more than these need.
-fn run_few(
-    n: usize,
-    d: usize,
-    domains: &[u16],
-    tables: &[u16],
-    agenda: &mut [u16],
-    requests: &[u8],
-    state: State,
-) -> Ran
-    requires { ⌜ (length (now requests) % 2 ≡ 0) × (length (now requests) ≤ 1120) ⌝ }
-    ensures { λ r. ⌜ Runs n d (now (domains .entry)) (now (tables .entry)) (now (agenda .entry)) (now (agenda .exit)) (wordsOf (now (requests .entry))) state r ⌝ }
-{
-    let mut words = [0u16; 560];
-    let count = requests.len() / 2;
-    bytes::any_words_of(requests, &mut words);
-    search::run(n, d, domains, tables, agenda, &words[..count], state)
-}
-
-// Runs up to 200 requests.
-fn run_many(
+// Runs the requests of one part.
+fn run_part(
     n: usize,
     d: usize,
     domains: &[u16],
@@ -84,25 +65,6 @@ fn run_many(
     let count = requests.len() / 2;
     bytes::any_words_of(requests, &mut words);
     search::run(n, d, domains, tables, agenda, &words[..count], state)
-}
-
-// Runs the requests of one part.
-fn run_part(
-    n: usize,
-    d: usize,
-    domains: &[u16],
-    tables: &[u16],
-    agenda: &mut [u16],
-    requests: &[u8],
-    state: State,
-) -> Ran
-    requires { ⌜ (length (now requests) % 2 ≡ 0) × (length (now requests) ≤ 14000) ⌝ }
-    ensures { λ r. ⌜ Runs n d (now (domains .entry)) (now (tables .entry)) (now (agenda .entry)) (now (agenda .exit)) (wordsOf (now (requests .entry))) state r ⌝ }
-{
-    if requests.len() <= 1120 {
-        return run_few(n, d, domains, tables, agenda, requests, state);
-    }
-    run_many(n, d, domains, tables, agenda, requests, state)
 }
 
 // Runs part after part, until the list ends or one ends otherwise than still running with none refused.

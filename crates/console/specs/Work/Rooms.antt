@@ -17,15 +17,23 @@ fits bytes most = eqb (bytes % 2) 0 && leb bytes (2 * most)
 unfoldable pub roomFor : ℕ → ℕ → ℕ → Bool
 roomFor domains tables agenda = fits domains 32 && fits tables 16384 && fits agenda 17408 && ltb 0 (domains * tables * agenda)
 
+-- So many bytes of an agenda are the words of 256 slots of 34, and of requests those of 16 of 35, or fewer.
+unfoldable pub few : ℕ → ℕ → Bool
+few agenda requests = leb agenda 17408 && leb requests 1120
+
 -- So many bytes are whole requests of n variables, n in its range.
 unfoldable pub wholeList : ℕ → ℕ → Bool
 wholeList n bytes = leb n 32 && eqb (bytes % (2 * (n + 3))) 0
 
--- What `roomFor` says.
+-- What `roomFor` says, and `few`.
 pub record Fits (bytes most : ℕ) : Type 0 where
   pub even : bytes % 2 ≡ 0
   pub some : 0 < bytes
   pub few : bytes ≤ 2 * most
+
+pub record Short (agenda requests : ℕ) : Type 0 where
+  pub of-agenda : Fits agenda 8704
+  pub of-requests : requests ≤ 1120
 
 pub record Room (domains tables agenda : List ℕ) : Type 0 where
   pub of-domains : Fits (length domains) 32
@@ -37,11 +45,6 @@ pub record Turned (bytes : List ℕ) (most : ℕ) (words : List ℕ) : Type 0 wh
   pub long : length words ≡ most
   pub room : length bytes / 2 ≤ length words
   pub said : take (length bytes / 2) words ≡ wordsOf bytes
-
--- Words that whole bytes say.
-pub record Said (words bytes : List ℕ) : Type 0 where
-  pub even : length bytes % 2 ≡ 0
-  pub same : words ≡ wordsOf bytes
 
 -- Of so many words the first r: what comes after them is past the slots used before and after.
 pub record Front (n before after words r : ℕ) : Type 0 where

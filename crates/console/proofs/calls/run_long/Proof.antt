@@ -1,7 +1,8 @@
 -- `console::calls::run_long` meets its contract.
 -- Assumes nothing.
 use mathlib.Core.Path.{refl}
-use Rattle.console.proofs.Lending.{count-is, said-part}
+use native.Mathlib.Omega.{arith}
+use Rattle.console.proofs.Lending.{count-is, left-fits, left-count, left-bytes, runs-at}
 use borrow.Author.Needs.{needs}
 use Rattle.console.proofs.calls.run_long.Statement.{statement}
 use Rattle.console.proofs.calls.run_long.Tie as tie
@@ -15,17 +16,35 @@ words-of-requires c κs = c .before .before .before .before .before .before .pre
 array-borrow-prefix-words : tie.Need-array-borrow-prefix-words
 array-borrow-prefix-words c = c .before .words-of .ensures .room
 
-slice-aggregate-run-in : tie.Need-slice-aggregate-run-in
-slice-aggregate-run-in c = count-is (c .before .before .words-of .ensures)
+slice-aggregate-run-parts : tie.Need-slice-aggregate-run-parts
+slice-aggregate-run-parts c = count-is (c .before .before .words-of .ensures)
 
-run-in-requires : tie.Need-run-in-requires
-run-in-requires c κs = let pre = c .before .before .before .before .before .before .before .before .before .before .pre in (said-part (c .before .before .before .words-of .ensures) (pre .0 .even), pre .1)
+run-parts-requires : tie.Need-run-parts-requires
+run-parts-requires c κs = c .before .before .before .before .before .before .before .before .before .pre .1
+
+array-share-prefix-words : tie.Need-array-share-prefix-words
+array-share-prefix-words c = let ran = c .before .run-parts in left-fits (ran .last .1 .1 .1 .1 .0) (c .before .before .before .before .words-of .ensures) (ran .kept .1 .1 .1 .1 .0)
+
+slice-aggregate-write-back : tie.Need-slice-aggregate-write-back
+slice-aggregate-write-back c = let ran = c .before .before .run-parts in left-count (ran .last .1 .1 .1 .1 .0) (c .before .before .before .before .before .words-of .ensures) (ran .kept .1 .1 .1 .1 .0)
+
+write-back-requires : tie.Need-write-back-requires
+write-back-requires c κs =
+    let pre = c .before .before .before .before .before .before .before .before .before .before .before .before .before .pre in
+    let ran = c .before .before .before .run-parts in
+    (pre .1 .0 .few, (pre .1 .1, (ran .ensures .1 .subproblems, left-bytes (ran .last .1 .1 .1 .1 .0) (c .before .before .before .before .before .before .words-of .ensures) (ran .kept .1 .1 .1 .1 .0) (pre .0 .even))))
 
 same-length : tie.Need-same-length
 same-length c = search needs
 
 returns : tie.Need-returns
-returns c = c .before .before .before .run-in .ensures
+returns c =
+    let called = c .before .before .before .before .before .before in
+    let turned = called .before .before .before in
+    let start = turned .before .before .before .before .before .before .before in
+    let ran = called .run-parts in
+    (runs-at (ran .last .1 .1 .1 .1 .0) (turned .words-of .ensures) (start .pre .0 .even) (ran .kept .1 .1 .1 .1 .0) (λ i. omega (arith, turned .before .before .before .before .slice-known .given i))
+    (omega (arith, start .good .1 .1 .1 .1 .1 .1 .0)) (start .pre .1 .0) (ran .ensures .0) (c .before .before .write-back .ensures), ran .ensures .1)
 
 pub run-long-spec : {M : Type 1} → statement M
 run-long-spec =
@@ -34,7 +53,10 @@ run-long-spec =
     slice-aggregate-words-of
     words-of-requires
     array-borrow-prefix-words
-    slice-aggregate-run-in
-    run-in-requires
+    slice-aggregate-run-parts
+    run-parts-requires
+    array-share-prefix-words
+    slice-aggregate-write-back
+    write-back-requires
     same-length
     returns)

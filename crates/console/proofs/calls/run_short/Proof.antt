@@ -1,7 +1,11 @@
 -- `console::calls::run_short` meets its contract.
 -- Assumes nothing.
-use mathlib.Core.Path.{refl}
-use Rattle.console.proofs.Lending.{count-is, said-part}
+use mathlib.Core.Path.{refl, sym}
+use Prim.Native.Nat.{ℕ, _^_, _<_}
+use native.Mathlib.Omega.{arith}
+use lib.ListN.{getD}
+use lib.Seq.{length-take-le}
+use Rattle.console.proofs.Lending.{count-is, left-fits, left-count, left-bytes, few-runs, runs-at}
 use borrow.Author.Needs.{needs}
 use Rattle.console.proofs.calls.run_short.Statement.{statement}
 use Rattle.console.proofs.calls.run_short.Tie as tie
@@ -10,22 +14,58 @@ slice-aggregate-words-of : tie.Need-slice-aggregate-words-of
 slice-aggregate-words-of c = refl
 
 words-of-requires : tie.Need-words-of-requires
-words-of-requires c κs = c .before .before .before .before .before .before .pre .0
+words-of-requires c κs = c .before .before .before .before .before .before .pre .0 .of-agenda
+
+slice-aggregate-any-words-of : tie.Need-slice-aggregate-any-words-of
+slice-aggregate-any-words-of c = refl
+
+any-words-of-requires : tie.Need-any-words-of-requires
+any-words-of-requires c κs = search needs
 
 array-borrow-prefix-words : tie.Need-array-borrow-prefix-words
-array-borrow-prefix-words c = c .before .words-of .ensures .room
+array-borrow-prefix-words c = c .before .before .before .before .words-of .ensures .room
 
-slice-aggregate-run-in : tie.Need-slice-aggregate-run-in
-slice-aggregate-run-in c = count-is (c .before .before .words-of .ensures)
+slice-aggregate-run : tie.Need-slice-aggregate-run
+slice-aggregate-run c = count-is (c .before .before .before .before .before .words-of .ensures)
 
-run-in-requires : tie.Need-run-in-requires
-run-in-requires c κs = let pre = c .before .before .before .before .before .before .before .before .before .before .pre in (said-part (c .before .before .before .words-of .ensures) (pre .0 .even), pre .1)
+array-share-prefix-listed : tie.Need-array-share-prefix-listed
+array-share-prefix-listed c = search needs
+
+slice-aggregate-run-2 : tie.Need-slice-aggregate-run-2
+slice-aggregate-run-2 c = sym (length-take-le _ _ (omega (arith, c .before .before .before .any-words-of .kept .1 .0, c .before .before .before .before .before .before .before .before .before .before .before .before .before .pre .0 .of-requests)))
+
+run-requires : tie.Need-run-requires
+run-requires c κs = tt
+
+array-share-prefix-words : tie.Need-array-share-prefix-words
+array-share-prefix-words c = let ran = c .before .run in left-fits (ran .last .1 .1 .1 .1 .0) (c .before .before .before .before .before .before .before .before .words-of .ensures) (ran .kept .1 .1 .1 .1 .0)
+
+slice-aggregate-write-back : tie.Need-slice-aggregate-write-back
+slice-aggregate-write-back c = let ran = c .before .before .run in left-count (ran .last .1 .1 .1 .1 .0) (c .before .before .before .before .before .before .before .before .before .words-of .ensures) (ran .kept .1 .1 .1 .1 .0)
+
+write-back-requires : tie.Need-write-back-requires
+write-back-requires c κs =
+    let called = c .before .before .before in
+    let turned = called .before .before .before .before .before .before .before in
+    let start = turned .before .before .before .before .before .before .before in
+    let runs = few-runs _ _ _ _ (called .run .last .1 .1 .1 .1 .0) _ _ _ _ (turned .words-of .ensures) (called .before .before .before .before .any-words-of .ensures) (λ i. omega (arith, turned .before .before .before .before .slice-known .given i))
+    (omega (arith, start .good .1 .1 .1 .1 .1 .1 .0)) (start .pre .1 .1) (start .pre .1 .0) (called .run .ensures) in
+    (start .pre .1 .0 .few, (start .pre .1 .1, (runs .1 .subproblems, left-bytes (called .run .last .1 .1 .1 .1 .0) (turned .words-of .ensures) (called .run .kept .1 .1 .1 .1 .0) (start .pre .0 .of-agenda .even))))
 
 same-length : tie.Need-same-length
 same-length c = search needs
 
 returns : tie.Need-returns
-returns c = c .before .before .before .run-in .ensures
+returns c =
+    let called = c .before .before .before .before .before .before in
+    let turned = called .before .before .before .before .before .before .before in
+    let start = turned .before .before .before .before .before .before .before in
+    let small : (i : ℕ) → getD (start .args .agenda .now) i 0 < 256 = λ i. omega (arith, turned .before .before .before .before .slice-known .given i) in
+    let stepped : start .args .state .counts .steps .0 < 2 ^ 32 = omega (arith, start .good .1 .1 .1 .1 .1 .1 .0) in
+    let runs = few-runs _ _ _ _ (called .run .last .1 .1 .1 .1 .0) _ _ _ _ (turned .words-of .ensures) (called .before .before .before .before .any-words-of .ensures) small stepped (start .pre .1 .1) (start .pre .1 .0)
+    (called .run .ensures) in
+    (runs-at (called .run .last .1 .1 .1 .1 .0) (turned .words-of .ensures) (start .pre .0 .of-agenda .even) (called .run .kept .1 .1 .1 .1 .0) small stepped (start .pre .1 .0) (runs .0)
+    (c .before .before .write-back .ensures), runs .1)
 
 pub run-short-spec : {M : Type 1} → statement M
 run-short-spec =
@@ -33,8 +73,15 @@ run-short-spec =
     (tie.spec
     slice-aggregate-words-of
     words-of-requires
+    slice-aggregate-any-words-of
+    any-words-of-requires
     array-borrow-prefix-words
-    slice-aggregate-run-in
-    run-in-requires
+    slice-aggregate-run
+    array-share-prefix-listed
+    slice-aggregate-run-2
+    run-requires
+    array-share-prefix-words
+    slice-aggregate-write-back
+    write-back-requires
     same-length
     returns)

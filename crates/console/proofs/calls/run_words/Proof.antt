@@ -2,7 +2,7 @@
 -- Assumes nothing.
 use mathlib.Core.Path.{refl}
 use Rattle.console.proofs.Lending.{count-is, runs-words}
-use Rattle.console.proofs.Rooms.{short-fits}
+use Rattle.console.proofs.Rooms.{few-short}
 use borrow.Author.Needs.{needs}
 use Rattle.console.proofs.calls.run_words.Statement.{statement}
 use Rattle.console.proofs.calls.run_words.Tie as tie
@@ -28,23 +28,26 @@ array-share-prefix-table-words c = c .before .before .words-of .ensures .room
 slice-aggregate-tables : tie.Need-slice-aggregate-tables
 slice-aggregate-tables c = count-is (c .before .before .before .words-of .ensures)
 
+few-requires : tie.Need-few-requires
+few-requires c κs = search needs
+
 run-short-requires : tie.Need-run-short-requires
-run-short-requires c κs = let pre = c .before .before .before .before .before .before .before .before .before .before .before .before .pre in (short-fits (pre .0 .of-agenda) (c .before .if1 .taken), pre .1)
+run-short-requires c κs = let pre = c .before .before .before .before .before .before .before .before .before .before .before .before .before .pre in (few-short (c .before .before .few .ensures) (c .before .if1 .taken) (pre .0 .of-agenda), pre .1)
 
 same-length : tie.Need-same-length
 same-length c = search needs
 
 returns : tie.Need-returns
-returns c = runs-words (c .before .before .before .before .before .before .before .before .before .before .domain-words .ensures) (c .before .before .before .before .before .before .before .before .words-of .ensures) (c .before .before .run-short .ensures)
+returns c = runs-words (c .before .before .before .before .before .before .before .before .before .before .before .domain-words .ensures) (c .before .before .before .before .before .before .before .before .before .words-of .ensures) (c .before .before .run-short .ensures)
 
 run-long-requires : tie.Need-run-long-requires
-run-long-requires c κs = let pre = c .before .before .before .before .before .before .before .before .before .before .before .before .pre in (pre .0 .of-agenda, pre .1)
+run-long-requires c κs = let pre = c .before .before .before .before .before .before .before .before .before .before .before .before .before .pre in (pre .0 .of-agenda, pre .1)
 
 same-length-2 : tie.Need-same-length-2
 same-length-2 c = search needs
 
 returns-2 : tie.Need-returns-2
-returns-2 c = runs-words (c .before .before .before .before .before .before .before .before .before .before .domain-words .ensures) (c .before .before .before .before .before .before .before .before .words-of .ensures) (c .before .before .run-long .ensures)
+returns-2 c = runs-words (c .before .before .before .before .before .before .before .before .before .before .before .domain-words .ensures) (c .before .before .before .before .before .before .before .before .before .words-of .ensures) (c .before .before .run-long .ensures)
 
 pub run-words-spec : {M : Type 1} → statement M
 run-words-spec =
@@ -57,6 +60,7 @@ run-words-spec =
     slice-aggregate-domains
     array-share-prefix-table-words
     slice-aggregate-tables
+    few-requires
     run-short-requires
     same-length
     returns
