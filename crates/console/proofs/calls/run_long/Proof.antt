@@ -42,9 +42,11 @@ returns c =
     let called = c .before .before .before .before .before .before in
     let turned = called .before .before .before in
     let start = turned .before .before .before .before .before .before .before in
-    let ran = called .run-parts in
-    (runs-at (ran .last .1 .1 .1 .1 .0) (turned .words-of .ensures) (start .pre .0 .even) (ran .kept .1 .1 .1 .1 .0) (λ i. omega (arith, turned .before .before .before .before .slice-known .given i))
-    (omega (arith, start .good .1 .1 .1 .1 .1 .1 .0)) (start .pre .1 .0) (ran .ensures .0) (c .before .before .write-back .ensures), ran .ensures .1)
+    let ran = called .run-parts in (
+      runs-at (ran .last .1 .1 .1 .1 .0) (turned .words-of .ensures) (start .pre .0 .even) (ran .kept .1 .1 .1 .1 .0) (λ i. omega (arith, turned .before .before .before .before .slice-known .given i))
+          (omega (arith, start .good .1 .1 .1 .1 .1 .1 .0)) (start .pre .1 .0) (ran .ensures .0) (c .before .before .write-back .ensures),
+      ran .ensures .1,
+    )
 
 pub run-long-spec : {M : Type 1} → statement M
 run-long-spec =

@@ -63,9 +63,11 @@ returns c =
     let small : (i : ℕ) → getD (start .args .agenda .now) i 0 < 256 = λ i. omega (arith, turned .before .before .before .before .slice-known .given i) in
     let stepped : start .args .state .counts .steps .0 < 2 ^ 32 = omega (arith, start .good .1 .1 .1 .1 .1 .1 .0) in
     let runs = few-runs _ _ _ _ (called .run .last .1 .1 .1 .1 .0) _ _ _ _ (turned .words-of .ensures) (called .before .before .before .before .any-words-of .ensures) small stepped (start .pre .1 .1) (start .pre .1 .0)
-    (called .run .ensures) in
-    (runs-at (called .run .last .1 .1 .1 .1 .0) (turned .words-of .ensures) (start .pre .0 .of-agenda .even) (called .run .kept .1 .1 .1 .1 .0) small stepped (start .pre .1 .0) (runs .0)
-    (c .before .before .write-back .ensures), runs .1)
+    (called .run .ensures) in (
+      runs-at (called .run .last .1 .1 .1 .1 .0) (turned .words-of .ensures) (start .pre .0 .of-agenda .even) (called .run .kept .1 .1 .1 .1 .0) small stepped (start .pre .1 .0) (runs .0)
+          (c .before .before .write-back .ensures),
+      runs .1,
+    )
 
 pub run-short-spec : {M : Type 1} → statement M
 run-short-spec =
