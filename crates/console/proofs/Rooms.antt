@@ -9,8 +9,8 @@ use native.Mathlib.Omega.{arith}
 use native.Mathlib.Nat.{mul-le-mul, lt-of-not-le, zero-add, zero-mul, mul-comm, mul-le-mul-right, lt-of-mul-lt-mul-right, div-le-self, div-add-mod'}
 use native.Mathlib.Numerals.{add-one}
 use native.Mathlib.Decide.{decLt}
-use lib.ListN.{length, getD, take, drop, length-drop}
-use lib.Seq.{take-all, length-take-le, getD-drop}
+use lib.ListN.{length, getD, take, drop, length-drop, List·getD-eq-default}
+use lib.Seq.{take-all, take-take, length-take-le, getD-drop}
 use lib.Bits.{bitOr, or-zero-l, or-add-and, and-le-l, and-le-r}
 use lib.Dec.{eqb, leb, ltb}
 use borrow.Rule.Slice.PartMut.{putMid, post-is}
@@ -29,7 +29,7 @@ use Rattle.search.specs.declared.state.State.{State}
 use Rattle.files.proofs.Accepted.{Accepts, words-accept}
 use Rattle.console.specs.Bytes.{Whole, wordsOf, bytesOf}
 use Rattle.console.specs.Calls.{WholeProblem, unwhole, unwholeFile}
-use Rattle.console.specs.Work.Rooms.{fits, roomFor, wholeList, Fits, Room, Front, WritesBack, Shorter, Reach, FrontOf}
+use Rattle.console.specs.Work.Rooms.{fits, roomFor, few, wholeList, Fits, Short, Room, Front, WritesBack, Shorter, Reach, FrontOf}
 use Rattle.console.proofs.Words.{words-length}
 use Rattle.console.proofs.Reaching.{zeros-each}
 
@@ -85,10 +85,6 @@ room-true domains tables agenda b s y =
       of-tables = fits-true (length tables) 16384 (some-right (length domains) (length tables) front) (and-right x y′ two);
       of-agenda = fits-true (length agenda) 17408 (some-right (length domains * length tables) (length agenda) some) (and-right (x && y′) z three);
     }
-
--- As many words as there is room for.
-pub half-fits : (bytes most words : ℕ) → bytes ≤ 2 * most → words ≡ most → bytes / 2 ≤ words
-half-fits bytes most words h e = omega arith
 
 -- One of them is longer than any that the rules allow, or empty.
 abbrev pub LongOrNone : List ℕ → List ℕ → List ℕ → Type 0
@@ -314,16 +310,22 @@ lower-few n subproblems taken few h l =
     omega (arith, mul-le-mul slots slot)
 
 pub written-back : (n before taken after from to : ℕ) (words b bytes : List ℕ) → (from ≤ to) × (from ≤ (before - taken) * (n + 2))
-    → Front n before after (length words) to → bytes ≡ bytesOf (take (to - from) (drop from words))
+    → Front n before after (length words) to → length b ≡ 2 * length words
+    → bytes ≡ bytesOf (take (length (take (2 * to - 2 * from) (drop (2 * from) b)) / 2) (take (to - from) (drop from words)))
     → WritesBack n before taken after words b (putMid (2 * from) (2 * to - 2 * from) b bytes)
-written-back n before taken after from to words b bytes (order, lower) front e = record {
-  from = from;
-  to = to;
-  order = order;
-  lower = lower;
-  front = front;
-  said = ap₂ (λ (y z : List ℕ). take (2 * from) b ++ (y ++ z)) e (post-is (2 * from) (2 * to) b (omega arith));
-}
+written-back n before taken after from to words b bytes (order, lower) front long e =
+    let room : length (take (2 * to - 2 * from) (drop (2 * from) b)) ≡ 2 * to - 2 * from =
+    length-take-le _ (drop (2 * from) b) (rw length-drop (omega (arith, front .inside))) in
+    let half : length (take (2 * to - 2 * from) (drop (2 * from) b)) / 2 ≡ to - from = omega arith in
+    let said : bytes ≡ bytesOf (take (to - from) (drop from words)) = e ∙ ap bytesOf (rw half (take-take (to - from) (to - from) (drop from words) (omega arith))) in
+    record {
+      from = from;
+      to = to;
+      order = order;
+      lower = lower;
+      front = front;
+      said = ap₂ (λ (y z : List ℕ). take (2 * from) b ++ (y ++ z)) said (post-is (2 * from) (2 * to) b (omega arith));
+    }
 
 -- ---- how much of an agenda a run needs
 
@@ -344,23 +346,28 @@ reach-bytes n subproblems requests few h l =
 -- Fewer bytes than there are.
 pub reach-shorter : (n subproblems requests agenda slots : ℕ) → agenda % (2 * (n + 2)) ≡ 0 → agenda ≤ 512 * (2 * (n + 2))
     → slots ≡ subproblems + (n + 1) * (requests / (2 * (n + 3))) + 1 → slots * (2 * (n + 2)) < agenda
-    → Shorter n subproblems requests agenda (slots * (2 * (n + 2)))
+    → Reach n subproblems requests agenda (slots * (2 * (n + 2)))
 reach-shorter n subproblems requests agenda slots even most e l =
     let w : ℕ = 2 * (n + 2) in
     let whole : agenda ≡ agenda / w * w = omega (arith, div-add-mod' agenda w) in
+    let few : agenda / w * w < 513 * w = omega arith in
+    let less : slots * w < agenda / w * w = omega arith in
     record {
-      all = agenda / w;
-      whole = whole;
-      few =
-          let less : agenda / w * w < 513 * w = omega arith in
-          omega (arith, lt-of-mul-lt-mul-right w less);
-      slots = slots;
-      its = refl;
-      within =
-          let less : slots * w < agenda / w * w = omega arith in
-          omega (arith, lt-of-mul-lt-mul-right w less);
-      room = omega arith;
+      inside = omega arith;
+      how = inl (record {
+        all = agenda / w;
+        whole = whole;
+        few = omega (arith, lt-of-mul-lt-mul-right w few);
+        slots = slots;
+        its = refl;
+        within = omega (arith, lt-of-mul-lt-mul-right w less);
+        room = omega arith;
+      });
     }
+
+-- All of them.
+pub reach-all : (n subproblems requests agenda : ℕ) → Reach n subproblems requests agenda agenda
+reach-all n subproblems requests agenda = record { inside = omega arith; how = inr refl }
 
 -- The bits of two numbers together are none if both are 0.
 or-none : (a b : ℕ) → eqb (bitOr a b) 0 ≡ (eqb a 0 && eqb b 0)
@@ -394,41 +401,50 @@ zeros-all bytes k bits h l to =
     to .tell ∙ ap (λ (j : ℕ). every j (λ i. eqb (getD bytes i 0) 0)) end
     ∙ every-same (λ i. eqb (getD bytes i 0) 0) (λ i. eqb (getD bytes (0 + i) 0) 0) (length bytes - 0) (λ i m. ap (λ (j : ℕ). eqb (getD bytes j 0) 0) (sym (zero-add i)))
 
--- No more than there are.
-pub reach-inside : (n subproblems requests agenda r : ℕ) → Reach n subproblems requests agenda r → r ≤ agenda
-reach-inside n subproblems requests agenda r (inl h) =
-    let up : h .slots * (2 * (n + 2)) ≤ h .all * (2 * (n + 2)) = mul-le-mul-right (2 * (n + 2)) (h .within) in omega (arith, h .its, h .whole)
-reach-inside n subproblems requests agenda r (inr e) = omega arith
-
-pub front-inside : (n subproblems requests : ℕ) (agenda : List ℕ) (r : ℕ) → FrontOf n subproblems requests agenda r → r ≤ length agenda
-front-inside n subproblems requests agenda r (inl h) = reach-inside n subproblems requests (length agenda) r (inl (h .0))
-front-inside n subproblems requests agenda r (inr e) = omega arith
-
 -- Where all that is past them is zero.
 pub front-zeros : (n subproblems requests : ℕ) (agenda : List ℕ) (r : ℕ) (b : Bool) → Reach n subproblems requests (length agenda) r
     → b ≡ zerosFrom 0 (take (length agenda - r) (drop r agenda)) → b ≡ true → FrontOf n subproblems requests agenda r
-front-zeros n subproblems requests agenda r b (inr e) is y = inr e
-front-zeros n subproblems requests agenda r b (inl h) is y = inl (
-  h,
-  λ i l.
+front-zeros n subproblems requests agenda r b h is y = record {
+  reach = h;
+  zero = λ i l.
       let at : r + (0 + (i - r)) ≡ i = omega arith in
       let rest : take (length agenda - r) (drop r agenda) ≡ drop r agenda = take-all (length agenda - r) (drop r agenda) (rw length-drop (omega arith)) in
       ap (λ (k : ℕ). getD agenda k 0) (sym at) ∙ sym (getD-drop r agenda (0 + (i - r)) 0)
-      ∙ zeros-each 0 (drop r agenda) (ap (zerosFrom 0) (sym rest) ∙ sym is ∙ y) (i - r),
-)
+      ∙ zeros-each 0 (drop r agenda) (ap (zerosFrom 0) (sym rest) ∙ sym is ∙ y) (i - r);
+}
 
--- It is lent as whole words, some.
-pub front-fits : (n subproblems requests : ℕ) (agenda : List ℕ) (r most : ℕ) → FrontOf n subproblems requests agenda r → Fits (length agenda) most → r ≤ 17408
-    → Fits (length (take r agenda)) 8704
-front-fits n subproblems requests agenda r most f h l =
-    let long : length (take r agenda) ≡ r = length-take-le r agenda (front-inside n subproblems requests agenda r f) in
-    record { even = rw long (even f); some = rw long (some f); few = rw long l }
+-- Past all there is nothing.
+pub front-whole : (n subproblems requests : ℕ) (agenda : List ℕ) → FrontOf n subproblems requests agenda (length agenda)
+front-whole n subproblems requests agenda =
+    record { reach = reach-all n subproblems requests (length agenda); zero = λ i l. List·getD-eq-default agenda 0 l }
+
+-- What is few is short.
+pub few-short : {agenda requests most : ℕ} {b : Bool} → b ≡ few agenda requests → b ≡ true → Fits agenda most → Short agenda requests
+unfolding few
+few-short {agenda} {requests} is y h =
+    let both : (leb agenda 17408 && leb requests 1120) ≡ true = sym is ∙ y in
+    record {
+      of-agenda = record { even = h .even; some = h .some; few = leb-true agenda 17408 (and-left (leb agenda 17408) (leb requests 1120) both) };
+      of-requests = leb-true requests 1120 (and-right (leb agenda 17408) (leb requests 1120) both);
+    }
+
+-- The front is lent as whole words, some.
+pub front-fits : {n subproblems requests r : ℕ} {agenda : List ℕ} {most : ℕ} → FrontOf n subproblems requests agenda r → Fits (length agenda) most
+    → Fits (length (take r agenda)) most
+front-fits {n} {subproblems} {requests} {r} {agenda} f h =
+    let long : length (take r agenda) ≡ r = length-take-le r agenda (f .reach .inside) in
+    record { even = rw long (even (f .reach .how)); some = rw long (some (f .reach .how)); few = rw long (omega (arith, h .few, f .reach .inside)) }
   where
-    even : FrontOf n subproblems requests agenda r → r % 2 ≡ 0
-    even (inl k) = let two : k .0 .slots * (2 * (n + 2)) ≡ 2 * (k .0 .slots * (n + 2)) = omega arith in omega (arith, k .0 .its)
+    even : Shorter n subproblems requests (length agenda) r ⊎ (r ≡ length agenda) → r % 2 ≡ 0
+    even (inl k) = let two : k .slots * (2 * (n + 2)) ≡ 2 * (k .slots * (n + 2)) = omega arith in omega (arith, k .its)
     even (inr e) = rw e (h .even)
 
-    some : FrontOf n subproblems requests agenda r → 0 < r
+    some : Shorter n subproblems requests (length agenda) r ⊎ (r ≡ length agenda) → 0 < r
     some (inl k) =
-        let up : 1 * (2 * (n + 2)) ≤ k .0 .slots * (2 * (n + 2)) = mul-le-mul-right (2 * (n + 2)) (omega (arith, k .0 .room)) in omega (arith, k .0 .its)
+        let up : 1 * (2 * (n + 2)) ≤ k .slots * (2 * (n + 2)) = mul-le-mul-right (2 * (n + 2)) (omega (arith, k .room)) in omega (arith, k .its)
     some (inr e) = rw e (h .some)
+
+-- So all that is lent is.
+pub front-room : {n subproblems requests r : ℕ} {domains tables agenda : List ℕ} → FrontOf n subproblems requests agenda r → Room domains tables agenda
+    → Room domains tables (take r agenda)
+front-room f room = record { of-domains = room .of-domains; of-tables = room .of-tables; of-agenda = front-fits f (room .of-agenda) }

@@ -24,30 +24,17 @@ use Rattle.search.specs.declared.state.Ran.{Ran}
 use Rattle.search.specs.declared.state.Verdict.the-variants.{Running}
 use Rattle.files.proofs.Requests.{cut-length, whole-append}
 use Rattle.console.specs.Bytes.{Whole, wordsOf}
-use Rattle.console.specs.Work.Parts.{goesOn, joined, partEnd, Listed, Narrow}
+use Rattle.console.specs.Work.Parts.{goesOn, joined, WholeAt, Listed, Part, Narrow}
 use Rattle.console.proofs.Words.{words-length, words-append}
 use Rattle.console.proofs.Runs.{run-joined, run-ended, took-all, run-narrow, run-stepped}
 
 -- ---- whole requests in bytes
-
-abbrev pub WholeAt : ℕ → ℕ → Type 0
-WholeAt n bytes = (k : ℕ) × (bytes ≡ k * (2 * (n + 3)))
 
 pub whole-even : (n bytes : ℕ) → WholeAt n bytes → bytes % 2 ≡ 0
 whole-even n bytes (k, e) = omega arith
 
 pub whole-words : (n : ℕ) (l : List ℕ) → WholeAt n (length l) → WholeRequests n (length (wordsOf l))
 whole-words n l (k, e) = (k, words-length l ∙ omega (arith, e))
-
--- A part of them.
-pub record Part (n at bytes end : ℕ) : Type 0 where
-  pub after : at ≤ end
-  pub within : end ≤ bytes
-  pub short : end - at ≤ 14000
-  pub more : (end ≡ bytes → ⊥) → at < end
-  pub whole : WholeAt n (end - at)
-  pub place : WholeAt n end
-  pub rest : WholeAt n (bytes - end)
 
 -- of two places one after the other
 between : (n a b : ℕ) → WholeAt n a → WholeAt n b → a ≤ b → WholeAt n (b - a)
@@ -61,40 +48,34 @@ between n a b (i, e) (j, f) h = elim (decLt j i) [
       (j - i, omega arith)
 ]
 
-part-of : (n at bytes end : ℕ) → n ≤ 32 → at ≤ bytes → WholeAt n at → WholeAt n bytes → end ≡ partEnd n at bytes → Part n at bytes end
-unfolding partEnd
-part-of n at bytes end few h (k, e) whole s = go (leb (bytes - at) (400 * (n + 3))) refl
-  where
-    go : (b : Bool) → leb (bytes - at) (400 * (n + 3)) ≡ b → Part n at bytes end
-    go true y =
-        let l = leb-true (bytes - at) (400 * (n + 3)) y in
-        let is : end ≡ bytes = s ∙ ap (λ (b : Bool). cond b bytes (at + 400 * (n + 3))) y in
-        subst (λ (x : ℕ). Part n at bytes x) (sym is) (record {
-          after = h;
-          within = omega arith;
-          short = omega (arith, few);
-          more = λ f. absurd (f refl);
-          whole = between n at bytes (k, e) whole h;
-          place = whole;
-          rest = (0, omega arith);
-        })
-    go false y =
-        let l = leb-false (bytes - at) (400 * (n + 3)) y in
-        let is : end ≡ at + 400 * (n + 3) = s ∙ ap (λ (b : Bool). cond b bytes (at + 400 * (n + 3))) y in
-        let place : WholeAt n end = (k + 200, omega (arith, e)) in
-        record {
-          after = omega arith;
-          within = omega arith;
-          short = omega (arith, few);
-          more = λ f. omega arith;
-          whole = (200, omega arith);
-          place = place;
-          rest = between n end bytes place whole (omega arith);
-        }
+-- The last part, and one before it.
+pub part-last : (n at bytes : ℕ) → Listed n bytes → at ≤ bytes → WholeAt n at → bytes - at ≤ 400 * (n + 3) → Part n at bytes bytes
+part-last n at bytes listed h place l = record {
+  after = h;
+  within = omega arith;
+  short = omega (arith, listed .few);
+  more = λ f. absurd (f refl);
+  whole = between n at bytes place (listed .requests, listed .whole) h;
+  place = (listed .requests, listed .whole);
+  rest = (0, omega arith);
+}
+
+pub part-full : (n at bytes : ℕ) → Listed n bytes → at ≤ bytes → WholeAt n at → 400 * (n + 3) < bytes - at → Part n at bytes (at + 400 * (n + 3))
+part-full n at bytes listed h (k, e) l =
+    let place : WholeAt n (at + 400 * (n + 3)) = (k + 200, omega (arith, e)) in
+    record {
+      after = omega arith;
+      within = omega arith;
+      short = omega (arith, listed .few);
+      more = λ f. omega arith;
+      whole = (200, omega arith);
+      place = place;
+      rest = between n (at + 400 * (n + 3)) bytes place (listed .requests, listed .whole) (omega arith);
+    }
 
 -- What a part asks.
-pub part-asks : (n at end : ℕ) (l : List ℕ) → Part n at (length l) end → (length (take (end - at) (drop at l)) % 2 ≡ 0) × (length (take (end - at) (drop at l)) ≤ 14000)
-part-asks n at end l part =
+pub part-asks : {n at end : ℕ} (l : List ℕ) → Part n at (length l) end → (length (take (end - at) (drop at l)) % 2 ≡ 0) × (length (take (end - at) (drop at l)) ≤ 14000)
+part-asks {n} {at} {end} l part =
     let long : length (take (end - at) (drop at l)) ≡ end - at = length-take-le (end - at) (drop at l) (rw length-drop (omega (arith, part .within))) in
     (rw long (whole-even n (end - at) (part .whole)), rw long (part .short))
 
@@ -165,121 +146,113 @@ module _ (n d : ℕ) (domains tables before requests : List ℕ) (s : State) whe
     on = λ b left q w h. subst (λ (x : Ran). Runs n d domains tables before left b s x) (joined-none q) h;
   }
 
-  -- The part that is run next.
-  pub next-part : (mid : List ℕ) (state : State) (at taken end : ℕ) → Listed n (length requests) → Going mid state at taken
-      → end ≡ partEnd n at (length requests) → Part n at (length requests) end
-  next-part mid state at taken end listed going e =
-      part-of n at (length requests) end (listed .few) (going .far .inside) (going .far .place) (listed .requests, listed .whole) e
+module _ {n d : ℕ} {domains tables before requests : List ℕ} {s : State} {mid : List ℕ} {state : State} {at taken end : ℕ}
+    (going : Going n d domains tables before requests s mid state at taken) (part : Part n at (length requests) end) {left : List ℕ} {q : Ran}
+    (runs : Runs n d domains tables mid left (wordsOf (take (end - at) (drop at requests))) state q) where
+  here : List ℕ
+  here = take (end - at) (drop at requests)
 
-  module _ (mid : List ℕ) (state : State) (at taken end : ℕ) (far : SoFar mid state at taken) (part : Part n at (length requests) end)
-      (left : List ℕ) (q : Ran) (small : (i : ℕ) → getD mid i 0 < 2 ^ 16) (stepped : state .counts .steps .0 < 2 ^ 32)
-      (runs : Runs n d domains tables mid left (wordsOf (take (end - at) (drop at requests))) state q) where
-    here : List ℕ
-    here = take (end - at) (drop at requests)
+  rest : List ℕ
+  rest = drop end requests
 
-    rest : List ℕ
-    rest = drop end requests
+  here-length : length here ≡ end - at
+  unfolding here
+  here-length = length-take-le (end - at) (drop at requests) (rw length-drop (omega (arith, part .within)))
 
-    here-length : length here ≡ end - at
-    unfolding here
-    here-length = length-take-le (end - at) (drop at requests) (rw length-drop (omega (arith, part .within)))
+  here-whole : WholeRequests n (length (wordsOf here))
+  here-whole = whole-words n here (rw here-length (part .whole))
 
-    here-whole : WholeRequests n (length (wordsOf here))
-    here-whole = whole-words n here (rw here-length (part .whole))
+  rest-whole : WholeRequests n (length (wordsOf rest))
+  unfolding rest
+  rest-whole = whole-words n rest (rw length-drop (part .rest))
 
-    rest-whole : WholeRequests n (length (wordsOf rest))
-    unfolding rest
-    rest-whole = whole-words n rest (rw length-drop (part .rest))
+  -- It takes no more requests than it has bytes.
+  pub part-taken : q .taken ≤ end - at
+  unfolding here
+  part-taken =
+      let few : run (problemOf n d domains tables) (slotsIn n (length mid)) (requestsIn n (wordsOf here)) (searchOf n mid state) .taken ≤ length (requestsIn n (wordsOf here)) =
+      stops (problemOf n d domains tables) (slotsIn n (length mid)) (requestsIn n (wordsOf here)) (searchOf n mid state) .0 in
+      ends-taken _ n (end - at) mid left state _ q runs (omega (arith, few, requests-few n (wordsOf here), words-length here, here-length))
 
-    -- It takes no more requests than it has bytes.
-    pub part-taken : q .taken ≤ end - at
-    unfolding here
-    part-taken =
-        let few : run (problemOf n d domains tables) (slotsIn n (length mid)) (requestsIn n (wordsOf here)) (searchOf n mid state) .taken ≤ length (requestsIn n (wordsOf here)) =
-        stops (problemOf n d domains tables) (slotsIn n (length mid)) (requestsIn n (wordsOf here)) (searchOf n mid state) .0 in
-        ends-taken _ n (end - at) mid left state _ q runs (omega (arith, few, requests-few n (wordsOf here), words-length here, here-length))
+  -- The list up to the end of this part, and the whole list.
+  upto : take end requests ≡ take at requests ++ here
+  unfolding here
+  upto = let e : end ≡ at + (end - at) = omega (arith, part .after) in ap (λ (k : ℕ). take k requests) e ∙ take-add at (end - at) requests
 
-    -- The list up to the end of this part, and the whole list.
-    upto : take end requests ≡ take at requests ++ here
-    unfolding here
-    upto = let e : end ≡ at + (end - at) = omega (arith, part .after) in ap (λ (k : ℕ). take k requests) e ∙ take-add at (end - at) requests
+  first-even : Whole (take at requests)
+  first-even = rw (length-take-le at requests (going .far .inside)) (whole-even n at (going .far .place))
 
-    first-even : Whole (take at requests)
-    first-even = rw (length-take-le at requests (far .inside)) (whole-even n at (far .place))
+  upto-even : Whole (take end requests)
+  upto-even = rw (length-take-le end requests (part .within)) (whole-even n end (part .place))
 
-    upto-even : Whole (take end requests)
-    upto-even = rw (length-take-le end requests (part .within)) (whole-even n end (part .place))
+  upto-words : wordsOf (take end requests) ≡ wordsOf (take at requests) ++ wordsOf here
+  upto-words = ap wordsOf upto ∙ words-append (take at requests) here first-even
 
-    upto-words : wordsOf (take end requests) ≡ wordsOf (take at requests) ++ wordsOf here
-    upto-words = ap wordsOf upto ∙ words-append (take at requests) here first-even
+  all-words : wordsOf requests ≡ wordsOf (take at requests) ++ (wordsOf here ++ wordsOf rest)
+  unfolding rest
+  all-words =
+      ap wordsOf (sym (take-append-drop end requests)) ∙ words-append (take end requests) (drop end requests) upto-even
+      ∙ ap (λ (l : List ℕ). l ++ wordsOf (drop end requests)) upto-words ∙ append-assoc (wordsOf (take at requests)) (wordsOf here) (wordsOf (drop end requests))
 
-    all-words : wordsOf requests ≡ wordsOf (take at requests) ++ (wordsOf here ++ wordsOf rest)
-    unfolding rest
-    all-words =
-        ap wordsOf (sym (take-append-drop end requests)) ∙ words-append (take end requests) (drop end requests) upto-even
-        ∙ ap (λ (l : List ℕ). l ++ wordsOf (drop end requests)) upto-words ∙ append-assoc (wordsOf (take at requests)) (wordsOf here) (wordsOf (drop end requests))
+  -- At the list's end.
+  so-far-end : end ≡ length requests → Runs n d domains tables before left (wordsOf requests) s (joined taken q)
+  unfolding here
+  so-far-end e =
+      let same : wordsOf requests ≡ wordsOf (take at requests) ++ wordsOf here =
+      ap wordsOf (sym (take-length requests) ∙ ap (λ (k : ℕ). take k requests) (sym e)) ∙ upto-words in
+      subst (λ (l : List ℕ). Runs n d domains tables before left l s (joined taken q)) (sym same) (going .far .on (wordsOf here) left q here-whole runs)
 
-    -- At the list's end.
-    pub so-far-end : end ≡ length requests → Runs n d domains tables before left (wordsOf requests) s (joined taken q)
-    unfolding here
-    so-far-end e =
-        let same : wordsOf requests ≡ wordsOf (take at requests) ++ wordsOf here =
-        ap wordsOf (sym (take-length requests) ∙ ap (λ (k : ℕ). take k requests) (sym e)) ∙ upto-words in
-        subst (λ (l : List ℕ). Runs n d domains tables before left l s (joined taken q)) (sym same) (far .on (wordsOf here) left q here-whole runs)
+  -- Where it does not go on.
+  so-far-stop : goesOn (joined taken q) ≡ false → Runs n d domains tables before left (wordsOf requests) s (joined taken q)
+  unfolding here goesOn
+  so-far-stop e =
+      subst (λ (l : List ℕ). Runs n d domains tables before left l s (joined taken q)) (sym all-words)
+      (going .far .on (wordsOf here ++ wordsOf rest) left q (whole-both here-whole rest-whole)
+      (run-ended n d domains tables mid state (going .small) (omega (arith, going .stepped)) left (wordsOf here) (wordsOf rest) q here-whole rest-whole runs (stops-not q e)))
+    where
+      whole-both : WholeRequests n (length (wordsOf here)) → WholeRequests n (length (wordsOf rest)) → WholeRequests n (length (wordsOf here ++ wordsOf rest))
+      whole-both a b = whole-append n (wordsOf here) (wordsOf rest) a b
 
-    -- Where it does not go on.
-    pub so-far-stop : goesOn (joined taken q) ≡ false → Runs n d domains tables before left (wordsOf requests) s (joined taken q)
-    unfolding here goesOn
-    so-far-stop e =
-        subst (λ (l : List ℕ). Runs n d domains tables before left l s (joined taken q)) (sym all-words)
-        (far .on (wordsOf here ++ wordsOf rest) left q (whole-both here-whole rest-whole)
-        (run-ended n d domains tables mid state small (omega arith) left (wordsOf here) (wordsOf rest) q here-whole rest-whole runs (stops-not q e)))
-      where
-        whole-both : WholeRequests n (length (wordsOf here)) → WholeRequests n (length (wordsOf rest)) → WholeRequests n (length (wordsOf here ++ wordsOf rest))
-        whole-both a b = whole-append n (wordsOf here) (wordsOf rest) a b
+  -- Where it goes on.
+  so-far-more : goesOn (joined taken q) ≡ true → SoFar n d domains tables before requests s left (q .state) end (taken + q .taken)
+  unfolding here goesOn
+  so-far-more e = record {
+    inside = part .within;
+    few = omega (arith, going .far .few, part .after, part-taken);
+    place = part .place;
+    on = λ b last x w h.
+        let more : Runs n d domains tables mid last (wordsOf here ++ b) state (joined (q .taken) x) =
+        run-joined n d domains tables mid state (going .small) (omega (arith, going .stepped)) left (wordsOf here) b q here-whole w runs (goes-refusal q e)
+        (took-all n d domains tables mid state (going .small) (omega (arith, going .stepped)) left (wordsOf here) b q here-whole w runs (goes-refusal q e) (goes-running q e)) last x h in
+        let both : Runs n d domains tables before last (wordsOf (take at requests) ++ (wordsOf here ++ b)) s (joined taken (joined (q .taken) x)) =
+        going .far .on (wordsOf here ++ b) last (joined (q .taken) x) (whole-append n (wordsOf here) b here-whole w) more in
+        let list : wordsOf (take end requests) ++ b ≡ wordsOf (take at requests) ++ (wordsOf here ++ b) =
+        ap (λ (l : List ℕ). l ++ b) upto-words ∙ append-assoc (wordsOf (take at requests)) (wordsOf here) b in
+        let sum : joined taken (joined (q .taken) x) ≡ joined (taken + q .taken) x =
+        λ i. record { verdict = x .verdict; refusal = x .refusal; taken = sym (add-assoc taken (q .taken) (x .taken)) i; state = x .state } in
+        subst (λ (l : List ℕ). Runs n d domains tables before last l s (joined (taken + q .taken) x)) (sym list)
+        (subst (λ (y : Ran). Runs n d domains tables before last (wordsOf (take at requests) ++ (wordsOf here ++ b)) s y) sum both);
+  }
 
-    -- Where it goes on.
-    pub so-far-more : goesOn (joined taken q) ≡ true → SoFar left (q .state) end (taken + q .taken)
-    unfolding here goesOn
-    so-far-more e = record {
-      inside = part .within;
-      few = omega (arith, far .few, part .after, part-taken);
-      place = part .place;
-      on = λ b last x w h.
-          let more : Runs n d domains tables mid last (wordsOf here ++ b) state (joined (q .taken) x) =
-          run-joined n d domains tables mid state small (omega arith) left (wordsOf here) b q here-whole w runs (goes-refusal q e)
-          (took-all n d domains tables mid state small (omega arith) left (wordsOf here) b q here-whole w runs (goes-refusal q e) (goes-running q e)) last x h in
-          let both : Runs n d domains tables before last (wordsOf (take at requests) ++ (wordsOf here ++ b)) s (joined taken (joined (q .taken) x)) =
-          far .on (wordsOf here ++ b) last (joined (q .taken) x) (whole-append n (wordsOf here) b here-whole w) more in
-          let list : wordsOf (take end requests) ++ b ≡ wordsOf (take at requests) ++ (wordsOf here ++ b) =
-          ap (λ (l : List ℕ). l ++ b) upto-words ∙ append-assoc (wordsOf (take at requests)) (wordsOf here) b in
-          let sum : joined taken (joined (q .taken) x) ≡ joined (taken + q .taken) x =
-          λ i. record { verdict = x .verdict; refusal = x .refusal; taken = sym (add-assoc taken (q .taken) (x .taken)) i; state = x .state } in
-          subst (λ (l : List ℕ). Runs n d domains tables before last l s (joined (taken + q .taken) x)) (sym list)
-          (subst (λ (y : Ran). Runs n d domains tables before last (wordsOf (take at requests) ++ (wordsOf here ++ b)) s y) sum both);
-    }
+  -- What the next part goes on with.
+  pub go-again : (b : Bool) → b ≡ goesOn (joined taken q) → not b ≡ false → SoFar n d domains tables before requests s left (q .state) end (taken + q .taken)
+  go-again b e y = so-far-more (sym e ∙ not-false b y)
 
-    -- The same of what the code returns, and goes on with.
-    module _ (r : Ran) (made : r ≡ joined taken q) where
-      pub go-again : (b : Bool) → b ≡ goesOn r → not b ≡ false → SoFar left (r .state) end (r .taken)
-      go-again b e y =
-          subst (λ (x : Ran). SoFar left (x .state) end (x .taken)) (sym made) (so-far-more (ap goesOn (sym made) ∙ sym e ∙ not-false b y))
+  pub stepped-again : q .state .counts .steps .0 < 2 ^ 32
+  unfolding here
+  stepped-again =
+      omega (arith, run-stepped n d domains tables mid state (going .small) (omega (arith, going .stepped)) left (wordsOf here) q here-whole runs)
 
-      pub stepped-again : r .state .counts .steps .0 < 2 ^ 32
-      unfolding here
-      stepped-again =
-          let h : q .state .counts .steps .0 ≤ 4294967295 = run-stepped n d domains tables mid state small (omega arith) left (wordsOf here) q here-whole runs in
-          rw made (omega (arith, h))
+  -- What is returned.
+  module _ (listed : Listed n (length requests)) (small : (i : ℕ) → getD before i 0 < 2 ^ 16) (few : s .subproblems < 4294967296) where
+    narrow-too : Runs n d domains tables before left (wordsOf requests) s (joined taken q)
+        → Runs n d domains tables before left (wordsOf requests) s (joined taken q) × Narrow (joined taken q)
+    narrow-too h =
+        (h, run-narrow n d domains tables before s small (omega (arith, going .begun)) left (wordsOf requests) (joined taken q) (whole-words n requests (listed .requests, listed .whole)) few h)
 
-      module _ (listed : Listed n (length requests)) (small₀ : (i : ℕ) → getD before i 0 < 2 ^ 16) (stepped₀ : s .counts .steps .0 < 2 ^ 32)
-          (few₀ : s .subproblems < 4294967296) where
-        given-so : Runs n d domains tables before left (wordsOf requests) s (joined taken q) → Runs n d domains tables before left (wordsOf requests) s r × Narrow r
-        given-so h =
-            let runs′ : Runs n d domains tables before left (wordsOf requests) s r = subst (λ (x : Ran). Runs n d domains tables before left (wordsOf requests) s x) (sym made) h in
-            (runs′, run-narrow n d domains tables before s small₀ (omega arith) left (wordsOf requests) r (whole-words n requests (listed .requests, listed .whole)) few₀ runs′)
+    pub returns-end : end ≡ length requests → Runs n d domains tables before left (wordsOf requests) s (joined taken q) × Narrow (joined taken q)
+    returns-end e = narrow-too (so-far-end e)
 
-        pub returns-end : end ≡ length requests → Runs n d domains tables before left (wordsOf requests) s r × Narrow r
-        returns-end e = given-so (so-far-end e)
-
-        pub returns-stop : (b : Bool) → b ≡ goesOn r → not b ≡ true → Runs n d domains tables before left (wordsOf requests) s r × Narrow r
-        returns-stop b e y = given-so (so-far-stop (ap goesOn (sym made) ∙ sym e ∙ not-true b y))
+    pub returns-stop : (b : Bool) → b ≡ goesOn (joined taken q) → not b ≡ true
+        → Runs n d domains tables before left (wordsOf requests) s (joined taken q) × Narrow (joined taken q)
+    returns-stop b e y = narrow-too (so-far-stop (sym e ∙ not-true b y))

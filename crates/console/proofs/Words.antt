@@ -146,7 +146,7 @@ none-said (x ∷ b) d e = absurd (omega arith)
 
 -- The two bytes of a word more.
 pub bytes-more : (w d m : List ℕ) (i x y : ℕ) → m ≡ take (2 * i) (bytesOf w) ++ drop (2 * i) d → x ≡ getD w i 0 % 256 → y ≡ getD w i 0 / 256
-    → i < length w → length d ≡ 2 * length w
+    → i < length w → 2 * i + 1 < length d
     → set (set m (2 * i) x) (2 * i + 1) y ≡ take (2 * (i + 1)) (bytesOf w) ++ drop (2 * (i + 1)) d
 bytes-more w d m i x y e s t h k =
     let long : 2 * i + 1 < length (bytesOf w) = omega (arith, bytes-length w) in
@@ -155,9 +155,10 @@ bytes-more w d m i x y e s t h k =
     copy-more (bytesOf w) d (set m (2 * i) x) (2 * i + 1) y first (t ∙ sym (high-at w i h)) long (omega arith)
     ∙ ap (λ (j : ℕ). take j (bytesOf w) ++ drop j d) two
 
-pub bytes-end : (w d m : List ℕ) (i : ℕ) → m ≡ take (2 * i) (bytesOf w) ++ drop (2 * i) d → i ≤ length w → length w ≤ i → length d ≡ 2 * length w
-    → m ≡ bytesOf w
+-- After the last that there is room for.
+pub bytes-end : (w d m : List ℕ) (i : ℕ) → m ≡ take (2 * i) (bytesOf w) ++ drop (2 * i) d → i ≤ length d / 2 → length d / 2 ≤ i → Whole d
+    → m ≡ bytesOf (take (length d / 2) w)
 bytes-end w d m i e h l k =
-    let all : 2 * i ≡ length (bytesOf w) = omega (arith, bytes-length w) in
     let none : 2 * i ≡ length d = omega arith in
-    e ∙ ap₂ _++_ (ap (λ (j : ℕ). take j (bytesOf w)) all ∙ take-length (bytesOf w)) (ap (λ (j : ℕ). drop j d) none ∙ drop-length d) ∙ append-nil (bytesOf w)
+    let all : i ≡ length d / 2 = omega arith in
+    e ∙ ap₂ _++_ (bytes-front i w ∙ ap (λ (j : ℕ). bytesOf (take j w)) all) (ap (λ (j : ℕ). drop j d) none ∙ drop-length d) ∙ append-nil _

@@ -5,7 +5,7 @@ ghost use lib.ListN.{length, take};
 ghost use lib.Dec.{ltb};
 ghost use Rattle.search.specs.FirstChecks.{zerosFrom};
 ghost use Rattle.console.specs.Bytes.{wordsOf, bytesOf};
-ghost use Rattle.console.specs.Work.Rooms.{fits, roomFor, wholeList, Front, WritesBack, Reach, FrontOf};
+ghost use Rattle.console.specs.Work.Rooms.{fits, roomFor, few, wholeList, Fits, Turned, Front, WritesBack, Reach, FrontOf};
 
 // The word of two bytes.
 fn word(low: u8, high: u8) -> u16
@@ -16,8 +16,8 @@ fn word(low: u8, high: u8) -> u16
 
 // The words that the bytes say, at the front of `words`: one at least, so that no test stands before the first turn (see `none_empty`).
 pub(crate) fn words_of(bytes: &[u8], words: &mut [u16])
-    requires { ⌜ (length (now bytes) % 2 ≡ 0) × ((0 < length (now bytes)) × (length (now bytes) ≤ 2 * length (now words))) ⌝ }
-    ensures { λ r. ⌜ take (length (now (bytes .entry)) / 2) (now (words .exit)) ≡ wordsOf (now (bytes .entry)) ⌝ }
+    requires { ⌜ Fits (length (now bytes)) (length (now words)) ⌝ }
+    ensures { λ r. ⌜ Turned (now (bytes .entry)) (length (now (words .entry))) (now (words .exit)) ⌝ }
 {
     let count = bytes.len() / 2;
     let mut i = 0;
@@ -41,15 +41,27 @@ pub(crate) fn any_words_of(bytes: &[u8], words: &mut [u16])
     words_of(bytes, words);
 }
 
-// The bytes that say the words.
-pub(crate) fn bytes_of(words: &[u16], bytes: &mut [u8])
-    requires { ⌜ length (now bytes) ≡ 2 * length (now words) ⌝ }
-    ensures { λ r. ⌜ now (bytes .exit) ≡ bytesOf (now (words .entry)) ⌝ }
+// The words of domains, zeros after them. These are few enough to be handed out; tables and agenda are made where they stand, or they would be copied.
+pub(crate) fn domain_words(bytes: &[u8]) -> [u16; 32]
+    requires { ⌜ Fits (length (now bytes)) 32 ⌝ }
+    ensures { λ r. ⌜ Turned (now (bytes .entry)) 32 r ⌝ }
 {
+    let mut words = [0u16; 32];
+    words_of(bytes, &mut words);
+    words
+}
+
+// The bytes that say the first of the words, as many as there is room for.
+pub(crate) fn bytes_of(words: &[u16], bytes: &mut [u8])
+    requires { ⌜ (length (now bytes) % 2 ≡ 0) × (length (now bytes) ≤ 2 * length (now words)) ⌝ }
+    ensures { λ r. ⌜ now (bytes .exit) ≡ bytesOf (take (length (now (bytes .entry)) / 2) (now (words .entry))) ⌝ }
+{
+    let count = bytes.len() / 2;
     let mut i = 0;
-    while i < words.len() {
-        bytes[2 * i] = (words[i] % 256) as u8;
-        bytes[2 * i + 1] = (words[i] / 256) as u8;
+    while i < count {
+        let word = words[i];
+        bytes[2 * i] = (word % 256) as u8;
+        bytes[2 * i + 1] = (word / 256) as u8;
         i += 1;
     }
 }
@@ -87,6 +99,16 @@ pub(crate) fn room_for(domains: usize, tables: usize, agenda: usize) -> bool
         return false;
     }
     none_empty(domains, tables, agenda)
+}
+
+// Whether so many bytes of an agenda and of requests are few: 256 slots and 16 requests of 32 variables.
+pub(crate) fn few(agenda: usize, requests: usize) -> bool
+    ensures { λ r. ⌜ r ≡ few agenda requests ⌝ }
+{
+    if 17408 < agenda {
+        return false;
+    }
+    requests <= 1120
 }
 
 // Whether so many bytes are whole requests; of n above 32 no length is.

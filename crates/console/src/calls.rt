@@ -14,7 +14,7 @@ ghost use lib.ListN.{length};
 ghost use Rattle.files.specs.Calls.{Saves};
 ghost use Rattle.console.specs.Bytes.{wordsOf};
 ghost use Rattle.console.specs.Calls.{OpensWords, OpensBytes, RunsWords, RunsBytes, ChoosesWords, ChoosesBytes, SavesBytes, unloaded, LoadsWords, LoadsBytes};
-ghost use Rattle.console.specs.Work.Rooms.{Fits, Room};
+ghost use Rattle.console.specs.Work.Rooms.{Fits, Short, Room};
 ghost use Rattle.console.specs.Work.Parts.{Listed, RunsAt, Narrow, NarrowLoaded};
 
 // Opening, at the words.
@@ -25,8 +25,7 @@ fn open_words(n: usize, d: usize, domains: &[u8], tables: &[u8], agenda: &mut [u
     let variables = domains.len() / 2;
     let masks = tables.len() / 2;
     let room = agenda.len() / 2;
-    let mut domain_words = [0u16; 32];
-    bytes::words_of(domains, &mut domain_words);
+    let domain_words = bytes::domain_words(domains);
     let mut agenda_words = [0u16; 17408];
     bytes::words_of(agenda, &mut agenda_words);
     let mut table_words = [0u16; 16384];
@@ -38,7 +37,7 @@ fn open_words(n: usize, d: usize, domains: &[u8], tables: &[u8], agenda: &mut [u
         &table_words[..masks],
         &mut agenda_words[..room],
     );
-    bytes::bytes_of(&agenda_words[..room], agenda);
+    bytes::bytes_of(&agenda_words, agenda);
     opened
 }
 
@@ -52,7 +51,7 @@ pub(crate) fn open(n: usize, d: usize, domains: &[u8], tables: &[u8], agenda: &m
     numbers::unopened(n, d)
 }
 
-// A run in an agenda of 8,704 words at most, 256 slots of 32 variables: the words made for it are no more than these need.
+// A run of a few requests in a short agenda: the words made for it are no more than these need.
 fn run_short(
     n: usize,
     d: usize,
@@ -62,13 +61,24 @@ fn run_short(
     requests: &[u8],
     state: State,
 ) -> Ran
-    requires { ⌜ Fits (length (now agenda)) 8704 × (Listed n (length (now requests)) × ((state .counts .steps .0 < 4294967296) × (state .subproblems < 4294967296))) ⌝ }
+    requires { ⌜ Short (length (now agenda)) (length (now requests)) × (Listed n (length (now requests)) × (state .subproblems < 4294967296)) ⌝ }
     ensures { λ r. ⌜ RunsAt n d (now (domains .entry)) (now (tables .entry)) (now (agenda .entry)) (now (agenda .exit)) (now (requests .entry)) state r × Narrow r ⌝ }
 {
     let room = agenda.len() / 2;
+    let count = requests.len() / 2;
     let mut words = [0u16; 8704];
     bytes::words_of(agenda, &mut words);
-    let ran = parts::run_parts(n, d, domains, tables, &mut words[..room], requests, state);
+    let mut listed = [0u16; 560];
+    bytes::any_words_of(requests, &mut listed);
+    let ran = search::run(
+        n,
+        d,
+        domains,
+        tables,
+        &mut words[..room],
+        &listed[..count],
+        state,
+    );
     bytes::write_back(
         n,
         state.subproblems,
@@ -80,7 +90,7 @@ fn run_short(
     ran
 }
 
-// A run in any agenda.
+// A run of any requests in any agenda.
 fn run_long(
     n: usize,
     d: usize,
@@ -90,7 +100,7 @@ fn run_long(
     requests: &[u8],
     state: State,
 ) -> Ran
-    requires { ⌜ Fits (length (now agenda)) 17408 × (Listed n (length (now requests)) × ((state .counts .steps .0 < 4294967296) × (state .subproblems < 4294967296))) ⌝ }
+    requires { ⌜ Fits (length (now agenda)) 17408 × (Listed n (length (now requests)) × (state .subproblems < 4294967296)) ⌝ }
     ensures { λ r. ⌜ RunsAt n d (now (domains .entry)) (now (tables .entry)) (now (agenda .entry)) (now (agenda .exit)) (now (requests .entry)) state r × Narrow r ⌝ }
 {
     let room = agenda.len() / 2;
@@ -108,7 +118,7 @@ fn run_long(
     ran
 }
 
-// A run, at the words: in the front of the agenda, where that tells how it ends.
+// A run, at the words.
 fn run_words(
     n: usize,
     d: usize,
@@ -118,40 +128,23 @@ fn run_words(
     requests: &[u8],
     state: State,
 ) -> Ran
-    requires { ⌜ Room (now domains) (now tables) (now agenda) × (Listed n (length (now requests)) × ((state .counts .steps .0 < 4294967296) × (state .subproblems < 4294967296))) ⌝ }
+    requires { ⌜ Room (now domains) (now tables) (now agenda) × (Listed n (length (now requests)) × (state .subproblems < 4294967296)) ⌝ }
     ensures { λ r. ⌜ RunsWords n d (now (domains .entry)) (now (tables .entry)) (now (agenda .entry)) (now (agenda .exit)) (now (requests .entry)) state r × Narrow r ⌝ }
 {
     let variables = domains.len() / 2;
     let masks = tables.len() / 2;
-    let front = bytes::front_of(n, state.subproblems, requests.len(), agenda);
-    let mut domain_words = [0u16; 32];
-    bytes::words_of(domains, &mut domain_words);
+    let domain_words = bytes::domain_words(domains);
     let mut table_words = [0u16; 16384];
     bytes::words_of(tables, &mut table_words);
-    // So many bytes are the words that run_short has room for.
-    if front <= 17408 {
-        return run_short(
-            n,
-            d,
-            &domain_words[..variables],
-            &table_words[..masks],
-            &mut agenda[..front],
-            requests,
-            state,
-        );
+    let domains = &domain_words[..variables];
+    let tables = &table_words[..masks];
+    if bytes::few(agenda.len(), requests.len()) {
+        return run_short(n, d, domains, tables, agenda, requests, state);
     }
-    run_long(
-        n,
-        d,
-        &domain_words[..variables],
-        &table_words[..masks],
-        agenda,
-        requests,
-        state,
-    )
+    run_long(n, d, domains, tables, agenda, requests, state)
 }
 
-// A run.
+// A run, in the front of the agenda where that tells how it ends.
 pub(crate) fn run(
     n: usize,
     d: usize,
@@ -168,7 +161,8 @@ pub(crate) fn run(
         return numbers::refused(n, d, state);
     }
     if bytes::whole_list(n, requests.len()) {
-        return run_words(n, d, domains, tables, agenda, requests, state);
+        let front = bytes::front_of(n, state.subproblems, requests.len(), agenda);
+        return run_words(n, d, domains, tables, &mut agenda[..front], requests, state);
     }
     numbers::refused(n, d, state)
 }
@@ -183,14 +177,13 @@ fn choose_words(
     limit: usize,
     state: State,
 ) -> Ran
-    requires { ⌜ Room (now domains) (now tables) (now agenda) × ((state .counts .steps .0 < 4294967296) × (state .subproblems < 4294967296)) ⌝ }
+    requires { ⌜ Room (now domains) (now tables) (now agenda) × (state .subproblems < 4294967296) ⌝ }
     ensures { λ r. ⌜ ChoosesWords n d (now (domains .entry)) (now (tables .entry)) (now (agenda .entry)) (now (agenda .exit)) limit state r × Narrow r ⌝ }
 {
     let variables = domains.len() / 2;
     let masks = tables.len() / 2;
     let room = agenda.len() / 2;
-    let mut domain_words = [0u16; 32];
-    bytes::words_of(domains, &mut domain_words);
+    let domain_words = bytes::domain_words(domains);
     let mut agenda_words = [0u16; 17408];
     bytes::words_of(agenda, &mut agenda_words);
     let mut table_words = [0u16; 16384];
@@ -204,7 +197,7 @@ fn choose_words(
         limit,
         state,
     );
-    bytes::bytes_of(&agenda_words[..room], agenda);
+    bytes::bytes_of(&agenda_words, agenda);
     ran
 }
 
@@ -243,8 +236,7 @@ fn save_words(
     let variables = domains.len() / 2;
     let masks = tables.len() / 2;
     let room = agenda.len() / 2;
-    let mut domain_words = [0u16; 32];
-    bytes::words_of(domains, &mut domain_words);
+    let domain_words = bytes::domain_words(domains);
     let mut agenda_words = [0u16; 17408];
     bytes::words_of(agenda, &mut agenda_words);
     let mut table_words = [0u16; 16384];
@@ -286,8 +278,7 @@ fn load_words(file: &[u8], domains: &mut [u8], tables: &mut [u8], agenda: &mut [
     let variables = domains.len() / 2;
     let masks = tables.len() / 2;
     let room = agenda.len() / 2;
-    let mut domain_words = [0u16; 32];
-    bytes::words_of(domains, &mut domain_words);
+    let mut domain_words = bytes::domain_words(domains);
     let mut agenda_words = [0u16; 17408];
     bytes::words_of(agenda, &mut agenda_words);
     let mut table_words = [0u16; 16384];
@@ -298,9 +289,9 @@ fn load_words(file: &[u8], domains: &mut [u8], tables: &mut [u8], agenda: &mut [
         &mut table_words[..masks],
         &mut agenda_words[..room],
     );
-    bytes::bytes_of(&domain_words[..variables], domains);
-    bytes::bytes_of(&table_words[..masks], tables);
-    bytes::bytes_of(&agenda_words[..room], agenda);
+    bytes::bytes_of(&domain_words, domains);
+    bytes::bytes_of(&table_words, tables);
+    bytes::bytes_of(&agenda_words, agenda);
     loaded
 }
 

@@ -8,7 +8,7 @@ ghost use Prim.Native.Nat.{_+_, _*_, _/_, _%_, _≤_, _<_};
 ghost use lib.ListN.{length};
 ghost use Rattle.search.specs.Calls.{Runs};
 ghost use Rattle.console.specs.Bytes.{wordsOf};
-ghost use Rattle.console.specs.Work.Parts.{goesOn, joined, partEnd, Listed, Narrow};
+ghost use Rattle.console.specs.Work.Parts.{goesOn, WholeAt, Listed, Part, Narrow};
 
 // Whether a run that ended so goes on with the next part: none refused and still running.
 fn goes_on(ran: Ran) -> bool
@@ -21,25 +21,10 @@ fn goes_on(ran: Ran) -> bool
     numbers::number_of(verdict) == 1
 }
 
-// What two parts end with: as the second does, the requests that both took added up.
-fn joined(taken: usize, ran: Ran) -> Ran
-    requires { ⌜ taken + ran .taken < 18446744073709551616 ⌝ }
-    ensures { λ r. ⌜ r ≡ joined taken ran ⌝ }
-{
-    let verdict = ran.verdict;
-    let state = ran.state;
-    Ran {
-        verdict,
-        refusal: ran.refusal,
-        taken: taken + ran.taken,
-        state,
-    }
-}
-
 // The end of the part that begins at `at`: 200 requests on, or the list's end.
 fn end_of(n: usize, at: usize, bytes: usize) -> usize
-    requires { ⌜ (n ≤ 32) × (at ≤ bytes) ⌝ }
-    ensures { λ r. ⌜ r ≡ partEnd n at bytes ⌝ }
+    requires { ⌜ Listed n bytes × ((at ≤ bytes) × WholeAt n at) ⌝ }
+    ensures { λ r. ⌜ Part n at bytes r ⌝ }
 {
     let part = 400 * (n + 3);
     if bytes - at <= part {
@@ -48,27 +33,8 @@ fn end_of(n: usize, at: usize, bytes: usize) -> usize
     at + part
 }
 
-// Runs a few requests: the words made for them are no more than these need.
-fn run_few(
-    n: usize,
-    d: usize,
-    domains: &[u16],
-    tables: &[u16],
-    agenda: &mut [u16],
-    requests: &[u8],
-    state: State,
-) -> Ran
-    requires { ⌜ (length (now requests) % 2 ≡ 0) × (length (now requests) ≤ 1120) ⌝ }
-    ensures { λ r. ⌜ Runs n d (now (domains .entry)) (now (tables .entry)) (now (agenda .entry)) (now (agenda .exit)) (wordsOf (now (requests .entry))) state r ⌝ }
-{
-    let mut words = [0u16; 560];
-    let count = requests.len() / 2;
-    bytes::any_words_of(requests, &mut words);
-    search::run(n, d, domains, tables, agenda, &words[..count], state)
-}
-
-// Runs up to 200 requests.
-fn run_many(
+// Runs the requests of one part.
+fn run_part(
     n: usize,
     d: usize,
     domains: &[u16],
@@ -86,26 +52,8 @@ fn run_many(
     search::run(n, d, domains, tables, agenda, &words[..count], state)
 }
 
-// Runs the requests of one part.
-fn run_part(
-    n: usize,
-    d: usize,
-    domains: &[u16],
-    tables: &[u16],
-    agenda: &mut [u16],
-    requests: &[u8],
-    state: State,
-) -> Ran
-    requires { ⌜ (length (now requests) % 2 ≡ 0) × (length (now requests) ≤ 14000) ⌝ }
-    ensures { λ r. ⌜ Runs n d (now (domains .entry)) (now (tables .entry)) (now (agenda .entry)) (now (agenda .exit)) (wordsOf (now (requests .entry))) state r ⌝ }
-{
-    if requests.len() <= 1120 {
-        return run_few(n, d, domains, tables, agenda, requests, state);
-    }
-    run_many(n, d, domains, tables, agenda, requests, state)
-}
-
-// Runs part after part, until the list ends or one ends otherwise than still running with none refused.
+// Runs part after part, until the list ends or one ends otherwise than still running with none refused. It ends as the last part does, the requests that all
+// took added up.
 pub(crate) fn run_parts(
     n: usize,
     d: usize,
@@ -123,8 +71,8 @@ pub(crate) fn run_parts(
     let mut taken = 0;
     loop {
         let end = end_of(n, at, requests.len());
-        let next = run_part(n, d, domains, tables, agenda, &requests[at..end], state);
-        let ran = joined(taken, next);
+        let mut ran = run_part(n, d, domains, tables, agenda, &requests[at..end], state);
+        ran.taken = taken + ran.taken;
         if end == requests.len() {
             return ran;
         }

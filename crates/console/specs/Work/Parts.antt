@@ -1,9 +1,9 @@
 -- A list of requests run a part at a time.
 use mathlib.Core.Path.{_≡_}
-use mathlib.Core.Bool.{Bool, cond, _&&_}
+use mathlib.Core.Bool.{Bool, _&&_}
 use mathlib.Core.List.{List}
 use Prim.Native.Nat.{ℕ, _+_, _-_, _*_, _≤_, _<_}
-use lib.Dec.{eqb, leb}
+use lib.Dec.{eqb}
 use Rattle.search.specs.Verdicts.{numberOf}
 use Rattle.search.specs.Calls.{Runs}
 use Rattle.search.specs.declared.state.State.{State}
@@ -15,19 +15,29 @@ use Rattle.console.specs.Bytes.{wordsOf, bytesOf}
 unfoldable pub goesOn : Ran → Bool
 goesOn r = eqb (r .refusal) 0 && eqb (numberOf (r .verdict)) 1
 
--- The end of the second part, with what the first took.
+-- The end of a part, with what the parts before it took.
 abbrev pub joined : ℕ → Ran → Ran
 joined taken r = record { verdict = r .verdict; refusal = r .refusal; taken = taken + r .taken; state = r .state }
 
--- Where the part that begins at `at` ends.
-unfoldable pub partEnd : ℕ → ℕ → ℕ → ℕ
-partEnd n at bytes = cond (leb (bytes - at) (400 * (n + 3))) bytes (at + 400 * (n + 3))
-
 -- So many bytes are whole requests of n variables, two bytes a word.
+abbrev pub WholeAt : ℕ → ℕ → Type 0
+WholeAt n bytes = (k : ℕ) × (bytes ≡ k * (2 * (n + 3)))
+
+-- A list of them, n in its range.
 pub record Listed (n bytes : ℕ) : Type 0 where
   pub few : n ≤ 32
   pub requests : ℕ
   pub whole : bytes ≡ requests * (2 * (n + 3))
+
+-- A part of a list, from `at` to `end`: whole requests, 200 at most, and some unless the list ends there.
+pub record Part (n at bytes end : ℕ) : Type 0 where
+  pub after : at ≤ end
+  pub within : end ≤ bytes
+  pub short : end - at ≤ 14000
+  pub more : (end ≡ bytes → ⊥) → at < end
+  pub whole : WholeAt n (end - at)
+  pub place : WholeAt n end
+  pub rest : WholeAt n (bytes - end)
 
 -- A run at words of the problem, and at the words that the bytes of agenda and requests say.
 pub record RunsAt (n d : ℕ) (domains tables before after requests : List ℕ) (s : State) (r : Ran) : Type 0 where

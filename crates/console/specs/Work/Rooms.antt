@@ -7,7 +7,7 @@ use mathlib.Core.List.{List, _++_}
 use Prim.Native.Nat.{ℕ, _+_, _-_, _*_, _/_, _%_, _≤_, _<_}
 use lib.ListN.{length, getD, take, drop}
 use lib.Dec.{eqb, leb, ltb}
-use Rattle.console.specs.Bytes.{bytesOf}
+use Rattle.console.specs.Bytes.{wordsOf, bytesOf}
 
 -- So many bytes are whole words, at most so many of them.
 unfoldable pub fits : ℕ → ℕ → Bool
@@ -17,20 +17,34 @@ fits bytes most = eqb (bytes % 2) 0 && leb bytes (2 * most)
 unfoldable pub roomFor : ℕ → ℕ → ℕ → Bool
 roomFor domains tables agenda = fits domains 32 && fits tables 16384 && fits agenda 17408 && ltb 0 (domains * tables * agenda)
 
+-- So many bytes of an agenda are the words of 256 slots of 34, and of requests those of 16 of 35, or fewer.
+unfoldable pub few : ℕ → ℕ → Bool
+few agenda requests = leb agenda 17408 && leb requests 1120
+
 -- So many bytes are whole requests of n variables, n in its range.
 unfoldable pub wholeList : ℕ → ℕ → Bool
 wholeList n bytes = leb n 32 && eqb (bytes % (2 * (n + 3))) 0
 
--- What `roomFor` says.
+-- What `roomFor` says, and `few`.
 pub record Fits (bytes most : ℕ) : Type 0 where
   pub even : bytes % 2 ≡ 0
   pub some : 0 < bytes
   pub few : bytes ≤ 2 * most
 
+pub record Short (agenda requests : ℕ) : Type 0 where
+  pub of-agenda : Fits agenda 8704
+  pub of-requests : requests ≤ 1120
+
 pub record Room (domains tables agenda : List ℕ) : Type 0 where
   pub of-domains : Fits (length domains) 32
   pub of-tables : Fits (length tables) 16384
   pub of-agenda : Fits (length agenda) 17408
+
+-- So many words, that begin with those that the bytes say.
+pub record Turned (bytes : List ℕ) (most : ℕ) (words : List ℕ) : Type 0 where
+  pub long : length words ≡ most
+  pub room : length bytes / 2 ≤ length words
+  pub said : take (length bytes / 2) words ≡ wordsOf bytes
 
 -- Of so many words the first r: what comes after them is past the slots used before and after.
 pub record Front (n before after words r : ℕ) : Type 0 where
@@ -58,10 +72,11 @@ pub record Shorter (n subproblems requests agenda r : ℕ) : Type 0 where
   pub room : subproblems + (n + 1) * (requests / (2 * (n + 3))) < slots
 
 -- So many bytes of an agenda, or all.
-abbrev pub Reach : ℕ → ℕ → ℕ → ℕ → ℕ → Type 0
-Reach n subproblems requests agenda r = Shorter n subproblems requests agenda r ⊎ (r ≡ agenda)
+pub record Reach (n subproblems requests agenda r : ℕ) : Type 0 where
+  pub inside : r ≤ agenda
+  pub how : Shorter n subproblems requests agenda r ⊎ (r ≡ agenda)
 
 -- So many, with only zeros after them, or all.
-abbrev pub FrontOf : ℕ → ℕ → ℕ → List ℕ → ℕ → Type 0
-FrontOf n subproblems requests agenda r =
-    (Shorter n subproblems requests (length agenda) r × ((i : ℕ) → r ≤ i → getD agenda i 0 ≡ 0)) ⊎ (r ≡ length agenda)
+pub record FrontOf (n subproblems requests : ℕ) (agenda : List ℕ) (r : ℕ) : Type 0 where
+  pub reach : Reach n subproblems requests (length agenda) r
+  pub zero : (i : ℕ) → r ≤ i → getD agenda i 0 ≡ 0

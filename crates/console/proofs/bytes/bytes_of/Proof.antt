@@ -2,7 +2,7 @@
 -- Assumes nothing.
 use mathlib.Core.Path.{_≡_, refl}
 use mathlib.Core.List.{_++_}
-use Prim.Native.Nat.{_-_, _*_, _≤_}
+use Prim.Native.Nat.{_-_, _*_, _/_, _≤_}
 use native.Mathlib.Omega.{arith}
 use lib.ListN.{length, take, drop, length-set}
 use Rattle.console.specs.Bytes.{bytesOf}
@@ -12,40 +12,34 @@ use Rattle.console.proofs.bytes.bytes_of.Statement.{statement}
 use Rattle.console.proofs.bytes.bytes_of.Tie as tie
 
 abbrev Inv-loop : tie.InvT-loop
-Inv-loop words bytes₀ i₀ bytes i = (i ≤ length words) × ((length bytes ≡ length bytes₀) × (bytes ≡ take (2 * i) (bytesOf words) ++ drop (2 * i) bytes₀))
+Inv-loop words bytes₀ count i₀ bytes i = (i ≤ length bytes₀ / 2) × ((length bytes ≡ length bytes₀) × (bytes ≡ take (2 * i) (bytesOf words) ++ drop (2 * i) bytes₀))
 
 abbrev μ-loop : tie.MeasureT-loop
-μ-loop words bytes₀ i₀ bytes i = length words - i
+μ-loop words bytes₀ count i₀ bytes i = length bytes₀ / 2 - i
 
 loop-holds : tie.Need-loop-holds Inv-loop μ-loop
 loop-holds c = (omega arith, (refl, refl))
 
-mul-bytes : tie.Need-mul-bytes Inv-loop μ-loop
-mul-bytes c = search needs
+mul-word : tie.Need-mul-word Inv-loop μ-loop
+mul-word c = search needs
 
-shared-slice-read-bytes : tie.Need-shared-slice-read-bytes Inv-loop μ-loop
-shared-slice-read-bytes c = search needs
+shared-slice-read-word : tie.Need-shared-slice-read-word Inv-loop μ-loop
+shared-slice-read-word c = search needs
 
 cast-bytes : tie.Need-cast-bytes Inv-loop μ-loop
-cast-bytes c = omega (arith, c .shared-slice-known .given (c .before .before .loop .i))
+cast-bytes c = search needs
 
-mul-bytes-2 : tie.Need-mul-bytes-2 Inv-loop μ-loop
-mul-bytes-2 c = search needs
+mul-bytes : tie.Need-mul-bytes Inv-loop μ-loop
+mul-bytes c = search needs
 
 slice-write-bytes : tie.Need-slice-write-bytes Inv-loop μ-loop
 slice-write-bytes c = search needs
 
-mul-bytes-3 : tie.Need-mul-bytes-3 Inv-loop μ-loop
-mul-bytes-3 c = search needs
-
-shared-slice-read-bytes-2 : tie.Need-shared-slice-read-bytes-2 Inv-loop μ-loop
-shared-slice-read-bytes-2 c = search needs
-
 cast-bytes-2 : tie.Need-cast-bytes-2 Inv-loop μ-loop
-cast-bytes-2 c = omega (arith, c .shared-slice-known2 .given (c .before .before .before .loop .i))
+cast-bytes-2 c = omega (arith, c .shared-slice-known .given (c .before .before .loop .i))
 
-mul-bytes-4 : tie.Need-mul-bytes-4 Inv-loop μ-loop
-mul-bytes-4 c = search needs
+mul-bytes-2 : tie.Need-mul-bytes-2 Inv-loop μ-loop
+mul-bytes-2 c = search needs
 
 add-bytes : tie.Need-add-bytes Inv-loop μ-loop
 add-bytes c = search needs
@@ -61,14 +55,14 @@ loop-less c = search needs
 
 loop-again : tie.Need-loop-again Inv-loop μ-loop
 loop-again c =
-    let inv = c .before .before .before .loop .inv in
-    (omega arith, (simp length-set (inv .1 .0), bytes-more _ _ _ _ _ _ (inv .1 .1) refl refl (c .before .before .loop-test .taken) (c .before .before .before .before .pre)))
+    let inv = c .before .before .loop .inv in
+    (omega arith, (simp length-set (inv .1 .0), bytes-more _ _ _ _ _ _ (inv .1 .1) refl refl (omega arith) (omega arith)))
 
 same-length : tie.Need-same-length Inv-loop μ-loop
 same-length c = search needs
 
 returns : tie.Need-returns Inv-loop μ-loop
-returns c = let inv = c .before .loop .inv in bytes-end _ _ _ _ (inv .1 .1) (inv .0) (c .loop-test .left) (c .before .before .pre)
+returns c = let inv = c .before .loop .inv in bytes-end _ _ _ _ (inv .1 .1) (inv .0) (c .loop-test .left) (c .before .before .pre .0)
 
 pub bytes-of-spec : {M : Type 1} → statement M
 bytes-of-spec =
@@ -77,15 +71,13 @@ bytes-of-spec =
     Inv-loop
     μ-loop
     loop-holds
-    mul-bytes
-    shared-slice-read-bytes
+    mul-word
+    shared-slice-read-word
     cast-bytes
-    mul-bytes-2
+    mul-bytes
     slice-write-bytes
-    mul-bytes-3
-    shared-slice-read-bytes-2
     cast-bytes-2
-    mul-bytes-4
+    mul-bytes-2
     add-bytes
     slice-write-bytes-2
     add-i

@@ -1,9 +1,8 @@
 -- `console::bytes::reach` meets its contract.
 -- Assumes nothing.
 use mathlib.Core.Path.{refl}
-use mathlib.Core.Logic.{inl, inr}
 use native.Mathlib.Omega.{arith}
-use Rattle.console.proofs.Rooms.{reach-few, reach-bytes, reach-shorter}
+use Rattle.console.proofs.Rooms.{reach-few, reach-bytes, reach-shorter, reach-all}
 use borrow.Author.Needs.{needs}
 use Rattle.console.proofs.bytes.reach.Statement.{statement}
 use Rattle.console.proofs.bytes.reach.Tie as tie
@@ -18,16 +17,16 @@ rem-if1 : tie.Need-rem-if1
 rem-if1 c = search needs
 
 returns : tie.Need-returns
-returns c = inr refl
+returns c = reach-all _ _ _ _
 
 mul-if2 : tie.Need-mul-if2
 mul-if2 c = search needs
 
 returns-2 : tie.Need-returns-2
-returns-2 c = inr refl
+returns-2 c = reach-all _ _ _ _
 
 returns-3 : tie.Need-returns-3
-returns-3 c = inr refl
+returns-3 c = reach-all _ _ _ _
 
 add-slots : tie.Need-add-slots
 add-slots c = search needs
@@ -54,13 +53,13 @@ mul-if4 : tie.Need-mul-if4
 mul-if4 c = let pre = c .before .before .before .pre in let few = reach-bytes _ _ _ (pre .0) (pre .1) (c .if3 .left) in omega (arith, few)
 
 returns-4 : tie.Need-returns-4
-returns-4 c = inr refl
+returns-4 c = reach-all _ _ _ _
 
 mul-result : tie.Need-mul-result
 mul-result c = let pre = c .before .before .before .before .pre in let few = reach-bytes _ _ _ (pre .0) (pre .1) (c .before .if3 .left) in omega (arith, few)
 
 returns-5 : tie.Need-returns-5
-returns-5 c = inl (reach-shorter _ _ _ _ _ (c .before .before .before .if1 .left) (c .before .before .if2 .left) refl (c .if4 .left))
+returns-5 c = reach-shorter _ _ _ _ _ (c .before .before .before .if1 .left) (c .before .before .if2 .left) refl (c .if4 .left)
 
 pub reach-spec : {M : Type 1} → statement M
 reach-spec =

@@ -53,7 +53,12 @@ same-length c = search needs
 returns : tie.Need-returns Inv-loop μ-loop
 returns c =
     let inv = c .before .before .before .before .loop .inv in
-    words-end _ _ _ _ (word-more _ _ _ _ _ (inv .1 .1) (c .before .word .ensures) (inv .0) (omega arith)) (omega arith) (c .if1 .taken)
+    let more = word-more _ _ _ _ _ (inv .1 .1) (c .before .word .ensures) (inv .0) (omega arith) in
+    record {
+      long = simp length-set (inv .1 .0);
+      room = simp length-set (omega arith);
+      said = words-end _ _ _ _ more (omega arith) (c .if1 .taken);
+    }
 
 loop-less : tie.Need-loop-less Inv-loop μ-loop
 loop-less c = search needs

@@ -11,7 +11,7 @@ room-for-requires : tie.Need-room-for-requires
 room-for-requires c κs = search needs
 
 choose-words-requires : tie.Need-choose-words-requires
-choose-words-requires c κs = (room-true _ _ _ _ (c .before .before .room-for .ensures) (c .before .if1 .taken), (search needs, c .before .before .before .before .before .before .pre))
+choose-words-requires c κs = (room-true _ _ _ _ (c .before .before .room-for .ensures) (c .before .if1 .taken), c .before .before .before .before .before .before .pre)
 
 same-length : tie.Need-same-length
 same-length c = search needs

@@ -1,75 +1,74 @@
 -- `console::calls::open_words` meets its contract.
 -- Assumes nothing.
 use mathlib.Core.Path.{refl}
-use Rattle.console.proofs.Lending.{count-is, left-fits, left-count, left-bytes, opens-words}
-use Rattle.console.proofs.Rooms.{half-fits}
+use Rattle.console.proofs.Lending.{count-is, left-long, left-asks, opens-words}
 use Rattle.console.proofs.calls.open_words.Statement.{statement}
 use Rattle.console.proofs.calls.open_words.Tie as tie
+
+domain-words-requires : tie.Need-domain-words-requires
+domain-words-requires c κs = c .before .before .before .pre .of-domains
 
 slice-aggregate-words-of : tie.Need-slice-aggregate-words-of
 slice-aggregate-words-of c = refl
 
 words-of-requires : tie.Need-words-of-requires
-words-of-requires c κs = let fit = c .before .before .before .before .pre .of-domains in (fit .even, (fit .some, fit .few))
+words-of-requires c κs = c .before .before .before .before .before .before .pre .of-agenda
 
 slice-aggregate-words-of-2 : tie.Need-slice-aggregate-words-of-2
 slice-aggregate-words-of-2 c = refl
 
 words-of-requires-2 : tie.Need-words-of-requires-2
-words-of-requires-2 c κs = let fit = c .before .before .before .before .before .before .before .before .pre .of-agenda in (fit .even, (fit .some, fit .few))
-
-slice-aggregate-words-of-3 : tie.Need-slice-aggregate-words-of-3
-slice-aggregate-words-of-3 c = refl
-
-words-of-requires-3 : tie.Need-words-of-requires-3
-words-of-requires-3 c κs = let fit = c .before .before .before .before .before .before .before .before .before .before .before .pre .of-tables in (fit .even, (fit .some, fit .few))
+words-of-requires-2 c κs = c .before .before .before .before .before .before .before .before .before .pre .of-tables
 
 array-share-prefix-domain-words : tie.Need-array-share-prefix-domain-words
-array-share-prefix-domain-words c = half-fits _ _ _ (c .before .before .before .before .before .before .before .before .before .before .before .before .before .pre .of-domains .few) (c .before .before .before .before .before .before .before .before .words-of .kept .1 .0)
+array-share-prefix-domain-words c = c .before .before .before .before .before .before .before .domain-words .ensures .room
 
 slice-aggregate-open : tie.Need-slice-aggregate-open
-slice-aggregate-open c = count-is _ _ (c .before .before .before .before .before .before .before .before .before .words-of .ensures)
+slice-aggregate-open c = count-is (c .before .before .before .before .before .before .before .before .domain-words .ensures)
 
 array-share-prefix-table-words : tie.Need-array-share-prefix-table-words
-array-share-prefix-table-words c = half-fits _ _ _ (c .before .before .before .before .before .before .before .before .before .before .before .before .before .before .pre .of-tables .few) (c .before .before .words-of3 .kept .1 .0)
+array-share-prefix-table-words c = c .before .before .words-of2 .ensures .room
 
 slice-aggregate-open-2 : tie.Need-slice-aggregate-open-2
-slice-aggregate-open-2 c = count-is _ _ (c .before .before .before .words-of3 .ensures)
+slice-aggregate-open-2 c = count-is (c .before .before .before .words-of2 .ensures)
 
 array-borrow-prefix-agenda-words : tie.Need-array-borrow-prefix-agenda-words
-array-borrow-prefix-agenda-words c = half-fits _ _ _ (c .before .before .before .before .before .before .before .before .before .before .before .before .before .before .before .pre .of-agenda .few) (c .before .before .before .before .before .before .words-of2 .kept .1 .0)
+array-borrow-prefix-agenda-words c = c .before .before .before .before .before .before .words-of .ensures .room
 
 slice-aggregate-open-3 : tie.Need-slice-aggregate-open-3
-slice-aggregate-open-3 c = count-is _ _ (c .before .before .before .before .before .before .before .words-of2 .ensures)
+slice-aggregate-open-3 c = count-is (c .before .before .before .before .before .before .before .words-of .ensures)
 
 open-requires : tie.Need-open-requires
 open-requires c κs = tt
 
-array-share-prefix-agenda-words : tie.Need-array-share-prefix-agenda-words
-array-share-prefix-agenda-words c = left-fits _ _ (c .before .«open» .last .1 .1 .1 .1 .0) (c .before .before .before .before .before .before .before .before .before .words-of2 .ensures) (c .before .«open» .kept .1 .1 .1 .1 .0)
-
 slice-aggregate-bytes-of : tie.Need-slice-aggregate-bytes-of
-slice-aggregate-bytes-of c = left-count _ _ (c .before .before .«open» .last .1 .1 .1 .1 .0) (c .before .before .before .before .before .before .before .before .before .before .words-of2 .ensures) (c .before .before .«open» .kept .1 .1 .1 .1 .0)
+slice-aggregate-bytes-of c =
+    let called = c .before .before in
+    left-long (called .«open» .last .1 .1 .1 .1 .0) (called .before .before .before .before .before .before .before .before .words-of .ensures) (called .«open» .kept .1 .1 .1 .1 .0)
 
 bytes-of-requires : tie.Need-bytes-of-requires
-bytes-of-requires c κs = left-bytes _ _ (c .before .before .before .«open» .last .1 .1 .1 .1 .0) (c .before .before .before .before .before .before .before .before .before .before .before .words-of2 .ensures) (c .before .before .before .«open» .kept .1 .1 .1 .1 .0) (c .before .before .before .before .before .before .before .before .before .before .before .before .before .before .before .before .before .before .before .before .pre .of-agenda .even)
+bytes-of-requires c κs =
+    let called = c .before .before .before in
+    left-asks (called .«open» .last .1 .1 .1 .1 .0) (called .before .before .before .before .before .before .before .before .words-of .ensures) (called .«open» .kept .1 .1 .1 .1 .0) (called .before .before .before .before .before .before .before .before .before .before .before .before .before .before .before .pre .of-agenda .even)
 
 same-length : tie.Need-same-length
 same-length c = c .before .before .bytes-of .kept .1 .0
 
 returns : tie.Need-returns
-returns c = opens-words _ _ _ _ _ _ _ _ (c .before .before .before .before .before .before .«open» .last .1 .1 .1 .1 .0) _ (c .before .before .before .before .before .before .before .before .before .before .before .before .before .before .before .before .before .before .words-of .ensures) (c .before .before .before .before .before .before .before .before .before .before .before .words-of3 .ensures) (c .before .before .before .before .before .before .before .before .before .before .before .before .before .before .words-of2 .ensures) (c .before .before .before .before .before .before .«open» .kept .1 .1 .1 .1 .0) (c .before .before .bytes-of .ensures) _ (c .before .before .before .before .before .before .«open» .ensures)
+returns c =
+    let called = c .before .before .before .before .before .before in
+    opens-words (called .«open» .last .1 .1 .1 .1 .0) (called .before .before .before .before .before .before .before .before .before .before .before .domain-words .ensures) (called .before .before .before .before .before .words-of2 .ensures) (called .before .before .before .before .before .before .before .before .words-of .ensures)
+    (called .«open» .kept .1 .1 .1 .1 .0) (c .before .before .bytes-of .ensures) (called .«open» .ensures)
 
 pub open-words-spec : {M : Type 1} → statement M
 open-words-spec =
     tie.close
     (tie.spec
+    domain-words-requires
     slice-aggregate-words-of
     words-of-requires
     slice-aggregate-words-of-2
     words-of-requires-2
-    slice-aggregate-words-of-3
-    words-of-requires-3
     array-share-prefix-domain-words
     slice-aggregate-open
     array-share-prefix-table-words
@@ -77,7 +76,6 @@ open-words-spec =
     array-borrow-prefix-agenda-words
     slice-aggregate-open-3
     open-requires
-    array-share-prefix-agenda-words
     slice-aggregate-bytes-of
     bytes-of-requires
     same-length

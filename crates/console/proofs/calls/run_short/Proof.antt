@@ -1,11 +1,12 @@
 -- `console::calls::run_short` meets its contract.
 -- Assumes nothing.
-use mathlib.Core.Path.{refl}
-use Prim.Native.Nat.{ℕ, _<_}
+use mathlib.Core.Path.{refl, sym}
+use Prim.Native.Nat.{ℕ, _^_, _<_}
 use native.Mathlib.Omega.{arith}
 use lib.ListN.{getD}
-use Rattle.console.proofs.Lending.{count-is, left-fits, left-count, left-bytes, runs-at}
-use Rattle.console.proofs.Rooms.{half-fits}
+use lib.Seq.{length-take-le}
+use Rattle.console.proofs.Lending.{count-is, left-fits, left-count, left-bytes, few-runs, runs-at}
+use borrow.Author.Needs.{needs}
 use Rattle.console.proofs.calls.run_short.Statement.{statement}
 use Rattle.console.proofs.calls.run_short.Tie as tie
 
@@ -13,40 +14,59 @@ slice-aggregate-words-of : tie.Need-slice-aggregate-words-of
 slice-aggregate-words-of c = refl
 
 words-of-requires : tie.Need-words-of-requires
-words-of-requires c κs = let fit = c .before .before .before .before .before .before .pre .0 in (fit .even, (fit .some, fit .few))
+words-of-requires c κs = c .before .before .before .before .before .before .pre .0 .of-agenda
+
+slice-aggregate-any-words-of : tie.Need-slice-aggregate-any-words-of
+slice-aggregate-any-words-of c = refl
+
+any-words-of-requires : tie.Need-any-words-of-requires
+any-words-of-requires c κs = search needs
 
 array-borrow-prefix-words : tie.Need-array-borrow-prefix-words
-array-borrow-prefix-words c = half-fits _ _ _ (c .before .before .before .before .before .before .before .before .pre .0 .few) (c .before .words-of .kept .1 .0)
+array-borrow-prefix-words c = c .before .before .before .before .words-of .ensures .room
 
-slice-aggregate-run-parts : tie.Need-slice-aggregate-run-parts
-slice-aggregate-run-parts c = count-is _ _ (c .before .before .words-of .ensures)
+slice-aggregate-run : tie.Need-slice-aggregate-run
+slice-aggregate-run c = count-is (c .before .before .before .before .before .words-of .ensures)
 
-run-parts-requires : tie.Need-run-parts-requires
-run-parts-requires c κs = let pre = c .before .before .before .before .before .before .before .before .before .pre .1 in (pre .0, pre .1 .1)
+array-share-prefix-listed : tie.Need-array-share-prefix-listed
+array-share-prefix-listed c = search needs
+
+slice-aggregate-run-2 : tie.Need-slice-aggregate-run-2
+slice-aggregate-run-2 c = sym (length-take-le _ _ (omega (arith, c .before .before .before .any-words-of .kept .1 .0, c .before .before .before .before .before .before .before .before .before .before .before .before .before .pre .0 .of-requests)))
+
+run-requires : tie.Need-run-requires
+run-requires c κs = tt
 
 array-share-prefix-words : tie.Need-array-share-prefix-words
-array-share-prefix-words c = left-fits _ _ (c .before .run-parts .last .1 .1 .1 .1 .0) (c .before .before .before .before .words-of .ensures) (c .before .run-parts .kept .1 .1 .1 .1 .0)
+array-share-prefix-words c = let ran = c .before .run in left-fits (ran .last .1 .1 .1 .1 .0) (c .before .before .before .before .before .before .before .before .words-of .ensures) (ran .kept .1 .1 .1 .1 .0)
 
 slice-aggregate-write-back : tie.Need-slice-aggregate-write-back
-slice-aggregate-write-back c = left-count _ _ (c .before .before .run-parts .last .1 .1 .1 .1 .0) (c .before .before .before .before .before .words-of .ensures) (c .before .before .run-parts .kept .1 .1 .1 .1 .0)
+slice-aggregate-write-back c = let ran = c .before .before .run in left-count (ran .last .1 .1 .1 .1 .0) (c .before .before .before .before .before .before .before .before .before .words-of .ensures) (ran .kept .1 .1 .1 .1 .0)
 
 write-back-requires : tie.Need-write-back-requires
 write-back-requires c κs =
-    let pre = c .before .before .before .before .before .before .before .before .before .before .before .before .before .pre in
-    let ran = c .before .before .before .run-parts in
-    (pre .1 .0 .few, (pre .1 .1 .1, (ran .ensures .1 .subproblems, left-bytes _ _ (ran .last .1 .1 .1 .1 .0) (c .before .before .before .before .before .before .words-of .ensures) (ran .kept .1 .1 .1 .1 .0) (pre .0 .even))))
+    let called = c .before .before .before in
+    let turned = called .before .before .before .before .before .before .before in
+    let start = turned .before .before .before .before .before .before .before in
+    let runs = few-runs _ _ _ _ (called .run .last .1 .1 .1 .1 .0) _ _ _ _ (turned .words-of .ensures) (called .before .before .before .before .any-words-of .ensures) (λ i. omega (arith, turned .before .before .before .before .slice-known .given i))
+    (omega (arith, start .good .1 .1 .1 .1 .1 .1 .0)) (start .pre .1 .1) (start .pre .1 .0) (called .run .ensures) in
+    (start .pre .1 .0 .few, (start .pre .1 .1, (runs .1 .subproblems, left-bytes (called .run .last .1 .1 .1 .1 .0) (turned .words-of .ensures) (called .run .kept .1 .1 .1 .1 .0) (start .pre .0 .of-agenda .even))))
 
 same-length : tie.Need-same-length
-same-length c = c .before .before .write-back .kept .1 .1 .1 .1 .1 .0
+same-length c = search needs
 
 returns : tie.Need-returns
 returns c =
-    let pre = c .before .before .before .before .before .before .before .before .before .before .before .before .before .before .before .before .pre in
-    let ran = c .before .before .before .before .before .before .run-parts in
-    let small : (i : ℕ) → getD (c .before .before .before .before .before .before .before .before .before .before .before .before .before .before .before .before .args .agenda .now) i 0 < 256 = λ i. omega (arith, c .before .before .before .before .before .before .before .before .before .before .before .before .before .slice-known .given i) in (
-      runs-at _ _ _ _ _ _ (ran .last .1 .1 .1 .1 .0) _ _ _ _ (c .before .before .before .before .before .before .before .before .before .words-of .ensures) (ran .kept .1 .1 .1 .1 .0) (pre .0 .even) small (omega (arith, pre .1 .1 .0)) (pre .1 .0)
-          (ran .ensures .0) (c .before .before .write-back .ensures),
-      ran .ensures .1,
+    let called = c .before .before .before .before .before .before in
+    let turned = called .before .before .before .before .before .before .before in
+    let start = turned .before .before .before .before .before .before .before in
+    let small : (i : ℕ) → getD (start .args .agenda .now) i 0 < 256 = λ i. omega (arith, turned .before .before .before .before .slice-known .given i) in
+    let stepped : start .args .state .counts .steps .0 < 2 ^ 32 = omega (arith, start .good .1 .1 .1 .1 .1 .1 .0) in
+    let runs = few-runs _ _ _ _ (called .run .last .1 .1 .1 .1 .0) _ _ _ _ (turned .words-of .ensures) (called .before .before .before .before .any-words-of .ensures) small stepped (start .pre .1 .1) (start .pre .1 .0)
+    (called .run .ensures) in (
+      runs-at (called .run .last .1 .1 .1 .1 .0) (turned .words-of .ensures) (start .pre .0 .of-agenda .even) (called .run .kept .1 .1 .1 .1 .0) small stepped (start .pre .1 .0) (runs .0)
+          (c .before .before .write-back .ensures),
+      runs .1,
     )
 
 pub run-short-spec : {M : Type 1} → statement M
@@ -55,9 +75,13 @@ run-short-spec =
     (tie.spec
     slice-aggregate-words-of
     words-of-requires
+    slice-aggregate-any-words-of
+    any-words-of-requires
     array-borrow-prefix-words
-    slice-aggregate-run-parts
-    run-parts-requires
+    slice-aggregate-run
+    array-share-prefix-listed
+    slice-aggregate-run-2
+    run-requires
     array-share-prefix-words
     slice-aggregate-write-back
     write-back-requires

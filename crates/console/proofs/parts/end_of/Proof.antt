@@ -1,7 +1,6 @@
 -- `console::parts::end_of` meets its contract.
 -- Assumes nothing.
-use borrow.Author.Tests.{le-leb, lt-leb}
-use Rattle.console.specs.Work.Parts.{partEnd}
+use Rattle.console.proofs.SoFar.{part-last, part-full}
 use borrow.Author.Needs.{needs}
 use Rattle.console.proofs.parts.end_of.Statement.{statement}
 use Rattle.console.proofs.parts.end_of.Tie as tie
@@ -16,15 +15,13 @@ sub-if1 : tie.Need-sub-if1
 sub-if1 c = search needs
 
 returns : tie.Need-returns
-unfolding partEnd
-returns c = simp (le-leb _ _ (c .if1 .taken))
+returns c = let pre = c .before .pre in part-last _ _ _ (pre .0) (pre .1 .0) (pre .1 .1) (c .if1 .taken)
 
 add-result : tie.Need-add-result
 add-result c = search needs
 
 returns-2 : tie.Need-returns-2
-unfolding partEnd
-returns-2 c = simp (lt-leb _ _ (c .if1 .left))
+returns-2 c = let pre = c .before .pre in part-full _ _ _ (pre .0) (pre .1 .0) (pre .1 .1) (c .if1 .left)
 
 pub end-of-spec : {M : Type 1} → statement M
 end-of-spec = tie.close (tie.spec add-part mul-part sub-if1 returns add-result returns-2)

@@ -4,7 +4,7 @@ use mathlib.Core.Path.{refl}
 use Prim.Native.Nat.{_-_}
 use native.Mathlib.Omega.{arith}
 use lib.ListN.{length}
-use Rattle.console.proofs.SoFar.{Going, next-part, part-asks, so-far-none, part-taken, go-again, stepped-again, returns-end, returns-stop}
+use Rattle.console.proofs.SoFar.{Going, part-asks, so-far-none, part-taken, go-again, stepped-again, returns-end, returns-stop}
 use borrow.Author.Needs.{needs}
 use Rattle.console.proofs.parts.run_parts.Statement.{statement}
 use Rattle.console.proofs.parts.run_parts.Tie as tie
@@ -26,55 +26,33 @@ loop-holds c =
     }
 
 end-of-requires : tie.Need-end-of-requires Inv-loop μ-loop
-end-of-requires c κs = (c .before .before .before .before .before .pre .0 .few, c .loop .inv .far .inside)
+end-of-requires c κs = (c .before .before .before .before .before .pre .0, (c .loop .inv .far .inside, c .loop .inv .far .place))
 
 sub-run-part : tie.Need-sub-run-part Inv-loop μ-loop
-sub-run-part c =
-    let inv = c .before .before .loop .inv in
-    let listed = c .before .before .before .before .before .before .before .pre .0 in
-    let part = next-part _ _ _ _ _ _ _ _ _ _ _ _ listed inv (c .before .end-of .ensures) in
-    part .after
+sub-run-part c = c .before .end-of .ensures .after
 
 part-run-part-start : tie.Need-part-run-part-start Inv-loop μ-loop
-part-run-part-start c =
-    let inv = c .before .before .loop .inv in
-    let listed = c .before .before .before .before .before .before .before .pre .0 in
-    let part = next-part _ _ _ _ _ _ _ _ _ _ _ _ listed inv (c .before .end-of .ensures) in
-    part .after
+part-run-part-start c = c .before .end-of .ensures .after
 
 part-run-part-end : tie.Need-part-run-part-end Inv-loop μ-loop
-part-run-part-end c =
-    let inv = c .before .before .loop .inv in
-    let listed = c .before .before .before .before .before .before .before .pre .0 in
-    let part = next-part _ _ _ _ _ _ _ _ _ _ _ _ listed inv (c .before .end-of .ensures) in
-    part .within
+part-run-part-end c = c .before .end-of .ensures .within
 
 run-part-requires : tie.Need-run-part-requires Inv-loop μ-loop
-run-part-requires c κs =
-    let inv = c .before .before .before .loop .inv in
-    let listed = c .before .before .before .before .before .before .before .before .pre .0 in
-    let part = next-part _ _ _ _ _ _ _ _ _ _ _ _ listed inv (c .before .before .end-of .ensures) in
-    part-asks _ _ _ _ part
+run-part-requires c κs = part-asks _ (c .before .before .end-of .ensures)
 
-joined-requires : tie.Need-joined-requires Inv-loop μ-loop
-joined-requires c κs =
-    let inv = c .before .before .before .before .before .before .loop .inv in
-    let listed = c .before .before .before .before .before .before .before .before .before .before .before .pre .0 in
-    let part = next-part _ _ _ _ _ _ _ _ _ _ _ _ listed inv (c .before .before .before .before .before .end-of .ensures) in
-    let ran = c .before .before .run-part .ensures in
-    omega (arith, part-taken _ _ _ _ _ _ _ _ _ _ _ _ (inv .far) part _ _ (inv .small) (inv .stepped) ran, part .within, part .after, inv .far .few)
+add-ran : tie.Need-add-ran Inv-loop μ-loop
+add-ran c =
+    let part = c .before .before .before .before .before .before .end-of .ensures in
+    let inv = c .before .before .before .before .before .before .before .loop .inv in
+    record { fits = omega (arith, part-taken inv part (c .before .before .before .run-part .ensures), part .within, part .after, inv .far .few) }
 
 same-length : tie.Need-same-length Inv-loop μ-loop
 same-length c = search needs
 
 returns : tie.Need-returns Inv-loop μ-loop
 returns c =
-    let inv = c .before .before .before .before .before .before .before .before .loop .inv in
-    let listed = c .before .before .before .before .before .before .before .before .before .before .before .before .before .pre .0 in
-    let part = next-part _ _ _ _ _ _ _ _ _ _ _ _ listed inv (c .before .before .before .before .before .before .before .end-of .ensures) in
-    let ran = c .before .before .before .before .run-part .ensures in
-    returns-end _ _ _ _ _ _ _ _ _ _ _ _ (inv .far) part _ _ (inv .small) (inv .stepped) ran _ (c .before .joined .ensures) listed (λ i. omega (arith, c .before .before .before .before .before .before .before .before .before .before .slice-known .given i)) (inv .begun) (c .before .before .before .before .before .before .before .before .before .before .before .before .before .pre .1)
-    (c .if1 .taken)
+    let start = c .before .before .before .before .before .before .before .before .before .before .before .before .before in
+    returns-end (c .before .before .before .before .before .before .before .before .loop .inv) (c .before .before .before .before .before .before .before .end-of .ensures) (c .before .before .before .before .run-part .ensures) (start .pre .0) (λ i. omega (arith, c .before .before .before .before .before .before .before .before .before .before .slice-known .given i)) (start .pre .1) (c .if1 .taken)
 
 goes-on-requires : tie.Need-goes-on-requires Inv-loop μ-loop
 goes-on-requires c κs = search needs
@@ -84,32 +62,23 @@ same-length-2 c = search needs
 
 returns-2 : tie.Need-returns-2 Inv-loop μ-loop
 returns-2 c =
-    let inv = c .before .before .before .before .before .before .before .before .before .before .loop .inv in
-    let listed = c .before .before .before .before .before .before .before .before .before .before .before .before .before .before .before .pre .0 in
-    let part = next-part _ _ _ _ _ _ _ _ _ _ _ _ listed inv (c .before .before .before .before .before .before .before .before .before .end-of .ensures) in
-    let ran = c .before .before .before .before .before .before .run-part .ensures in
-    returns-stop _ _ _ _ _ _ _ _ _ _ _ _ (inv .far) part _ _ (inv .small) (inv .stepped) ran _ (c .before .before .before .joined .ensures) listed (λ i. omega (arith, c .before .before .before .before .before .before .before .before .before .before .before .before .slice-known .given i)) (inv .begun) (c .before .before .before .before .before .before .before .before .before .before .before .before .before .before .before .pre .1) _
-    (c .before .goes-on .ensures) (c .if2 .taken)
+    let start = c .before .before .before .before .before .before .before .before .before .before .before .before .before .before .before in
+    returns-stop (c .before .before .before .before .before .before .before .before .before .before .loop .inv) (c .before .before .before .before .before .before .before .before .before .end-of .ensures) (c .before .before .before .before .before .before .run-part .ensures) (start .pre .0) (λ i. omega (arith, c .before .before .before .before .before .before .before .before .before .before .before .before .slice-known .given i)) (start .pre .1)
+    _ (c .before .goes-on .ensures) (c .if2 .taken)
 
 loop-less : tie.Need-loop-less Inv-loop μ-loop
-loop-less c =
-    let inv = c .before .before .before .before .before .before .before .before .before .before .before .loop .inv in
-    let listed = c .before .before .before .before .before .before .before .before .before .before .before .before .before .before .before .before .pre .0 in
-    let part = next-part _ _ _ _ _ _ _ _ _ _ _ _ listed inv (c .before .before .before .before .before .before .before .before .before .before .end-of .ensures) in
-    omega (arith, part .more (c .before .before .before .if1 .left), part .within)
+loop-less c = let part = c .before .before .before .before .before .before .before .before .before .before .end-of .ensures in omega (arith, part .more (c .before .before .before .if1 .left), part .within)
 
 loop-again : tie.Need-loop-again Inv-loop μ-loop
 loop-again c =
     let inv = c .before .before .before .before .before .before .before .before .before .before .before .loop .inv in
-    let listed = c .before .before .before .before .before .before .before .before .before .before .before .before .before .before .before .before .pre .0 in
-    let part = next-part _ _ _ _ _ _ _ _ _ _ _ _ listed inv (c .before .before .before .before .before .before .before .before .before .before .end-of .ensures) in
+    let part = c .before .before .before .before .before .before .before .before .before .before .end-of .ensures in
     let ran = c .before .before .before .before .before .before .before .run-part .ensures in
-    let made = c .before .before .before .before .joined .ensures in
     record {
-      far = go-again _ _ _ _ _ _ _ _ _ _ _ _ (inv .far) part _ _ (inv .small) (inv .stepped) ran _ made _ (c .before .before .goes-on .ensures) (c .before .if2 .left);
+      far = go-again inv part ran _ (c .before .before .goes-on .ensures) (c .before .if2 .left);
       long = search needs;
       small = λ i. omega (arith, c .before .before .before .before .before .slice-known2 .given i);
-      stepped = stepped-again _ _ _ _ _ _ _ _ _ _ _ _ (inv .far) part _ _ (inv .small) (inv .stepped) ran _ made;
+      stepped = stepped-again inv part ran;
       begun = inv .begun;
     }
 
@@ -125,7 +94,7 @@ run-parts-spec =
     part-run-part-start
     part-run-part-end
     run-part-requires
-    joined-requires
+    add-ran
     same-length
     returns
     goes-on-requires

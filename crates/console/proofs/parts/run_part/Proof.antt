@@ -1,12 +1,12 @@
--- `console::parts::run_many` meets its contract.
+-- `console::parts::run_part` meets its contract.
 -- Assumes nothing.
 use native.Mathlib.Omega.{arith}
 use mathlib.Core.Path.{sym}
 use lib.Seq.{length-take-le}
 use Rattle.console.proofs.Runs.{runs-list}
 use borrow.Author.Needs.{needs}
-use Rattle.console.proofs.parts.run_many.Statement.{statement}
-use Rattle.console.proofs.parts.run_many.Tie as tie
+use Rattle.console.proofs.parts.run_part.Statement.{statement}
+use Rattle.console.proofs.parts.run_part.Tie as tie
 
 slice-aggregate-any-words-of : tie.Need-slice-aggregate-any-words-of
 slice-aggregate-any-words-of c = search needs
@@ -29,8 +29,8 @@ same-length c = search needs
 returns : tie.Need-returns
 returns c = runs-list _ _ _ _ _ _ _ _ _ _ (c .before .before .before .before .before .before .any-words-of .ensures) (c .before .before .run .ensures)
 
-pub run-many-spec : {M : Type 1} → statement M
-run-many-spec =
+pub run-part-spec : {M : Type 1} → statement M
+run-part-spec =
     tie.close
     (tie.spec
     slice-aggregate-any-words-of
