@@ -31,6 +31,7 @@ use Rattle.search.proofs.Encoding.{length-stackOf, stack-of-words}
 use Rattle.search.proofs.FirstPassing.{requests-none, search-is-passed, run-is-passed}
 use Rattle.search.proofs.Picking.{picked}
 use Rattle.search.proofs.HandedOn.{known, run-leaves-so, chooser-leaves-so}
+use Rattle.search.proofs.Promises.{steps-count}
 use Rattle.files.proofs.Stacks.{slots-in}
 use Rattle.files.proofs.Requests.{whole-append, requests-append}
 use Rattle.files.proofs.LoadOutcomes.{given, not-given}
@@ -100,13 +101,6 @@ module _ (p : Problem) (room : ℕ) where
       let (U, f) = split-under r (x .taken) (s .stack) in
       (same .0 ++ U, same .1 ∙ ap (λ (l : List Subproblem). same .0 ++ l) f ∙ sym (append-assoc (same .0) U (drop (1 + x .taken) (s .stack)))))
 
-  -- Each request taken is one step.
-  pub run-steps : (rs : List (List ℕ)) (s : Search) → run p room rs s .search .steps ≡ s .steps + run p room rs s .taken
-  unfolding step
-  run-steps =
-      run-ind p room (λ rs s x. x .search .steps ≡ s .steps + x .taken)
-      (λ s. omega arith) (λ r rs s e. omega arith) (λ r rs s e h. omega arith) (λ r rs s x e h same. omega (arith, same))
-
   -- Still running with none refused, it took all.
   pub run-whole : (rs : List (List ℕ)) (s : Search) → run p room rs s .refusal ≡ 0 → verdictOf (p .n) (run p room rs s .search .stack) ≡ Running
       → run p room rs s .taken ≡ length rs
@@ -175,7 +169,7 @@ module _ (n d : ℕ) (domains tables before : List ℕ) (s : State) (small : (i 
   run-narrow left requests r whole few runs =
       ends-narrow _ n d domains tables before left s _ r runs few
       (λ e. run-leaves-so n d domains tables before left requests s r (run-handed requests e) runs .0 whole)
-      (run-steps (problemOf n d domains tables) (slotsIn n (length before)) (requestsIn n requests) (searchOf n before s))
+      (steps-count (problemOf n d domains tables) (slotsIn n (length before)) (requestsIn n requests) (searchOf n before s))
 
   -- The steps that a run leaves fit their counter.
   pub run-stepped : (left requests : List ℕ) (r : Ran) → WholeRequests n (length requests) → Runs n d domains tables before left requests s r
@@ -241,7 +235,7 @@ module _ (n d : ℕ) (domains tables before : List ℕ) (s : State) (small : (i 
       let as-run = picked (problemOf n d domains tables) (slotsIn n (length before)) limit (searchOf n before s) 0 in
       ends-narrow _ n d domains tables before left s _ r chooses few
       (λ e. chooser-leaves-so n d domains tables before left limit s r (record { words = small; stepped = stepped; passes = e }) chooses)
-      (rw as-run (run-steps (problemOf n d domains tables) (slotsIn n (length before)) (picks (problemOf n d domains tables) (slotsIn n (length before)) limit (searchOf n before s)) (searchOf n before s)))
+      (rw as-run (steps-count (problemOf n d domains tables) (slotsIn n (length before)) (picks (problemOf n d domains tables) (slotsIn n (length before)) limit (searchOf n before s)) (searchOf n before s)))
 
   module _ (mid a b : List ℕ) (r : Ran) (wa : WholeRequests n (length a)) (wb : WholeRequests n (length b)) (runs : Runs n d domains tables before mid a s r) where
     first : List ℕ → ℕ
