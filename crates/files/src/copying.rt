@@ -1,6 +1,5 @@
 // Copies of words, and zeros.
 ghost use mathlib.Core.Path.{_≡_};
-ghost use mathlib.Core.List.{_++_};
 ghost use Prim.Native.Nat.{_+_, _-_, _≤_};
 ghost use lib.ListN.{length, replicate};
 ghost use Rattle.search.specs.Work.Slots.{splice};
@@ -61,23 +60,14 @@ pub(crate) fn put_at(words: &[u16], out: &mut [u16], at: usize) -> usize
     end
 }
 
-// Zeros.
-pub(crate) fn put_zeros(words: &mut [u16])
-    ensures { λ r. ⌜ now (words .exit) ≡ replicate (length (now (words .entry))) 0 ⌝ }
+// Zeros from `at` on.
+pub(crate) fn put_zeros(words: &mut [u16], at: usize)
+    requires { ⌜ at ≤ length (now words) ⌝ }
+    ensures { λ r. ⌜ now (words .exit) ≡ splice (now (words .entry)) at (replicate (length (now (words .entry)) - at) 0) ⌝ }
 {
-    let mut i = 0;
+    let mut i = at;
     while i < words.len() {
         words[i] = 0;
         i += 1;
     }
-}
-
-// A copy, and zeros after it.
-pub(crate) fn put_padded(words: &[u16], out: &mut [u16])
-    requires { ⌜ length (now words) ≤ length (now out) ⌝ }
-    ensures { λ r. ⌜ now (out .exit) ≡ now (words .entry) ++ replicate (length (now (out .entry)) - length (now (words .entry))) 0 ⌝ }
-{
-    let used = words.len();
-    put_words(words, &mut out[..used]);
-    put_zeros(&mut out[used..]);
 }

@@ -105,5 +105,7 @@ pub(crate) fn put_search(
 {
     copying::put_words(copying::part(words, 9, domains.len()), domains);
     copying::put_words(masks, tables);
-    copying::put_padded(content::slots(file, words, said::subproblems(file)), agenda);
+    let slots = content::slots(file, words, said::subproblems(file));
+    let end = copying::put_at(slots, agenda, 0);
+    copying::put_zeros(agenda, end);
 }
