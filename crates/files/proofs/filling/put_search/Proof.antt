@@ -1,11 +1,10 @@
 -- `filling::put_search` meets its contract.
 -- Assumes nothing.
 use borrow.Author.Needs.{needs}
-use mathlib.Core.Path.{ap, _∙_}
+use mathlib.Core.Path.{_∙_}
 use native.Mathlib.Omega.{arith}
-use Rattle.files.specs.Work.Said.{partIn}
 use Rattle.files.proofs.Filled.{padded-put}
-use Rattle.files.proofs.Mirrors.{slots-room, slots-put}
+use Rattle.files.proofs.Mirrors.{domains-put, slots-room, slots-put}
 use Rattle.files.proofs.filling.put_search.Statement.{statement}
 use Rattle.files.proofs.filling.put_search.Tie as tie
 
@@ -54,13 +53,10 @@ returns c =
     let first = second .before .before .before .before in
     let pre = first .before .before .before .before .before .before .before .before .before .pre in
     let room = slots-room _ _ _ _ _ _ _ (slots .before .subproblems .ensures) (slots .slots .ensures) (pre .agenda-words) in
-    let padded = padded-put _ _ _ _ _ room (put .put-at .ensures) (put .put-at .kept .1 .0) (c .before .before .put-zeros .ensures) in (
-      first .put-words .ensures ∙ first .before .before .part .ensures .0 ∙ ap (partIn _ 9) (pre .domains-words),
-      (
-        second .put-words2 .ensures,
-        slots-put _ _ _ _ _ _ _ (slots .before .subproblems .ensures) (slots .slots .ensures) _ padded,
-      ),
-    )
+    let padded = padded-put _ _ _ _ _ room (put .put-at .ensures) (put .put-at .kept .1 .0) (c .before .before .put-zeros .ensures) in
+    let domains = domains-put _ _ _ _ _ (first .before .before .part .ensures .0) (first .put-words .ensures) (pre .domains-words) in
+    let agenda = slots-put _ _ _ _ _ _ _ (slots .before .subproblems .ensures) (slots .slots .ensures) _ padded in
+    (domains, (second .put-words2 .ensures, agenda))
 
 pub put-search-spec : {M : Type 1} → statement M
 put-search-spec =
