@@ -54,6 +54,7 @@ copy-whole src l m k e s h =
 
 -- ---- zeros, and words written in their place
 
+-- So many zeros are so many words.
 pub zeros-long : (l : List ℕ) (k : ℕ) → l ≡ zeros k → length l ≡ k
 unfolding zeros
 zeros-long l k e = ap length e ∙ length-replicate k 0
@@ -96,11 +97,13 @@ pub record Zeroed (l : List ℕ) (at : ℕ) (m : List ℕ) (i : ℕ) : Type 0 wh
   pub kept : length m ≡ length l
   pub made : m ≡ splice l at (replicate (i - at) 0)
 
+-- None is written yet.
 pub zeroed-none : (l : List ℕ) (at : ℕ) → at ≤ length l → Zeroed l at l at
 zeroed-none l at h =
     let none : at - at ≡ 0 = omega arith in
     record { passed = (omega arith, h); kept = refl; made = rw none (sym (splice-none l at)) }
 
+-- One more.
 pub zeroed-more : (l : List ℕ) (at : ℕ) (m : List ℕ) (i : ℕ) → Zeroed l at m i → i < length m → Zeroed l at (set m i 0) (i + 1)
 zeroed-more l at m i inv h =
     let low = inv .passed .0 in
@@ -113,6 +116,7 @@ zeroed-more l at m i inv h =
           ∙ ap (λ (k : ℕ). splice l at (replicate k 0)) more;
     }
 
+-- All are written.
 pub zeroed-end : (l : List ℕ) (at : ℕ) (m : List ℕ) (i : ℕ) → Zeroed l at m i → length m ≤ i → m ≡ splice l at (replicate (length l - at) 0)
 zeroed-end l at m i inv h =
     let last : i ≡ length l = omega (arith, inv .passed .1, inv .kept) in
