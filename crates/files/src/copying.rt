@@ -14,40 +14,29 @@ pub(crate) fn part(words: &[u16], from: usize, count: usize) -> &[u16]
     &words[from..end]
 }
 
-// A copy of 16 words.
-fn put_sixteen(words: &[u16], out: &mut [u16])
-    requires { ⌜ (length (now words) ≡ 16) × (length (now out) ≡ 16) ⌝ }
+// A copy of so many words.
+fn put_each(words: &[u16], out: &mut [u16], count: usize)
+    requires { ⌜ (length (now words) ≡ count) × (length (now out) ≡ count) ⌝ }
     ensures { λ r. ⌜ now (out .exit) ≡ now (words .entry) ⌝ }
 {
     let mut i = 0;
-    while i < 16 {
+    while i < count {
         out[i] = words[i];
         i += 1;
     }
 }
 
-// A copy of any number.
-fn put_each(words: &[u16], out: &mut [u16])
-    requires { ⌜ length (now words) ≡ length (now out) ⌝ }
-    ensures { λ r. ⌜ now (out .exit) ≡ now (words .entry) ⌝ }
-{
-    let mut i = 0;
-    while i < words.len() {
-        out[i] = words[i];
-        i += 1;
-    }
-}
-
-// A copy; 16 words in a loop of as many turns, which the machine takes eight at a time.
+// A copy; of 16 words by a loop of as many turns, so that the machine takes eight at once.
 pub(crate) fn put_words(words: &[u16], out: &mut [u16])
     requires { ⌜ length (now words) ≡ length (now out) ⌝ }
     ensures { λ r. ⌜ now (out .exit) ≡ now (words .entry) ⌝ }
 {
-    if words.len() == 16 {
-        put_sixteen(words, out);
+    let count = words.len();
+    if count == 16 {
+        put_each(words, out, 16);
         return;
     }
-    put_each(words, out);
+    put_each(words, out, count);
 }
 
 // A copy in the place of the words from `at` on; where it ends.
