@@ -187,20 +187,20 @@ content-block block =
     sym (content-in block k h) ∙ sym (getD-take 253 (drop 2 all) k 0 h ∙ getD-drop 2 all k 0 ∙ map-at (blockWord block 0) 256 (2 + k) 0 (omega arith))))
 
 -- It is that of its words in the file.
-content-part : (file : List ℕ) (b : ℕ) → contentFrom (take ((b * 512 + 512) - b * 512) (drop (b * 512) file)) 0 253 ≡ contentFrom file (b * 253) 253
+content-part : (file : List ℕ) (b : ℕ) → contentFrom (partIn file (b * 512) 512) 0 253 ≡ contentFrom file (b * 253) 253
 unfolding contentFrom contentWord
 content-part file b =
-    let block : List ℕ = take ((b * 512 + 512) - b * 512) (drop (b * 512) file) in
+    let block : List ℕ = partIn file (b * 512) 512 in
     map-same (λ k. contentWord block (0 + k)) (λ k. contentWord file (b * 253 + k)) 253 (λ k h.
     let div : (b * 253 + k) / 253 ≡ b = omega arith in
     let at : 2 + (b * 253 + k) % 253 ≡ 2 + k = omega arith in
     sym (content-in block k h) ∙ part-words file b (2 + k) (omega arith) ∙ rw (div, at) refl)
 
 -- The content of a block is written.
-pub block-put : (file l m all : List ℕ) (b : ℕ) → all ≡ map (blockWord (take ((b * 512 + 512) - b * 512) (drop (b * 512) file)) 0) (below 256)
+pub block-put : (file block l m all : List ℕ) (b : ℕ) → block ≡ partIn file (b * 512) 512 → all ≡ map (blockWord block 0) (below 256)
     → m ≡ splice l (b * 253) (take (255 - 2) (drop 2 all)) → m ≡ splice l (b * 253) (contentFrom file (b * 253) 253)
-block-put file l m all b e s =
-    s ∙ ap (splice l (b * 253)) (rw e (content-block (take ((b * 512 + 512) - b * 512) (drop (b * 512) file))) ∙ content-part file b)
+block-put file block l m all b is-block e s =
+    s ∙ ap (splice l (b * 253)) (rw e (content-block block) ∙ ap (λ (x : List ℕ). contentFrom x 0 253) is-block ∙ content-part file b)
 
 -- Words of the content one after the other.
 from-join : (file : List ℕ) (a b : ℕ) → contentFrom file 0 (a + b) ≡ contentFrom file 0 a ++ contentFrom file a b
