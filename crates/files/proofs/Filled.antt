@@ -1,6 +1,6 @@
 -- Memory that load and save fill from the front: the words of the content, columns, rows, copies with zeros after them.
 -- Assumes nothing.
-use mathlib.Core.Path.{_≡_, refl, sym, ap, _∙_}
+use mathlib.Core.Path.{_≡_, refl, sym, ap, ap₂, _∙_}
 use mathlib.Core.List.{List, [], _∷_, _++_, map, map-append, append-assoc, append-nil}
 use mir.Syntax.{w64}
 use mir.Val.{Fits}
@@ -9,9 +9,9 @@ use native.Mathlib.Omega.{arith}
 use native.Mathlib.Nat.{mul-assoc, mul-le-mul, mul-le-mul-right, zero-add, add-zero, add-mul}
 use native.Mathlib.Numerals.{add-one}
 use native.Mathlib.Decide.{decLt}
-use lib.ListN.{length, getD, take, drop, set, replicate, length-append, length-drop, length-replicate, replicate-append-replicate, take-append-drop, List·getD-eq-default}
+use lib.ListN.{length, getD, take, drop, set, replicate, length-set, length-append, length-drop, length-replicate, replicate-append-replicate, take-append-drop, List·getD-eq-default}
 use lib.Seq.{getD-take, getD-drop, drop-cons, append-snoc, set-at, take-at, take-all, drop-drop, drop-length, length-take-le}
-use borrow.Rule.Slice.PartMut.{putMid, midOf, postOf, post-is, mid-len}
+use borrow.Rule.Slice.PartMut.{putMid}
 use Rattle.splits.specs.Problem.{total}
 use Rattle.splits.specs.Splits.{below}
 use Rattle.search.specs.Parts.{splice}
@@ -54,6 +54,7 @@ copy-whole src l m k e s h =
 
 -- ---- zeros, and words written in their place
 
+-- So many zeros are so many words.
 pub zeros-long : (l : List ℕ) (k : ℕ) → l ≡ zeros k → length l ≡ k
 unfolding zeros
 zeros-long l k e = ap length e ∙ length-replicate k 0
@@ -63,12 +64,74 @@ pub front-of-zeros : (p : List ℕ) (k : ℕ) → splice (zeros k) 0 p ≡ p ++ 
 unfolding splice zeros
 front-of-zeros p k = ap (λ (x : List ℕ). p ++ x) (ap (λ (j : ℕ). drop j (replicate k 0)) (zero-add (length p)) ∙ drop-zeros k (length p))
 
--- ---- a part written after those before it
-
 -- No word is written.
 pub splice-none : (l : List ℕ) (a : ℕ) → splice l a [] ≡ l
 unfolding splice
 splice-none l a = ap (λ (j : ℕ). take a l ++ drop j l) (add-zero a) ∙ take-append-drop a l
+
+-- All words are written anew.
+splice-all : (l p : List ℕ) → length p ≡ length l → splice l 0 p ≡ p
+unfolding splice
+splice-all l p e = ap (λ (x : List ℕ). p ++ x) (ap (λ (k : ℕ). drop k l) (zero-add (length p) ∙ e) ∙ drop-length l) ∙ append-nil p
+
+-- One zero more after those written from `at` on.
+zero-more : (l : List ℕ) (at j : ℕ) → at + j < length l → set (splice l at (replicate j 0)) (at + j) 0 ≡ splice l at (replicate (j + 1) 0)
+unfolding splice
+zero-more l at j h =
+    let some : List ℕ = replicate j 0 in
+    let rest : List ℕ = drop (suc (at + j)) l in
+    let long : length some ≡ j = length-replicate {A = ℕ} j 0 in
+    let seam : length (take at l ++ some) ≡ at + j = length-append (take at l) some ∙ omega (arith, length-take-le at l (omega arith)) in
+    let next : drop (at + length some) l ≡ getD l (at + j) 0 ∷ rest = ap (λ (k : ℕ). drop (at + k) l) long ∙ drop-cons l (at + j) 0 h in
+    let one : some ++ (0 ∷ []) ≡ replicate (j + 1) 0 = replicate-append-replicate j 1 0 in
+    let past : suc (at + j) ≡ at + length (replicate {A = ℕ} (j + 1) 0) = omega (arith, length-replicate {A = ℕ} (j + 1) 0) in
+    ap (λ (x : List ℕ). set (take at l ++ (some ++ x)) (at + j) 0) next
+    ∙ ap (λ (x : List ℕ). set x (at + j) 0) (sym (append-assoc (take at l) some (getD l (at + j) 0 ∷ rest)))
+    ∙ set-at (take at l ++ some) (getD l (at + j) 0) rest 0 (at + j) seam
+    ∙ append-assoc (take at l) some (0 ∷ rest) ∙ ap (λ (x : List ℕ). take at l ++ x) (sym (append-assoc some (0 ∷ []) rest))
+    ∙ ap (λ (x : List ℕ). take at l ++ (x ++ rest)) one ∙ ap (λ (k : ℕ). take at l ++ (replicate (j + 1) 0 ++ drop k l)) past
+
+-- Zeros up to i are written from `at` on.
+pub record Zeroed (l : List ℕ) (at : ℕ) (m : List ℕ) (i : ℕ) : Type 0 where
+  pub passed : (at ≤ i) × (i ≤ length l)
+  pub kept : length m ≡ length l
+  pub made : m ≡ splice l at (replicate (i - at) 0)
+
+-- None is written yet.
+pub zeroed-none : (l : List ℕ) (at : ℕ) → at ≤ length l → Zeroed l at l at
+zeroed-none l at h =
+    let none : at - at ≡ 0 = omega arith in
+    record { passed = (omega arith, h); kept = refl; made = rw none (sym (splice-none l at)) }
+
+-- One more.
+pub zeroed-more : (l : List ℕ) (at : ℕ) (m : List ℕ) (i : ℕ) → Zeroed l at m i → i < length m → Zeroed l at (set m i 0) (i + 1)
+zeroed-more l at m i inv h =
+    let low = inv .passed .0 in
+    let place : at + (i - at) ≡ i = omega arith in
+    let more : (i - at) + 1 ≡ (i + 1) - at = omega arith in
+    record {
+      passed = (omega arith, omega (arith, inv .kept));
+      kept = length-set m i 0 ∙ inv .kept;
+      made = ap₂ (λ (x : List ℕ) (k : ℕ). set x k 0) (inv .made) (sym place) ∙ zero-more l at (i - at) (omega (arith, inv .kept))
+          ∙ ap (λ (k : ℕ). splice l at (replicate k 0)) more;
+    }
+
+-- All are written.
+pub zeroed-end : (l : List ℕ) (at : ℕ) (m : List ℕ) (i : ℕ) → Zeroed l at m i → length m ≤ i → m ≡ splice l at (replicate (length l - at) 0)
+zeroed-end l at m i inv h =
+    let last : i ≡ length l = omega (arith, inv .passed .1, inv .kept) in
+    inv .made ∙ ap (λ (k : ℕ). splice l at (replicate (k - at) 0)) last
+
+-- Words written from the front on, and zeros after them.
+pub padded-put : (l m₁ m₂ ws : List ℕ) (end : ℕ) → length ws ≤ length l → (m₁ ≡ splice l 0 ws) × (end ≡ 0 + length ws) → length m₁ ≡ length l
+    → m₂ ≡ splice m₁ end (replicate (length m₁ - end) 0) → m₂ ≡ ws ++ replicate (length l - length ws) 0
+padded-put l m₁ m₂ ws end h (e₁, is-end) kept e₂ =
+    let left : length m₁ - end ≡ length l - length ws = omega arith in
+    let none : List ℕ = replicate (length l - length ws) 0 in
+    let all : length (ws ++ none) ≡ length l = length-append ws none ∙ omega (arith, length-replicate {A = ℕ} (length l - length ws) 0) in
+    e₂ ∙ ap₂ (λ (x : List ℕ) (k : ℕ). splice x end (replicate k 0)) e₁ left ∙ splice-splice l 0 ws none end (sym is-end) (omega arith) ∙ splice-all l (ws ++ none) all
+
+-- ---- a part written after those before it
 
 -- The parts f 0 to f (i - 1) are written into the words l from `at` to `end`, which are m now.
 pub record Passed (f : ℕ → List ℕ) (l : List ℕ) (at : ℕ) (m : List ℕ) (i end : ℕ) : Type 0 where
@@ -103,40 +166,6 @@ part-more p q l m ys a w e s y k h =
     put-part m ys q a w y k ∙ rw (e ∙ ap (λ (t : List ℕ). p ++ t) parts) (splice-between p old (drop w (drop a l)) q a s fits)
     ∙ sym (append-assoc p q (drop w (drop a l))) ∙ ap (λ (t : List ℕ). (p ++ q) ++ t) (drop-drop w a l)
 
--- ---- the front and the rest
-
--- What a callee left in the front, and another in what was lent after it.
-pub front-rest : (l ys zs : List ℕ) (used : ℕ) → length ys ≡ used → used ≤ length l
-    → putMid used (length (ys ++ drop used l) - used) (ys ++ drop used l) zs ≡ ys ++ zs
-front-rest l ys zs used seam h =
-    let whole : List ℕ = ys ++ drop used l in
-    let long : length whole ≡ length l = length-append ys (drop used l) ∙ omega (arith, length-drop used l) in
-    let past : postOf used (length whole - used) whole ≡ [] = post-is used (length whole) whole (omega arith) ∙ drop-length whole in
-    ap (λ (t : List ℕ). take used whole ++ (zs ++ t)) past ∙ ap (λ (t : List ℕ). take used whole ++ t) (append-nil zs)
-    ∙ ap (λ (t : List ℕ). t ++ zs) (take-at ys (drop used l) used seam)
-
--- How long the rest is.
-pub rest-long : (l ys : List ℕ) (used : ℕ) → length ys ≡ used → used ≤ length l
-    → length (midOf used (length (ys ++ drop used l) - used) (ys ++ drop used l)) ≡ length l - used
-rest-long l ys used seam h =
-    let whole : List ℕ = ys ++ drop used l in
-    let long : length whole ≡ length l = length-append ys (drop used l) ∙ omega (arith, length-drop used l) in
-    mid-len used (length whole) whole (omega arith) ∙ omega arith
-
--- Zeros in the rest.
-pub padded-made : (l ys zs : List ℕ) (used : ℕ) → length ys ≡ used → used ≤ length l
-    → zs ≡ replicate (length (midOf used (length (ys ++ drop used l) - used) (ys ++ drop used l))) 0
-    → putMid used (length (ys ++ drop used l) - used) (ys ++ drop used l) zs ≡ ys ++ replicate (length l - used) 0
-padded-made l ys zs used seam h z =
-    front-rest l ys zs used seam h ∙ ap (λ (t : List ℕ). ys ++ t) (z ∙ ap (λ (k : ℕ). replicate {A = ℕ} k 0) (rest-long l ys used seam h))
-
--- The same of a copy.
-pub padded-copy : (src l ys zs : List ℕ) → length src ≤ length l → ys ≡ src
-    → zs ≡ replicate (length (midOf (length src) (length (ys ++ drop (length src) l) - length src) (ys ++ drop (length src) l))) 0
-    → putMid (length src) (length (ys ++ drop (length src) l) - length src) (ys ++ drop (length src) l) zs ≡ src ++ replicate (length l - length src) 0
-padded-copy src l ys zs h e z =
-    padded-made l ys zs (length src) (ap length e) h z ∙ ap (λ (t : List ℕ). t ++ replicate (length l - length src) 0) e
-
 -- ---- the content
 
 -- Word k of a block's content.
@@ -158,20 +187,20 @@ content-block block =
     sym (content-in block k h) ∙ sym (getD-take 253 (drop 2 all) k 0 h ∙ getD-drop 2 all k 0 ∙ map-at (blockWord block 0) 256 (2 + k) 0 (omega arith))))
 
 -- It is that of its words in the file.
-content-part : (file : List ℕ) (b : ℕ) → contentFrom (take ((b * 512 + 512) - b * 512) (drop (b * 512) file)) 0 253 ≡ contentFrom file (b * 253) 253
+content-part : (file : List ℕ) (b : ℕ) → contentFrom (partIn file (b * 512) 512) 0 253 ≡ contentFrom file (b * 253) 253
 unfolding contentFrom contentWord
 content-part file b =
-    let block : List ℕ = take ((b * 512 + 512) - b * 512) (drop (b * 512) file) in
+    let block : List ℕ = partIn file (b * 512) 512 in
     map-same (λ k. contentWord block (0 + k)) (λ k. contentWord file (b * 253 + k)) 253 (λ k h.
     let div : (b * 253 + k) / 253 ≡ b = omega arith in
     let at : 2 + (b * 253 + k) % 253 ≡ 2 + k = omega arith in
     sym (content-in block k h) ∙ part-words file b (2 + k) (omega arith) ∙ rw (div, at) refl)
 
 -- The content of a block is written.
-pub block-put : (file l m all : List ℕ) (b : ℕ) → all ≡ map (blockWord (take ((b * 512 + 512) - b * 512) (drop (b * 512) file)) 0) (below 256)
+pub block-put : (file block l m all : List ℕ) (b : ℕ) → block ≡ partIn file (b * 512) 512 → all ≡ map (blockWord block 0) (below 256)
     → m ≡ splice l (b * 253) (take (255 - 2) (drop 2 all)) → m ≡ splice l (b * 253) (contentFrom file (b * 253) 253)
-block-put file l m all b e s =
-    s ∙ ap (splice l (b * 253)) (rw e (content-block (take ((b * 512 + 512) - b * 512) (drop (b * 512) file))) ∙ content-part file b)
+block-put file block l m all b is-block e s =
+    s ∙ ap (splice l (b * 253)) (rw e (content-block block) ∙ ap (λ (x : List ℕ). contentFrom x 0 253) is-block ∙ content-part file b)
 
 -- Words of the content one after the other.
 from-join : (file : List ℕ) (a b : ℕ) → contentFrom file 0 (a + b) ≡ contentFrom file 0 a ++ contentFrom file a b

@@ -13,7 +13,7 @@ use Rattle.splits.specs.Subproblems.{every}
 use Rattle.search.proofs.FirstLoops.{every-stop, every-turn}
 use Rattle.files.specs.Blocks.{wordAt, checkOf, blocksFor}
 use Rattle.files.specs.Reading.{blockWord, headOf, contentWord, saidN, saidD, saidSubproblems, goodBlock, refusalOfFile}
-use Rattle.files.specs.Work.Said.{goodIn, valueAt, numbersSaid, zeroIn, filled}
+use Rattle.files.specs.Work.Said.{goodIn, valueAt, partIn, numbersSaid, zeroIn, filled}
 use Rattle.files.proofs.Lists.{map-same}
 
 -- ---- the words of a block
@@ -32,7 +32,8 @@ unfolding headOf
 heads-same l m b h = map-same (blockWord l 0) (blockWord m b) 255 (λ k q. h k (omega arith))
 
 -- A block that was cut out of a file.
-pub part-words : (file : List ℕ) (b k : ℕ) → k < 256 → blockWord (take ((b * 512 + 512) - b * 512) (drop (b * 512) file)) 0 k ≡ blockWord file b k
+pub part-words : (file : List ℕ) (b k : ℕ) → k < 256 → blockWord (partIn file (b * 512) 512) 0 k ≡ blockWord file b k
+unfolding partIn
 part-words file b = words-same (take ((b * 512 + 512) - b * 512) (drop (b * 512) file)) file b
     (λ i q. getD-take ((b * 512 + 512) - b * 512) (drop (b * 512) file) i 0 (omega arith) ∙ getD-drop (b * 512) file i 0)
 
@@ -62,14 +63,14 @@ module _ (block : List ℕ) (number blocks : ℕ) where
       simp (eq-eqb (blockWord block 0 0) number (sym a ∙ b), eq-eqb (blockWord block 0 1) blocks (sym c ∙ d), sym e, sym f)
 
 -- A block that was cut out of a file of so many.
-pub good-part : (file : List ℕ) (number blocks : ℕ) (r : Bool) → 1 ≤ number → length file ≡ blocks * 512
-    → r ≡ goodIn (take (((number - 1) * 512 + 512) - (number - 1) * 512) (drop ((number - 1) * 512) file)) number blocks → r ≡ goodBlock file (number - 1)
+pub good-part : (file block : List ℕ) (number blocks : ℕ) (r : Bool) → 1 ≤ number → length file ≡ blocks * 512 → block ≡ partIn file ((number - 1) * 512) 512
+    → r ≡ goodIn block number blocks → r ≡ goodBlock file (number - 1)
 unfolding goodIn goodBlock
-good-part file number blocks r some e h =
+good-part file block number blocks r some e is-block h =
     let b : ℕ = number - 1 in
     let count : length file / 512 ≡ blocks = omega arith in
     let next : b + 1 ≡ number = omega arith in
-    h ∙ rw (part-words file b 0 (omega arith), part-words file b 1 (omega arith), part-words file b 255 (omega arith), heads-same _ file b (part-words file b), count, next) refl
+    h ∙ rw (is-block, part-words file b 0 (omega arith), part-words file b 1 (omega arith), part-words file b 255 (omega arith), heads-same _ file b (part-words file b), count, next) refl
 
 -- ---- 14: all
 

@@ -206,6 +206,10 @@ pub part-in : (words out : List ℕ) (from w : ℕ) → out ≡ take ((from + w)
 unfolding partIn
 part-in words out from w e = e
 
+-- The domains.
+pub domains-put : (words part out : List ℕ) (k n : ℕ) → part ≡ partIn words 9 k → out ≡ part → k ≡ n → out ≡ partIn words 9 n
+domains-put words part out k n e s h = s ∙ e ∙ ap (partIn words 9) h
+
 -- Slots in the words of a content, of numbers that a file says: they lie within, and are these.
 module _ (n d count : ℕ) (s : Numbers n d) (few : count ≤ 512) (m e from : ℕ) (is-m : m ≡ n) (is-e : e ≡ d) (start : (from ≡ agendaFrom m e) × (from ≤ 7977)) where
   pub slots-fit : Fits w64 (count * (m + 2))

@@ -1,12 +1,12 @@
 // Bytes, words and blocks of a file.
 ghost use mathlib.Core.Path.{_≡_};
 ghost use mathlib.Core.List.{map};
-ghost use Prim.Native.Nat.{_+_, _*_, _/_, _%_, _<_};
+ghost use Prim.Native.Nat.{_+_, _*_, _/_, _%_, _≤_, _<_};
 ghost use lib.ListN.{length, getD};
 ghost use Rattle.splits.specs.Splits.{below};
 ghost use Rattle.files.specs.Blocks.{wordAt};
 ghost use Rattle.files.specs.Reading.{blockWord, contentWord};
-ghost use Rattle.files.specs.Work.Said.{lowWord};
+ghost use Rattle.files.specs.Work.Said.{lowWord, partIn};
 
 // A byte as a word.
 fn wide(byte: u8) -> u16
@@ -41,6 +41,16 @@ pub(crate) fn content_word(file: &[u8], k: usize) -> u16
     ensures { λ r. ⌜ r ≡ contentWord (now (file .entry)) k ⌝ }
 {
     word(file, 256 * (k / 253) + (2 + k % 253))
+}
+
+// Block `b` of a file, from 0.
+pub(crate) fn block_at(file: &[u8], b: usize) -> &[u8]
+    requires { ⌜ (b < 101) × (b * 512 + 512 ≤ length (now file)) ⌝ }
+    ensures { λ r. ⌜ (now r ≡ partIn (now (file .entry)) (b * 512) 512) × (length (now r) ≡ 512) ⌝ }
+{
+    let at = b * 512;
+    let end = at + 512;
+    &file[at..end]
 }
 
 // Word `k` of one block if its low byte came first.

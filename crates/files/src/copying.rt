@@ -1,6 +1,5 @@
 // Copies of words, and zeros.
 ghost use mathlib.Core.Path.{_≡_};
-ghost use mathlib.Core.List.{_++_};
 ghost use Prim.Native.Nat.{_+_, _-_, _≤_};
 ghost use lib.ListN.{length, replicate};
 ghost use Rattle.search.specs.Parts.{splice};
@@ -15,40 +14,29 @@ pub(crate) fn part(words: &[u16], from: usize, count: usize) -> &[u16]
     &words[from..end]
 }
 
-// A copy of 16 words.
-fn put_sixteen(words: &[u16], out: &mut [u16])
-    requires { ⌜ (length (now words) ≡ 16) × (length (now out) ≡ 16) ⌝ }
+// A copy of so many words.
+fn put_each(words: &[u16], out: &mut [u16], count: usize)
+    requires { ⌜ (length (now words) ≡ count) × (length (now out) ≡ count) ⌝ }
     ensures { λ r. ⌜ now (out .exit) ≡ now (words .entry) ⌝ }
 {
     let mut i = 0;
-    while i < 16 {
+    while i < count {
         out[i] = words[i];
         i += 1;
     }
 }
 
-// A copy of any number.
-fn put_each(words: &[u16], out: &mut [u16])
-    requires { ⌜ length (now words) ≡ length (now out) ⌝ }
-    ensures { λ r. ⌜ now (out .exit) ≡ now (words .entry) ⌝ }
-{
-    let mut i = 0;
-    while i < words.len() {
-        out[i] = words[i];
-        i += 1;
-    }
-}
-
-// A copy; 16 words in a loop of as many turns, which the machine takes eight at a time.
+// A copy; of 16 words by a loop of as many turns, so that the machine takes eight at once.
 pub(crate) fn put_words(words: &[u16], out: &mut [u16])
     requires { ⌜ length (now words) ≡ length (now out) ⌝ }
     ensures { λ r. ⌜ now (out .exit) ≡ now (words .entry) ⌝ }
 {
-    if words.len() == 16 {
-        put_sixteen(words, out);
+    let count = words.len();
+    if count == 16 {
+        put_each(words, out, 16);
         return;
     }
-    put_each(words, out);
+    put_each(words, out, count);
 }
 
 // A copy in the place of the words from `at` on; where it ends.
@@ -61,23 +49,14 @@ pub(crate) fn put_at(words: &[u16], out: &mut [u16], at: usize) -> usize
     end
 }
 
-// Zeros.
-pub(crate) fn put_zeros(words: &mut [u16])
-    ensures { λ r. ⌜ now (words .exit) ≡ replicate (length (now (words .entry))) 0 ⌝ }
+// Zeros from `at` on.
+pub(crate) fn put_zeros(words: &mut [u16], at: usize)
+    requires { ⌜ at ≤ length (now words) ⌝ }
+    ensures { λ r. ⌜ now (words .exit) ≡ splice (now (words .entry)) at (replicate (length (now (words .entry)) - at) 0) ⌝ }
 {
-    let mut i = 0;
+    let mut i = at;
     while i < words.len() {
         words[i] = 0;
         i += 1;
     }
-}
-
-// A copy, and zeros after it.
-pub(crate) fn put_padded(words: &[u16], out: &mut [u16])
-    requires { ⌜ length (now words) ≤ length (now out) ⌝ }
-    ensures { λ r. ⌜ now (out .exit) ≡ now (words .entry) ++ replicate (length (now (out .entry)) - length (now (words .entry))) 0 ⌝ }
-{
-    let used = words.len();
-    put_words(words, &mut out[..used]);
-    put_zeros(&mut out[used..]);
 }

@@ -17,9 +17,7 @@ fn put_block(file: &[u8], b: usize, words: &mut [u16])
     requires { ⌜ (b < 101) × ((b * 512 + 512 ≤ length (now file)) × (length (now words) ≡ 25553)) ⌝ }
     ensures { λ r. ⌜ now (words .exit) ≡ splice (now (words .entry)) (b * 253) (contentFrom (now (file .entry)) (b * 253) 253) ⌝ }
 {
-    let at = b * 512;
-    let end = at + 512;
-    let all = block::words_of(&file[at..end]);
+    let all = block::words_of(block::block_at(file, b));
     copying::put_at(&all[2..255], words, b * 253);
 }
 
@@ -105,5 +103,7 @@ pub(crate) fn put_search(
 {
     copying::put_words(copying::part(words, 9, domains.len()), domains);
     copying::put_words(masks, tables);
-    copying::put_padded(content::slots(file, words, said::subproblems(file)), agenda);
+    let slots = content::slots(file, words, said::subproblems(file));
+    let end = copying::put_at(slots, agenda, 0);
+    copying::put_zeros(agenda, end);
 }

@@ -35,9 +35,7 @@ fn all_good(file: &[u8], blocks: usize) -> bool
 {
     let mut number = 1;
     while number <= blocks {
-        let at = (number - 1) * 512;
-        let end = at + 512;
-        if !is_good(&file[at..end], number, blocks) {
+        if !is_good(block::block_at(file, number - 1), number, blocks) {
             return false;
         }
         number += 1;

@@ -1,4 +1,4 @@
--- What save hands on from function to function: the search that passed its first checks, and the part of its file that is written.
+-- Words that are zeros; and what save hands on from function to function: the search that passed its first checks, and the part of its file that is written.
 use mathlib.Core.Path.{_≡_}
 use mathlib.Core.List.{List, [], _∷_, _++_}
 use Prim.Native.Nat.{ℕ, _+_, _*_, _/_, _%_, _^_, _≤_}

@@ -1,7 +1,7 @@
 -- `content::put` meets its contract: its parts are written one after the other.
 -- Assumes nothing.
 use borrow.Author.Needs.{needs}
-use mathlib.Core.Path.{sym}
+use mathlib.Core.Path.{sym, _∙_}
 use native.Mathlib.Omega.{arith}
 use Rattle.files.proofs.Filled.{zeros-long}
 use Rattle.files.proofs.Written.{used-length, few, content-put}
@@ -9,7 +9,9 @@ use Rattle.files.proofs.content.put.Statement.{statement}
 use Rattle.files.proofs.content.put.Tie as tie
 
 header-requires : tie.Need-header-requires
-header-requires c κs = search needs
+header-requires c κs =
+    let pre = c .before .before .before .before .pre in
+    (pre .0 .numbers, pre .0 .few)
 
 add-used : tie.Need-add-used
 add-used c = search needs
@@ -46,7 +48,11 @@ put-at-requires-3 c κs =
     omega (arith, zeros-long _ _ (pre .1), few _ _ _ _ _ _ (pre .0), used-length _ _ _ _ _ _ (pre .0))
 
 same-length : tie.Need-same-length
-same-length c = search needs
+same-length c =
+    let three = c .before .before .before .before .before .before .before in
+    let two = three .before .before .before .before in
+    let one = two .before .before .before .before in
+    c .before .before .put-at3 .kept .1 .0 ∙ three .put-masks .kept .1 .1 .1 .0 ∙ two .put-at2 .kept .1 .0 ∙ one .put-at .kept .1 .0
 
 returns : tie.Need-returns
 returns c =

@@ -1,7 +1,7 @@
 -- `copying::put_each` meets its contract. The invariant: the words passed are copied.
 -- Assumes nothing.
 use borrow.Author.Needs.{needs}
-use mathlib.Core.Path.{_≡_, refl}
+use mathlib.Core.Path.{_≡_, refl, sym, _∙_}
 use mathlib.Core.List.{_++_}
 use Prim.Native.Nat.{_-_, _≤_}
 use native.Mathlib.Omega.{arith}
@@ -12,10 +12,10 @@ use Rattle.files.proofs.copying.put_each.Statement.{statement}
 use Rattle.files.proofs.copying.put_each.Tie as tie
 
 abbrev Inv-loop : tie.InvT-loop
-Inv-loop words out₀ i₀ out i = (i ≤ length words) × ((length out ≡ length words) × (out ≡ take i words ++ drop i out₀))
+Inv-loop words out₀ count i₀ out i = (i ≤ count) × ((length out ≡ length words) × (out ≡ take i words ++ drop i out₀))
 
 abbrev μ-loop : tie.MeasureT-loop
-μ-loop words out₀ i₀ out i = length words - i
+μ-loop words out₀ count i₀ out i = count - i
 
 loop-holds : tie.Need-loop-holds Inv-loop μ-loop
 loop-holds c = (omega arith, (omega arith, refl))
@@ -48,8 +48,9 @@ same-length c = search needs
 
 returns : tie.Need-returns Inv-loop μ-loop
 returns c =
+    let pre = c .before .before .pre in
     let end : c .before .loop .i ≡ length (c .before .before .args .words .now) = omega arith in
-    copy-whole _ _ _ _ (c .before .loop .inv .1 .1) end (c .before .before .pre)
+    copy-whole _ _ _ _ (c .before .loop .inv .1 .1) end (pre .0 ∙ sym (pre .1))
 
 pub put-each-spec : {M : Type 1} → statement M
 put-each-spec =

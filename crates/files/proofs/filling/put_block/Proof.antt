@@ -5,20 +5,8 @@ use Rattle.files.proofs.Filled.{block-put}
 use Rattle.files.proofs.filling.put_block.Statement.{statement}
 use Rattle.files.proofs.filling.put_block.Tie as tie
 
-mul-at : tie.Need-mul-at
-mul-at c = search needs
-
-add-end : tie.Need-add-end
-add-end c = search needs
-
-sub-words-of : tie.Need-sub-words-of
-sub-words-of c = search needs
-
-part-words-of-start : tie.Need-part-words-of-start
-part-words-of-start c = search needs
-
-part-words-of-end : tie.Need-part-words-of-end
-part-words-of-end c = search needs
+block-at-requires : tie.Need-block-at-requires
+block-at-requires c κs = search needs
 
 words-of-requires : tie.Need-words-of-requires
 words-of-requires c κs = search needs
@@ -42,17 +30,15 @@ same-length : tie.Need-same-length
 same-length c = search needs
 
 returns : tie.Need-returns
-returns c = block-put _ _ _ _ _ (c .before .before .before .before .before .before .words-of .ensures) (c .before .before .put-at .ensures .0)
+returns c =
+    let words = c .before .before .before .before .before .before in
+    block-put _ _ _ _ _ _ (words .before .block-at .ensures .0) (words .words-of .ensures) (c .before .before .put-at .ensures .0)
 
 pub put-block-spec : {M : Type 1} → statement M
 put-block-spec =
     tie.close
     (tie.spec
-    mul-at
-    add-end
-    sub-words-of
-    part-words-of-start
-    part-words-of-end
+    block-at-requires
     words-of-requires
     sub-put-at
     part-put-at-start

@@ -3,12 +3,11 @@
 use borrow.Author.Needs.{needs}
 use mathlib.Core.Path.{_≡_, ap, _∙_}
 use mathlib.Core.Bool.{true}
-use Prim.Native.Nat.{ℕ, _+_, _-_, _*_, _≤_, _<_}
+use Prim.Native.Nat.{ℕ, _+_, _-_, _≤_, _<_}
 use native.Mathlib.Omega.{arith}
 use Rattle.splits.specs.Subproblems.{every}
 use Rattle.search.proofs.FirstLoops.{every-start, every-stop, every-turn, every-end}
 use Rattle.files.specs.Reading.{goodBlock}
-use Rattle.files.proofs.Mirrors.{part-long}
 use Rattle.files.proofs.Found.{good-part}
 use Rattle.files.proofs.reading.all_good.Statement.{statement}
 use Rattle.files.proofs.reading.all_good.Tie as tie
@@ -22,32 +21,22 @@ abbrev μ-loop : tie.MeasureT-loop
 loop-holds : tie.Need-loop-holds Inv-loop μ-loop
 loop-holds c = (omega arith, (omega arith, every-start _))
 
-sub-at : tie.Need-sub-at Inv-loop μ-loop
-sub-at c = search needs
+sub-block-at : tie.Need-sub-block-at Inv-loop μ-loop
+sub-block-at c = search needs
 
-mul-at : tie.Need-mul-at Inv-loop μ-loop
-mul-at c = search needs
-
-add-end : tie.Need-add-end Inv-loop μ-loop
-add-end c = search needs
-
-sub-is-good : tie.Need-sub-is-good Inv-loop μ-loop
-sub-is-good c = search needs
-
-part-is-good-start : tie.Need-part-is-good-start Inv-loop μ-loop
-part-is-good-start c = search needs
-
-part-is-good-end : tie.Need-part-is-good-end Inv-loop μ-loop
-part-is-good-end c = search needs
+block-at-requires : tie.Need-block-at-requires Inv-loop μ-loop
+block-at-requires c κs = (omega arith, omega arith)
 
 is-good-requires : tie.Need-is-good-requires Inv-loop μ-loop
-is-good-requires c κs = part-long (c .before .before .before .before .args .file .now) ((c .before .before .loop .number - 1) * 512) 512 (omega arith)
+is-good-requires c κs = search needs
 
 returns : tie.Need-returns Inv-loop μ-loop
 returns c =
-    let some : 1 ≤ c .before .before .before .before .loop .number = c .before .before .before .before .loop .inv .0 in
-    let below : c .before .before .before .before .loop .number - 1 < c .before .before .before .before .before .before .args .blocks = omega arith in
-    every-stop _ _ _ _ below (good-part _ _ _ _ some (c .before .before .before .before .before .before .pre .0) (c .before .is-good .ensures)) (c .if1 .taken)
+    let loop = c .before .before .before .before .loop in
+    let args = c .before .before .before .before .before .before in
+    let good = good-part _ _ _ _ _ (loop .inv .0) (args .pre .0) (c .before .before .block-at .ensures .0) (c .before .is-good .ensures) in
+    let below : loop .number - 1 < args .args .blocks = omega (arith, loop .inv .0) in
+    every-stop _ _ _ _ below good (c .if1 .taken)
 
 add-number : tie.Need-add-number Inv-loop μ-loop
 add-number c = search needs
@@ -57,10 +46,12 @@ loop-less c = search needs
 
 loop-again : tie.Need-loop-again Inv-loop μ-loop
 loop-again c =
-    let some : 1 ≤ c .before .before .before .before .loop .number = c .before .before .before .before .loop .inv .0 in
-    let up : (c .before .before .before .before .loop .number + 1) - 1 ≡ (c .before .before .before .before .loop .number - 1) + 1 = omega arith in
-    let next = every-turn _ _ _ (c .before .before .before .before .loop .inv .1 .1) (good-part _ _ _ _ some (c .before .before .before .before .before .before .pre .0) (c .before .is-good .ensures)) (c .if1 .left) in
-    (omega arith, (omega arith, ap (λ (k : ℕ). every k (goodBlock (c .before .before .before .before .before .before .args .file .now))) up ∙ next))
+    let loop = c .before .before .before .before .loop in
+    let args = c .before .before .before .before .before .before in
+    let good = good-part _ _ _ _ _ (loop .inv .0) (args .pre .0) (c .before .before .block-at .ensures .0) (c .before .is-good .ensures) in
+    let up : (loop .number + 1) - 1 ≡ (loop .number - 1) + 1 = omega (arith, loop .inv .0) in
+    let next = every-turn _ _ _ (loop .inv .1 .1) good (c .if1 .left) in
+    (omega arith, (omega arith, ap (λ (k : ℕ). every k (goodBlock (args .args .file .now))) up ∙ next))
 
 returns-2 : tie.Need-returns-2 Inv-loop μ-loop
 returns-2 c = every-end _ _ _ (omega arith) (omega arith) (c .before .loop .inv .1 .1)
@@ -72,12 +63,8 @@ all-good-spec =
     Inv-loop
     μ-loop
     loop-holds
-    sub-at
-    mul-at
-    add-end
-    sub-is-good
-    part-is-good-start
-    part-is-good-end
+    sub-block-at
+    block-at-requires
     is-good-requires
     returns
     add-number
