@@ -65,8 +65,10 @@ returns c =
     let agenda = tables .before .before .before in
     let known = agenda .before .before .before .before .before .before in
     let start = known .before .before .before in
-    let chosen = chooses-words (called .choose .last .1 .1 .1 .1 .0) (agenda .before .before .before .before .words-of .ensures) (tables .words-of3 .ensures) (agenda .words-of2 .ensures) (called .choose .kept .1 .1 .1 .1 .0)
-    (c .before .before .bytes-of .ensures) (called .choose .ensures) in
+    let ran = called .choose in
+    let domains = agenda .before .before .before .before .words-of .ensures in
+    let after = c .before .before .bytes-of .ensures in
+    let chosen = chooses-words (ran .last .1 .1 .1 .1 .0) domains (tables .words-of3 .ensures) (agenda .words-of2 .ensures) (ran .kept .1 .1 .1 .1 .0) after (ran .ensures) in
     (chosen, choose-fits (λ i. omega (arith, known .slice-known .given i)) (omega (arith, start .good .1 .1 .1 .1 .1 .1 .0)) (start .pre .1) chosen)
 
 pub choose-words-spec : {M : Type 1} → statement M

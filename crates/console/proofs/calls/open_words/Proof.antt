@@ -62,8 +62,10 @@ returns c =
     let called = c .before .before .before .before .before .before in
     let tables = called .before .before .before .before .before in
     let agenda = tables .before .before .before in
-    opens-words (called .«open» .last .1 .1 .1 .1 .0) (agenda .before .before .before .before .words-of .ensures) (tables .words-of3 .ensures) (agenda .words-of2 .ensures) (called .«open» .kept .1 .1 .1 .1 .0)
-    (c .before .before .bytes-of .ensures) (called .«open» .ensures)
+    let ran = called .«open» in
+    let domains = agenda .before .before .before .before .words-of .ensures in
+    let after = c .before .before .bytes-of .ensures in
+    opens-words (ran .last .1 .1 .1 .1 .0) domains (tables .words-of3 .ensures) (agenda .words-of2 .ensures) (ran .kept .1 .1 .1 .1 .0) after (ran .ensures)
 
 pub open-words-spec : {M : Type 1} → statement M
 open-words-spec =
