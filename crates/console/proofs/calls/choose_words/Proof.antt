@@ -53,7 +53,8 @@ slice-aggregate-bytes-of c =
 bytes-of-requires : tie.Need-bytes-of-requires
 bytes-of-requires c κs =
     let called = c .before .before .before in
-    left-asks (called .choose .last .1 .1 .1 .1 .0) (called .before .before .before .before .before .before .before .before .words-of2 .ensures) (called .choose .kept .1 .1 .1 .1 .0) (called .before .before .before .before .before .before .before .before .before .before .before .before .before .before .before .before .before .pre .0 .of-agenda .even)
+    let agenda = called .before .before .before .before .before .before .before .before in
+    left-asks (called .choose .last .1 .1 .1 .1 .0) (agenda .words-of2 .ensures) (called .choose .kept .1 .1 .1 .1 .0) (agenda .before .before .before .before .before .before .before .before .before .pre .0 .of-agenda .even)
 
 same-length : tie.Need-same-length
 same-length c = c .before .before .bytes-of .kept .1 .0
