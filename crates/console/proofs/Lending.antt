@@ -31,8 +31,8 @@ use Rattle.console.proofs.SoFar.{whole-words, requests-count}
 use Rattle.console.proofs.Reaching.{Zeros, runs-front}
 
 -- How many words are lent.
-pub count-is : {b words : List ℕ} {most : ℕ} → Turned b most words → length b / 2 ≡ length (take (length b / 2) words)
-count-is {b} {words} t = sym (length-take-le (length b / 2) words (t .room))
+pub count-is : {b words : List ℕ} {k most : ℕ} → Turned b k most words → k ≡ length (take k words)
+count-is {words = words} {k = k} t = sym (length-take-le k words (t .room))
 
 -- Lists of one length that agree from k on.
 drop-same : (k : ℕ) (a b : List ℕ) → length a ≡ length b → ((i : ℕ) → k ≤ i → i < length a → getD a i 0 ≡ getD b i 0) → drop k a ≡ drop k b
@@ -41,51 +41,49 @@ drop-same k a b e h =
     (λ i l. let inside : k + i < length a = omega (arith, length-drop k a) in getD-drop k a i 0 ∙ h (k + i) (omega arith) inside ∙ sym (getD-drop k b i 0))
 
 -- A callee left y in the part that was lent to it.
-module _ {b words : List ℕ} {most : ℕ} (y : List ℕ) (t : Turned b most words) (kept : length y ≡ length (take (length b / 2) words)) where
-  left-length : length y ≡ length b / 2
+module _ {b words : List ℕ} {k most : ℕ} (y : List ℕ) (t : Turned b k most words) (kept : length y ≡ length (take k words)) where
+  left-length : length y ≡ k
   left-length = kept ∙ sym (count-is t)
 
   -- The part again.
-  left-again : take (length b / 2) (y ++ drop (length b / 2) words) ≡ y
-  left-again = take-at y (drop (length b / 2) words) (length b / 2) left-length
+  left-again : take k (y ++ drop k words) ≡ y
+  left-again = take-at y (drop k words) k left-length
 
   -- The whole is as long as it was.
-  pub left-long : most ≡ length (y ++ drop (length b / 2) words)
+  pub left-long : most ≡ length (y ++ drop k words)
   left-long = rw (length-append, length-drop) (omega (arith, left-length, t .room, t .long))
 
-  pub left-fits : length b / 2 ≤ length (y ++ drop (length b / 2) words)
+  pub left-fits : k ≤ length (y ++ drop k words)
   left-fits = rw length-append (omega (arith, left-length))
 
-  pub left-count : length b / 2 ≡ length (take (length b / 2) (y ++ drop (length b / 2) words))
+  pub left-count : k ≡ length (take k (y ++ drop k words))
   left-count = sym (ap length left-again ∙ left-length)
 
   -- It is as long as turning it back asks.
-  pub left-asks : Whole b → (length b % 2 ≡ 0) × (length b ≤ 2 * length (y ++ drop (length b / 2) words))
-  left-asks w = (w, omega (arith, left-fits))
+  pub left-asks : Whole b → (length b % 2 ≡ 0) × (length b ≤ 2 * length (y ++ drop k words))
+  left-asks w = (w, omega (arith, left-fits, t .count))
 
-  pub left-bytes : Whole b → length b ≡ 2 * length (take (length b / 2) (y ++ drop (length b / 2) words))
-  left-bytes w = omega (arith, left-count)
+  pub left-bytes : Whole b → length b ≡ 2 * length (take k (y ++ drop k words))
+  left-bytes w = omega (arith, left-count, t .count)
 
   -- Turned back.
-  pub left-said : {after : List ℕ} → after ≡ bytesOf (take (length b / 2) (y ++ drop (length b / 2) words)) → after ≡ bytesOf y
-  left-said s = s ∙ ap bytesOf left-again
+  pub left-said : {after : List ℕ} → after ≡ bytesOf (take (length b / 2) (y ++ drop k words)) → after ≡ bytesOf y
+  left-said s = s ∙ ap (λ (j : ℕ). bytesOf (take j (y ++ drop k words))) (sym (t .count)) ∙ ap bytesOf left-again
 
-module _ {n d v m x : ℕ} {domains tables agenda ds ts xs after : List ℕ} (y : List ℕ) (e : Turned domains v ds) (f : Turned tables m ts) (g : Turned agenda x xs)
-    (kept : length y ≡ length (take (length agenda / 2) xs)) (said : after ≡ bytesOf (take (length agenda / 2) (y ++ drop (length agenda / 2) xs))) where
-  pub opens-words : {r : Opened} → Opens n d (take (length domains / 2) ds) (take (length tables / 2) ts) (take (length agenda / 2) xs) y r
-      → OpensWords n d domains tables agenda after r
+module _ {n d i j k v m x : ℕ} {domains tables agenda ds ts xs after : List ℕ} (y : List ℕ) (e : Turned domains i v ds) (f : Turned tables j m ts)
+    (g : Turned agenda k x xs) (kept : length y ≡ length (take k xs)) (said : after ≡ bytesOf (take (length agenda / 2) (y ++ drop k xs))) where
+  pub opens-words : {r : Opened} → Opens n d (take i ds) (take j ts) (take k xs) y r → OpensWords n d domains tables agenda after r
   opens-words h = record { left = y; opens = rw (← (e .said), ← (f .said), ← (g .said)) h; said = left-said y g kept said }
 
-  pub chooses-words : {limit : ℕ} {s : State} {r : Ran}
-      → Chooses n d (take (length domains / 2) ds) (take (length tables / 2) ts) (take (length agenda / 2) xs) y limit s r
+  pub chooses-words : {limit : ℕ} {s : State} {r : Ran} → Chooses n d (take i ds) (take j ts) (take k xs) y limit s r
       → ChoosesWords n d domains tables agenda after limit s r
   chooses-words h = record { left = y; chooses = rw (← (e .said), ← (f .said), ← (g .said)) h; said = left-said y g kept said }
 
 -- A run that left y in the part of the words that was lent to it, of which what can have changed is written back.
-pub runs-at : {n d most : ℕ} {domains tables agenda xs requests after : List ℕ} {s : State} {r : Ran} (y : List ℕ) → Turned agenda most xs → Whole agenda
-    → length y ≡ length (take (length agenda / 2) xs) → ((i : ℕ) → getD agenda i 0 < 256) → s .counts .steps .0 < 2 ^ 32 → Listed n (length requests)
-    → Runs n d domains tables (take (length agenda / 2) xs) y (wordsOf requests) s r
-    → WritesBack n (s .subproblems) (r .taken) (r .state .subproblems) (take (length agenda / 2) (y ++ drop (length agenda / 2) xs)) agenda after
+pub runs-at : {n d k most : ℕ} {domains tables agenda xs requests after : List ℕ} {s : State} {r : Ran} (y : List ℕ) → Turned agenda k most xs → Whole agenda
+    → length y ≡ length (take k xs) → ((i : ℕ) → getD agenda i 0 < 256) → s .counts .steps .0 < 2 ^ 32 → Listed n (length requests)
+    → Runs n d domains tables (take k xs) y (wordsOf requests) s r
+    → WritesBack n (s .subproblems) (r .taken) (r .state .subproblems) (take k (y ++ drop k xs)) agenda after
     → RunsAt n d domains tables agenda after requests s r
 runs-at {n} {d} {domains = domains} {tables = tables} {agenda = agenda} {requests = requests} {after = after} {s = s} {r = r} y t w kept small stepped listed h written =
     let runs : Runs n d domains tables (wordsOf agenda) y (wordsOf requests) s r = rw (← (t .said)) h in
@@ -103,19 +101,19 @@ runs-at {n} {d} {domains = domains} {tables = tables} {agenda = agenda} {request
     record { left = y; runs = runs; said = back .said ∙ middle-said (back .from) (back .to) agenda y w small (back .order) low past }
 
 -- A run of a list that was turned into words whole: what it returns fits 32 bits.
-pub few-runs : (n d : ℕ) {most : ℕ} (domains tables : List ℕ) {agenda xs : List ℕ} (y requests words : List ℕ) (s : State) (r : Ran) → Turned agenda most xs
-    → take (length requests / 2) words ≡ wordsOf requests → ((i : ℕ) → getD agenda i 0 < 256) → s .counts .steps .0 < 2 ^ 32 → s .subproblems < 4294967296
-    → Listed n (length requests) → Runs n d domains tables (take (length agenda / 2) xs) y (take (length requests / 2) words) s r
-    → Runs n d domains tables (take (length agenda / 2) xs) y (wordsOf requests) s r × Narrow r
-few-runs n d domains tables {agenda} {xs} y requests words s r t e small stepped few listed h =
-    let list : Runs n d domains tables (take (length agenda / 2) xs) y (wordsOf requests) s r = rw (← e) h in
+pub few-runs : (n d : ℕ) {j k l most : ℕ} (domains tables : List ℕ) {agenda xs requests words : List ℕ} (y : List ℕ) (s : State) (r : Ran) → Turned agenda k most xs
+    → Turned requests j l words → ((i : ℕ) → getD agenda i 0 < 256) → s .counts .steps .0 < 2 ^ 32 → s .subproblems < 4294967296
+    → Listed n (length requests) → Runs n d domains tables (take k xs) y (take j words) s r
+    → Runs n d domains tables (take k xs) y (wordsOf requests) s r × Narrow r
+few-runs n d {k = k} domains tables {agenda} {xs} {requests} y s r t e small stepped few listed h =
+    let list : Runs n d domains tables (take k xs) y (wordsOf requests) s r = rw (← (e .said)) h in
     let runs : Runs n d domains tables (wordsOf agenda) y (wordsOf requests) s r = rw (← (t .said)) list in
     let whole = whole-words n requests (listed .requests, listed .whole) in
     (list, run-narrow n d domains tables (wordsOf agenda) s (words-small agenda small) (omega arith) y (wordsOf requests) r whole few runs)
 
 -- A run at the words that the bytes of the problem say.
-pub runs-words : {n d v m : ℕ} {domains tables agenda ds ts requests after : List ℕ} {s : State} {r : Ran} → Turned domains v ds → Turned tables m ts
-    → RunsAt n d (take (length domains / 2) ds) (take (length tables / 2) ts) agenda after requests s r × Narrow r
+pub runs-words : {n d i j v m : ℕ} {domains tables agenda ds ts requests after : List ℕ} {s : State} {r : Ran} → Turned domains i v ds → Turned tables j m ts
+    → RunsAt n d (take i ds) (take j ts) agenda after requests s r × Narrow r
     → RunsWords n d domains tables agenda after requests s r × Narrow r
 runs-words e f (h, narrow) = (record { left = h .left; runs = rw (← (e .said), ← (f .said)) (h .runs); said = h .said }, narrow)
 
@@ -165,13 +163,13 @@ front-runs {n} {d} {domains} {tables} {agenda} {requests} {front} {f} {s} {r} fr
         }
 
 -- The callee left x, y and z, which are turned back.
-pub loads-words : {file domains tables agenda ds ts xs domains′ tables′ agenda′ : List ℕ} {r : Loaded} {v m k : ℕ} (x y z : List ℕ)
-    → Turned domains v ds → Turned tables m ts → Turned agenda k xs
-    → length x ≡ length (take (length domains / 2) ds) → length y ≡ length (take (length tables / 2) ts) → length z ≡ length (take (length agenda / 2) xs)
-    → Loads file (take (length domains / 2) ds) x (take (length tables / 2) ts) y (take (length agenda / 2) xs) z r
-    → domains′ ≡ bytesOf (take (length domains / 2) (x ++ drop (length domains / 2) ds))
-    → tables′ ≡ bytesOf (take (length tables / 2) (y ++ drop (length tables / 2) ts))
-    → agenda′ ≡ bytesOf (take (length agenda / 2) (z ++ drop (length agenda / 2) xs))
+pub loads-words : {file domains tables agenda ds ts xs domains′ tables′ agenda′ : List ℕ} {r : Loaded} {h i j l m o : ℕ} (x y z : List ℕ)
+    → Turned domains h l ds → Turned tables i m ts → Turned agenda j o xs
+    → length x ≡ length (take h ds) → length y ≡ length (take i ts) → length z ≡ length (take j xs)
+    → Loads file (take h ds) x (take i ts) y (take j xs) z r
+    → domains′ ≡ bytesOf (take (length domains / 2) (x ++ drop h ds))
+    → tables′ ≡ bytesOf (take (length tables / 2) (y ++ drop i ts))
+    → agenda′ ≡ bytesOf (take (length agenda / 2) (z ++ drop j xs))
     → LoadsWords file domains domains′ tables tables′ agenda agenda′ r
 loads-words x y z e f g a b c h s t u = record {
   left-domains = x;
@@ -205,9 +203,8 @@ save-fits n d domains tables bytes s before after r small h = elim (ℕ-discrete
 ]
 
 -- Save at the words that the bytes say.
-pub saves-words : (n d : ℕ) {v m x : ℕ} {domains tables agenda ds ts xs : List ℕ} (s : State) (before after : List ℕ) (r : Saved) → Turned domains v ds → Turned tables m ts
-    → Turned agenda x xs → ((i : ℕ) → getD agenda i 0 < 256)
-    → Saves n d (take (length domains / 2) ds) (take (length tables / 2) ts) (take (length agenda / 2) xs) s before after r
+pub saves-words : (n d : ℕ) {i j k v m x : ℕ} {domains tables agenda ds ts xs : List ℕ} (s : State) (before after : List ℕ) (r : Saved) → Turned domains i v ds
+    → Turned tables j m ts → Turned agenda k x xs → ((i : ℕ) → getD agenda i 0 < 256) → Saves n d (take i ds) (take j ts) (take k xs) s before after r
     → Saves n d (wordsOf domains) (wordsOf tables) (wordsOf agenda) s before after r × (r .blocks < 4294967296)
 saves-words n d {domains = domains} {tables = tables} {agenda = agenda} s before after r e f g small h =
     let saves : Saves n d (wordsOf domains) (wordsOf tables) (wordsOf agenda) s before after r = rw (← (e .said), ← (f .said), ← (g .said)) h in

@@ -139,10 +139,10 @@ words-end b d m i e h k =
     take-words = ap (λ (k : ℕ). take k (wordsOf b)) (sym (words-length b)) ∙ take-length (wordsOf b)
 
 -- No bytes say no words.
-pub none-said : (b d : List ℕ) → length b ≡ 0 → take (length b / 2) d ≡ wordsOf b
+pub none-said : (b : List ℕ) → length b ≡ 0 → [] ≡ wordsOf b
 unfolding wordsOf
-none-said [] d e = refl
-none-said (x ∷ b) d e = absurd (omega arith)
+none-said [] e = refl
+none-said (x ∷ b) e = absurd (omega arith)
 
 -- The two bytes of a word more.
 pub bytes-more : (w d m : List ℕ) (i x y : ℕ) → m ≡ take (2 * i) (bytesOf w) ++ drop (2 * i) d → x ≡ getD w i 0 % 256 → y ≡ getD w i 0 / 256

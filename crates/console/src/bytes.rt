@@ -4,7 +4,7 @@ ghost use Prim.Native.Nat.{_+_, _-_, _*_, _/_, _%_, _≤_, _<_};
 ghost use lib.ListN.{length, take};
 ghost use lib.Dec.{ltb};
 ghost use Rattle.search.specs.FirstChecks.{zerosFrom};
-ghost use Rattle.console.specs.Bytes.{wordsOf, bytesOf};
+ghost use Rattle.console.specs.Bytes.{bytesOf};
 ghost use Rattle.console.specs.Work.Rooms.{fits, roomFor, few, wholeList, Fits, Turned, Front, WritesBack, Reach, FrontOf};
 
 // The word of two bytes.
@@ -14,10 +14,10 @@ fn word(low: u8, high: u8) -> u16
     (low as u16) + 256 * (high as u16)
 }
 
-// The words that the bytes say, at the front of `words`: one at least, so that no test stands before the first turn (see `none_empty`).
-pub(crate) fn words_of(bytes: &[u8], words: &mut [u16])
+// The words that the bytes say, at the front of `words`, and how many: one at least, so that no test stands before the first turn (see `none_empty`).
+pub(crate) fn words_of(bytes: &[u8], words: &mut [u16]) -> usize
     requires { ⌜ Fits (length (now bytes)) (length (now words)) ⌝ }
-    ensures { λ r. ⌜ Turned (now (bytes .entry)) (length (now (words .entry))) (now (words .exit)) ⌝ }
+    ensures { λ r. ⌜ Turned (now (bytes .entry)) r (length (now (words .entry))) (now (words .exit)) ⌝ }
 {
     let count = bytes.len() / 2;
     let mut i = 0;
@@ -25,30 +25,20 @@ pub(crate) fn words_of(bytes: &[u8], words: &mut [u16])
         words[i] = word(bytes[2 * i], bytes[2 * i + 1]);
         i += 1;
         if count <= i {
-            return;
+            return count;
         }
     }
 }
 
 // The same of bytes that may be none.
-pub(crate) fn any_words_of(bytes: &[u8], words: &mut [u16])
+pub(crate) fn any_words_of(bytes: &[u8], words: &mut [u16]) -> usize
     requires { ⌜ (length (now bytes) % 2 ≡ 0) × (length (now bytes) ≤ 2 * length (now words)) ⌝ }
-    ensures { λ r. ⌜ take (length (now (bytes .entry)) / 2) (now (words .exit)) ≡ wordsOf (now (bytes .entry)) ⌝ }
+    ensures { λ r. ⌜ Turned (now (bytes .entry)) r (length (now (words .entry))) (now (words .exit)) ⌝ }
 {
     if bytes.len() == 0 {
-        return;
+        return 0;
     }
-    words_of(bytes, words);
-}
-
-// The words of domains, zeros after them. These are few enough to be handed out; tables and agenda are made where they stand, or they would be copied.
-pub(crate) fn domain_words(bytes: &[u8]) -> [u16; 32]
-    requires { ⌜ Fits (length (now bytes)) 32 ⌝ }
-    ensures { λ r. ⌜ Turned (now (bytes .entry)) 32 r ⌝ }
-{
-    let mut words = [0u16; 32];
-    words_of(bytes, &mut words);
-    words
+    words_of(bytes, words)
 }
 
 // The bytes that say the first of the words, as many as there is room for.

@@ -22,14 +22,12 @@ fn open_words(n: usize, d: usize, domains: &[u8], tables: &[u8], agenda: &mut [u
     requires { ⌜ Room (now domains) (now tables) (now agenda) ⌝ }
     ensures { λ r. ⌜ OpensWords n d (now (domains .entry)) (now (tables .entry)) (now (agenda .entry)) (now (agenda .exit)) r ⌝ }
 {
-    let variables = domains.len() / 2;
-    let masks = tables.len() / 2;
-    let room = agenda.len() / 2;
-    let domain_words = bytes::domain_words(domains);
+    let mut domain_words = [0u16; 32];
+    let variables = bytes::words_of(domains, &mut domain_words);
     let mut agenda_words = [0u16; 17408];
-    bytes::words_of(agenda, &mut agenda_words);
+    let room = bytes::words_of(agenda, &mut agenda_words);
     let mut table_words = [0u16; 16384];
-    bytes::words_of(tables, &mut table_words);
+    let masks = bytes::words_of(tables, &mut table_words);
     let opened = search::open(
         n,
         d,
@@ -64,12 +62,10 @@ fn run_short(
     requires { ⌜ Short (length (now agenda)) (length (now requests)) × (Listed n (length (now requests)) × (state .subproblems < 4294967296)) ⌝ }
     ensures { λ r. ⌜ RunsAt n d (now (domains .entry)) (now (tables .entry)) (now (agenda .entry)) (now (agenda .exit)) (now (requests .entry)) state r × Narrow r ⌝ }
 {
-    let room = agenda.len() / 2;
-    let count = requests.len() / 2;
     let mut words = [0u16; 8704];
-    bytes::words_of(agenda, &mut words);
+    let room = bytes::words_of(agenda, &mut words);
     let mut listed = [0u16; 560];
-    bytes::any_words_of(requests, &mut listed);
+    let count = bytes::any_words_of(requests, &mut listed);
     let ran = search::run(
         n,
         d,
@@ -103,9 +99,8 @@ fn run_long(
     requires { ⌜ Fits (length (now agenda)) 17408 × (Listed n (length (now requests)) × (state .subproblems < 4294967296)) ⌝ }
     ensures { λ r. ⌜ RunsAt n d (now (domains .entry)) (now (tables .entry)) (now (agenda .entry)) (now (agenda .exit)) (now (requests .entry)) state r × Narrow r ⌝ }
 {
-    let room = agenda.len() / 2;
     let mut words = [0u16; 17408];
-    bytes::words_of(agenda, &mut words);
+    let room = bytes::words_of(agenda, &mut words);
     let ran = parts::run_parts(n, d, domains, tables, &mut words[..room], requests, state);
     bytes::write_back(
         n,
@@ -131,11 +126,10 @@ fn run_words(
     requires { ⌜ Room (now domains) (now tables) (now agenda) × (Listed n (length (now requests)) × (state .subproblems < 4294967296)) ⌝ }
     ensures { λ r. ⌜ RunsWords n d (now (domains .entry)) (now (tables .entry)) (now (agenda .entry)) (now (agenda .exit)) (now (requests .entry)) state r × Narrow r ⌝ }
 {
-    let variables = domains.len() / 2;
-    let masks = tables.len() / 2;
-    let domain_words = bytes::domain_words(domains);
+    let mut domain_words = [0u16; 32];
+    let variables = bytes::words_of(domains, &mut domain_words);
     let mut table_words = [0u16; 16384];
-    bytes::words_of(tables, &mut table_words);
+    let masks = bytes::words_of(tables, &mut table_words);
     let domains = &domain_words[..variables];
     let tables = &table_words[..masks];
     if bytes::few(agenda.len(), requests.len()) {
@@ -180,14 +174,12 @@ fn choose_words(
     requires { ⌜ Room (now domains) (now tables) (now agenda) × (state .subproblems < 4294967296) ⌝ }
     ensures { λ r. ⌜ ChoosesWords n d (now (domains .entry)) (now (tables .entry)) (now (agenda .entry)) (now (agenda .exit)) limit state r × Narrow r ⌝ }
 {
-    let variables = domains.len() / 2;
-    let masks = tables.len() / 2;
-    let room = agenda.len() / 2;
-    let domain_words = bytes::domain_words(domains);
+    let mut domain_words = [0u16; 32];
+    let variables = bytes::words_of(domains, &mut domain_words);
     let mut agenda_words = [0u16; 17408];
-    bytes::words_of(agenda, &mut agenda_words);
+    let room = bytes::words_of(agenda, &mut agenda_words);
     let mut table_words = [0u16; 16384];
-    bytes::words_of(tables, &mut table_words);
+    let masks = bytes::words_of(tables, &mut table_words);
     let ran = search::choose(
         n,
         d,
@@ -233,14 +225,12 @@ fn save_words(
     requires { ⌜ Room (now domains) (now tables) (now agenda) ⌝ }
     ensures { λ r. ⌜ Saves n d (wordsOf (now (domains .entry))) (wordsOf (now (tables .entry))) (wordsOf (now (agenda .entry))) state (now (file .entry)) (now (file .exit)) r × (r .blocks < 4294967296) ⌝ }
 {
-    let variables = domains.len() / 2;
-    let masks = tables.len() / 2;
-    let room = agenda.len() / 2;
-    let domain_words = bytes::domain_words(domains);
+    let mut domain_words = [0u16; 32];
+    let variables = bytes::words_of(domains, &mut domain_words);
     let mut agenda_words = [0u16; 17408];
-    bytes::words_of(agenda, &mut agenda_words);
+    let room = bytes::words_of(agenda, &mut agenda_words);
     let mut table_words = [0u16; 16384];
-    bytes::words_of(tables, &mut table_words);
+    let masks = bytes::words_of(tables, &mut table_words);
     files::save(
         n,
         d,
@@ -275,14 +265,12 @@ fn load_words(file: &[u8], domains: &mut [u8], tables: &mut [u8], agenda: &mut [
     requires { ⌜ Room (now domains) (now tables) (now agenda) ⌝ }
     ensures { λ r. ⌜ LoadsWords (now (file .entry)) (now (domains .entry)) (now (domains .exit)) (now (tables .entry)) (now (tables .exit)) (now (agenda .entry)) (now (agenda .exit)) r ⌝ }
 {
-    let variables = domains.len() / 2;
-    let masks = tables.len() / 2;
-    let room = agenda.len() / 2;
-    let mut domain_words = bytes::domain_words(domains);
+    let mut domain_words = [0u16; 32];
+    let variables = bytes::words_of(domains, &mut domain_words);
     let mut agenda_words = [0u16; 17408];
-    bytes::words_of(agenda, &mut agenda_words);
+    let room = bytes::words_of(agenda, &mut agenda_words);
     let mut table_words = [0u16; 16384];
-    bytes::words_of(tables, &mut table_words);
+    let masks = bytes::words_of(tables, &mut table_words);
     let loaded = files::load(
         file,
         &mut domain_words[..variables],

@@ -47,8 +47,7 @@ fn run_part(
     ensures { λ r. ⌜ Runs n d (now (domains .entry)) (now (tables .entry)) (now (agenda .entry)) (now (agenda .exit)) (wordsOf (now (requests .entry))) state r ⌝ }
 {
     let mut words = [0u16; 7000];
-    let count = requests.len() / 2;
-    bytes::any_words_of(requests, &mut words);
+    let count = bytes::any_words_of(requests, &mut words);
     search::run(n, d, domains, tables, agenda, &words[..count], state)
 }
 

@@ -25,7 +25,20 @@ same-length : tie.Need-same-length
 same-length c = search needs
 
 returns : tie.Need-returns
-returns c = record { outcome = c .before .before .before .before .before .choose .result; chooses = chooses-state _ _ _ _ _ _ _ _ _ _ (c .before .before .before .before .before .before .before .state-of .ensures .0) (c .before .before .before .before .before .choose .ensures .0); hands-out = record { its-refusal = refl; its-steps = refl; its-checks = refl; its-subproblems = refl; its-verdict = c .before .number-of .ensures; its-taken = refl } }
+returns c =
+    let chosen = c .before .before .before .before .before in
+    record {
+      outcome = chosen .choose .result;
+      chooses = chooses-state _ _ _ _ _ _ _ _ _ _ (chosen .before .before .state-of .ensures .0) (chosen .choose .ensures .0);
+      hands-out = record {
+        its-refusal = refl;
+        its-steps = refl;
+        its-checks = refl;
+        its-subproblems = refl;
+        its-verdict = c .before .number-of .ensures;
+        its-taken = refl;
+      };
+    }
 
 pub rastwob-choose-spec : {M : Type 1} → statement M
 rastwob-choose-spec =

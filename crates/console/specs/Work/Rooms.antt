@@ -40,11 +40,12 @@ pub record Room (domains tables agenda : List ℕ) : Type 0 where
   pub of-tables : Fits (length tables) 16384
   pub of-agenda : Fits (length agenda) 17408
 
--- So many words, that begin with those that the bytes say.
-pub record Turned (bytes : List ℕ) (most : ℕ) (words : List ℕ) : Type 0 where
+-- So many words, the first k of them those that the bytes say.
+pub record Turned (bytes : List ℕ) (k most : ℕ) (words : List ℕ) : Type 0 where
+  pub count : k ≡ length bytes / 2
   pub long : length words ≡ most
-  pub room : length bytes / 2 ≤ length words
-  pub said : take (length bytes / 2) words ≡ wordsOf bytes
+  pub room : k ≤ length words
+  pub said : take k words ≡ wordsOf bytes
 
 -- Of so many words the first r: what comes after them is past the slots used before and after.
 pub record Front (n before after words r : ℕ) : Type 0 where

@@ -55,6 +55,7 @@ returns c =
     let inv = c .before .before .before .before .loop .inv in
     let more = word-more _ _ _ _ _ (inv .1 .1) (c .before .word .ensures) (inv .0) (omega arith) in
     record {
+      count = refl;
       long = simp length-set (inv .1 .0);
       room = simp length-set (omega arith);
       said = words-end _ _ _ _ more (omega arith) (c .if1 .taken);

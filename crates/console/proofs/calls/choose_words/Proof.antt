@@ -6,38 +6,41 @@ use Rattle.console.proofs.Lending.{count-is, left-long, left-asks, choo
 use Rattle.console.proofs.calls.choose_words.Statement.{statement}
 use Rattle.console.proofs.calls.choose_words.Tie as tie
 
-domain-words-requires : tie.Need-domain-words-requires
-domain-words-requires c κs = c .before .before .before .pre .0 .of-domains
-
 slice-aggregate-words-of : tie.Need-slice-aggregate-words-of
 slice-aggregate-words-of c = refl
 
 words-of-requires : tie.Need-words-of-requires
-words-of-requires c κs = c .before .before .before .before .before .before .pre .0 .of-agenda
+words-of-requires c κs = c .before .before .before .before .pre .0 .of-domains
 
 slice-aggregate-words-of-2 : tie.Need-slice-aggregate-words-of-2
 slice-aggregate-words-of-2 c = refl
 
 words-of-requires-2 : tie.Need-words-of-requires-2
-words-of-requires-2 c κs = c .before .before .before .before .before .before .before .before .before .pre .0 .of-tables
+words-of-requires-2 c κs = c .before .before .before .before .before .before .before .before .pre .0 .of-agenda
+
+slice-aggregate-words-of-3 : tie.Need-slice-aggregate-words-of-3
+slice-aggregate-words-of-3 c = refl
+
+words-of-requires-3 : tie.Need-words-of-requires-3
+words-of-requires-3 c κs = c .before .before .before .before .before .before .before .before .before .before .before .pre .0 .of-tables
 
 array-share-prefix-domain-words : tie.Need-array-share-prefix-domain-words
-array-share-prefix-domain-words c = c .before .before .before .before .before .before .before .domain-words .ensures .room
+array-share-prefix-domain-words c = c .before .before .before .before .before .before .before .before .words-of .ensures .room
 
 slice-aggregate-choose : tie.Need-slice-aggregate-choose
-slice-aggregate-choose c = count-is (c .before .before .before .before .before .before .before .before .domain-words .ensures)
+slice-aggregate-choose c = count-is (c .before .before .before .before .before .before .before .before .before .words-of .ensures)
 
 array-share-prefix-table-words : tie.Need-array-share-prefix-table-words
-array-share-prefix-table-words c = c .before .before .words-of2 .ensures .room
+array-share-prefix-table-words c = c .before .before .words-of3 .ensures .room
 
 slice-aggregate-choose-2 : tie.Need-slice-aggregate-choose-2
-slice-aggregate-choose-2 c = count-is (c .before .before .before .words-of2 .ensures)
+slice-aggregate-choose-2 c = count-is (c .before .before .before .words-of3 .ensures)
 
 array-borrow-prefix-agenda-words : tie.Need-array-borrow-prefix-agenda-words
-array-borrow-prefix-agenda-words c = c .before .before .before .before .before .before .words-of .ensures .room
+array-borrow-prefix-agenda-words c = c .before .before .before .before .before .before .words-of2 .ensures .room
 
 slice-aggregate-choose-3 : tie.Need-slice-aggregate-choose-3
-slice-aggregate-choose-3 c = count-is (c .before .before .before .before .before .before .before .words-of .ensures)
+slice-aggregate-choose-3 c = count-is (c .before .before .before .before .before .before .before .words-of2 .ensures)
 
 choose-requires : tie.Need-choose-requires
 choose-requires c κs = tt
@@ -45,12 +48,13 @@ choose-requires c κs = tt
 slice-aggregate-bytes-of : tie.Need-slice-aggregate-bytes-of
 slice-aggregate-bytes-of c =
     let called = c .before .before in
-    left-long (called .choose .last .1 .1 .1 .1 .0) (called .before .before .before .before .before .before .before .before .words-of .ensures) (called .choose .kept .1 .1 .1 .1 .0)
+    left-long (called .choose .last .1 .1 .1 .1 .0) (called .before .before .before .before .before .before .before .before .words-of2 .ensures) (called .choose .kept .1 .1 .1 .1 .0)
 
 bytes-of-requires : tie.Need-bytes-of-requires
 bytes-of-requires c κs =
     let called = c .before .before .before in
-    left-asks (called .choose .last .1 .1 .1 .1 .0) (called .before .before .before .before .before .before .before .before .words-of .ensures) (called .choose .kept .1 .1 .1 .1 .0) (called .before .before .before .before .before .before .before .before .before .before .before .before .before .before .before .pre .0 .of-agenda .even)
+    let agenda = called .before .before .before .before .before .before .before .before in
+    left-asks (called .choose .last .1 .1 .1 .1 .0) (agenda .words-of2 .ensures) (called .choose .kept .1 .1 .1 .1 .0) (agenda .before .before .before .before .before .before .before .before .before .pre .0 .of-agenda .even)
 
 same-length : tie.Need-same-length
 same-length c = c .before .before .bytes-of .kept .1 .0
@@ -58,20 +62,26 @@ same-length c = c .before .before .bytes-of .kept .1 .0
 returns : tie.Need-returns
 returns c =
     let called = c .before .before .before .before .before .before in
-    let start = called .before .before .before .before .before .before .before .before .before .before .before .before .before .before .before in
-    let chosen = chooses-words (called .choose .last .1 .1 .1 .1 .0) (called .before .before .before .before .before .before .before .before .before .before .before .domain-words .ensures) (called .before .before .before .before .before .words-of2 .ensures) (called .before .before .before .before .before .before .before .before .words-of .ensures)
-    (called .choose .kept .1 .1 .1 .1 .0) (c .before .before .bytes-of .ensures) (called .choose .ensures) in
-    (chosen, choose-fits (λ i. omega (arith, called .before .before .before .before .before .before .before .before .before .before .before .before .slice-known .given i)) (omega (arith, start .good .1 .1 .1 .1 .1 .1 .0)) (start .pre .1) chosen)
+    let tables = called .before .before .before .before .before in
+    let agenda = tables .before .before .before in
+    let known = agenda .before .before .before .before .before .before in
+    let start = known .before .before .before in
+    let ran = called .choose in
+    let domains = agenda .before .before .before .before .words-of .ensures in
+    let after = c .before .before .bytes-of .ensures in
+    let chosen = chooses-words (ran .last .1 .1 .1 .1 .0) domains (tables .words-of3 .ensures) (agenda .words-of2 .ensures) (ran .kept .1 .1 .1 .1 .0) after (ran .ensures) in
+    (chosen, choose-fits (λ i. omega (arith, known .slice-known .given i)) (omega (arith, start .good .1 .1 .1 .1 .1 .1 .0)) (start .pre .1) chosen)
 
 pub choose-words-spec : {M : Type 1} → statement M
 choose-words-spec =
     tie.close
     (tie.spec
-    domain-words-requires
     slice-aggregate-words-of
     words-of-requires
     slice-aggregate-words-of-2
     words-of-requires-2
+    slice-aggregate-words-of-3
+    words-of-requires-3
     array-share-prefix-domain-words
     slice-aggregate-choose
     array-share-prefix-table-words

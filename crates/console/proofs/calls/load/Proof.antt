@@ -1,7 +1,9 @@
 -- `console::calls::load` meets its contract.
 -- Assumes nothing.
-use Rattle.console.proofs.Rooms.{room-true}
+use Prim.Native.Nat.{ℕ, _<_}
 use native.Mathlib.Omega.{arith}
+use lib.ListN.{getD}
+use Rattle.console.proofs.Rooms.{room-true}
 use Rattle.console.proofs.Refusing.{loads-turned, loads-refused}
 use borrow.Author.Needs.{needs}
 use Rattle.console.proofs.calls.load.Statement.{statement}
@@ -23,13 +25,21 @@ same-length-3 : tie.Need-same-length-3
 same-length-3 c = search needs
 
 returns : tie.Need-returns
-returns c = loads-turned _ _ _ _ _ (c .before .before .before .before .before .before .before .before .before .before .before .room-for .ensures) _ _ _ _ (c .before .before .before .before .before .before .before .before .before .before .if1 .taken) (c .before .before .before .before .before .before .load-words .ensures)
+returns c =
+    let loaded = c .before .before .before .before .before .before in
+    let room = loaded .before .before .before .before .before in
+    loads-turned _ _ _ _ _ (room .room-for .ensures) _ _ _ _ (loaded .before .before .before .before .if1 .taken) (loaded .load-words .ensures)
 
 load-none-requires : tie.Need-load-none-requires
 load-none-requires c κs = search needs
 
 returns-2 : tie.Need-returns-2
-returns-2 c = loads-refused _ _ _ _ _ (c .before .before .room-for .ensures) _ (c .before .if1 .left) (λ i. omega (arith, c .before .before .before .before .before .slice-known .given i)) (λ i. omega (arith, c .before .before .before .before .slice-known2 .given i)) (λ i. omega (arith, c .before .before .before .slice-known3 .given i)) (c .load-none .ensures)
+returns-2 c =
+    let known = c .before .before .before in
+    let domains : (i : ℕ) → getD (known .before .before .before .before .args .domains .now) i 0 < 256 = λ i. omega (arith, known .before .before .slice-known .given i) in
+    let tables : (i : ℕ) → getD (known .before .before .before .before .args .tables .now) i 0 < 256 = λ i. omega (arith, known .before .slice-known2 .given i) in
+    let agenda : (i : ℕ) → getD (known .before .before .before .before .args .agenda .now) i 0 < 256 = λ i. omega (arith, known .slice-known3 .given i) in
+    loads-refused _ _ _ _ _ (c .before .before .room-for .ensures) _ (c .before .if1 .left) domains tables agenda (c .load-none .ensures)
 
 pub load-spec : {M : Type 1} → statement M
 load-spec =

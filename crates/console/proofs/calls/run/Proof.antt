@@ -46,9 +46,12 @@ same-length c = search needs
 returns-2 : tie.Need-returns-2
 returns-2 c =
     let ran = c .before .before .run-words in
-    let listed = listed-then _ _ _ (c .before .before .before .before .before .before .before .whole-list .ensures) (c .before .before .before .before .before .before .if2 .taken) in
-    let runs = front-runs (c .before .before .before .before .front-of .ensures) listed (ran .kept .1 .1 .1 .1 .0) (ran .ensures .0) in
-    (runs-turned _ _ _ _ _ _ _ (c .before .before .before .before .before .before .before .before .before .room-for .ensures) _ _ _ _ (c .before .before .before .before .before .before .before .before .if1 .left) (c .before .before .before .before .before .before .before .whole-list .ensures) (c .before .before .before .before .before .before .if2 .taken) runs, ran .ensures .1)
+    let front = c .before .before .before .before .front-of .ensures in
+    let list = c .before .before .before .before .before .before .before .whole-list .ensures in
+    let listed = listed-then _ _ _ list (c .before .before .before .before .before .before .if2 .taken) in
+    let runs = front-runs front listed (ran .kept .1 .1 .1 .1 .0) (ran .ensures .0) in
+    let room = c .before .before .before .before .before .before .before .before .before .room-for .ensures in
+    (runs-turned _ _ _ _ _ _ _ room _ _ _ _ (c .before .before .before .before .before .before .before .before .if1 .left) list (c .before .before .before .before .before .before .if2 .taken) runs, ran .ensures .1)
 
 refused-requires-2 : tie.Need-refused-requires-2
 refused-requires-2 c κs = search needs

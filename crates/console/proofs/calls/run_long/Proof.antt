@@ -32,7 +32,8 @@ write-back-requires : tie.Need-write-back-requires
 write-back-requires c κs =
     let pre = c .before .before .before .before .before .before .before .before .before .before .before .before .before .pre in
     let ran = c .before .before .before .run-parts in
-    (pre .1 .0 .few, (pre .1 .1, (ran .ensures .1 .subproblems, left-bytes (ran .last .1 .1 .1 .1 .0) (c .before .before .before .before .before .before .words-of .ensures) (ran .kept .1 .1 .1 .1 .0) (pre .0 .even))))
+    let bytes = left-bytes (ran .last .1 .1 .1 .1 .0) (c .before .before .before .before .before .before .words-of .ensures) (ran .kept .1 .1 .1 .1 .0) (pre .0 .even) in
+    (pre .1 .0 .few, (pre .1 .1, (ran .ensures .1 .subproblems, bytes)))
 
 same-length : tie.Need-same-length
 same-length c = search needs
@@ -41,9 +42,10 @@ returns : tie.Need-returns
 returns c =
     let called = c .before .before .before .before .before .before in
     let turned = called .before .before .before in
-    let start = turned .before .before .before .before .before .before .before in
+    let known = turned .before .before .before .before in
+    let start = known .before .before .before in
     let ran = called .run-parts in (
-      runs-at (ran .last .1 .1 .1 .1 .0) (turned .words-of .ensures) (start .pre .0 .even) (ran .kept .1 .1 .1 .1 .0) (λ i. omega (arith, turned .before .before .before .before .slice-known .given i))
+      runs-at (ran .last .1 .1 .1 .1 .0) (turned .words-of .ensures) (start .pre .0 .even) (ran .kept .1 .1 .1 .1 .0) (λ i. omega (arith, known .slice-known .given i))
           (omega (arith, start .good .1 .1 .1 .1 .1 .1 .0)) (start .pre .1 .0) (ran .ensures .0) (c .before .before .write-back .ensures),
       ran .ensures .1,
     )

@@ -1,10 +1,9 @@
 -- `console::calls::run_short` meets its contract.
 -- Assumes nothing.
-use mathlib.Core.Path.{refl, sym}
+use mathlib.Core.Path.{refl}
 use Prim.Native.Nat.{ℕ, _^_, _<_}
 use native.Mathlib.Omega.{arith}
 use lib.ListN.{getD}
-use lib.Seq.{length-take-le}
 use Rattle.console.proofs.Lending.{count-is, left-fits, left-count, left-bytes, few-runs, runs-at}
 use borrow.Author.Needs.{needs}
 use Rattle.console.proofs.calls.run_short.Statement.{statement}
@@ -29,10 +28,10 @@ slice-aggregate-run : tie.Need-slice-aggregate-run
 slice-aggregate-run c = count-is (c .before .before .before .before .before .words-of .ensures)
 
 array-share-prefix-listed : tie.Need-array-share-prefix-listed
-array-share-prefix-listed c = search needs
+array-share-prefix-listed c = c .before .before .any-words-of .ensures .room
 
 slice-aggregate-run-2 : tie.Need-slice-aggregate-run-2
-slice-aggregate-run-2 c = sym (length-take-le _ _ (omega (arith, c .before .before .before .any-words-of .kept .1 .0, c .before .before .before .before .before .before .before .before .before .before .before .before .before .pre .0 .of-requests)))
+slice-aggregate-run-2 c = count-is (c .before .before .before .any-words-of .ensures)
 
 run-requires : tie.Need-run-requires
 run-requires c κs = tt
@@ -47,10 +46,12 @@ write-back-requires : tie.Need-write-back-requires
 write-back-requires c κs =
     let called = c .before .before .before in
     let turned = called .before .before .before .before .before .before .before in
-    let start = turned .before .before .before .before .before .before .before in
-    let runs = few-runs _ _ _ _ (called .run .last .1 .1 .1 .1 .0) _ _ _ _ (turned .words-of .ensures) (called .before .before .before .before .any-words-of .ensures) (λ i. omega (arith, turned .before .before .before .before .slice-known .given i))
+    let known = turned .before .before .before .before in
+    let start = known .before .before .before in
+    let runs = few-runs _ _ _ _ (called .run .last .1 .1 .1 .1 .0) _ _ (turned .words-of .ensures) (called .before .before .before .before .any-words-of .ensures) (λ i. omega (arith, known .slice-known .given i))
     (omega (arith, start .good .1 .1 .1 .1 .1 .1 .0)) (start .pre .1 .1) (start .pre .1 .0) (called .run .ensures) in
-    (start .pre .1 .0 .few, (start .pre .1 .1, (runs .1 .subproblems, left-bytes (called .run .last .1 .1 .1 .1 .0) (turned .words-of .ensures) (called .run .kept .1 .1 .1 .1 .0) (start .pre .0 .of-agenda .even))))
+    let bytes = left-bytes (called .run .last .1 .1 .1 .1 .0) (turned .words-of .ensures) (called .run .kept .1 .1 .1 .1 .0) (start .pre .0 .of-agenda .even) in
+    (start .pre .1 .0 .few, (start .pre .1 .1, (runs .1 .subproblems, bytes)))
 
 same-length : tie.Need-same-length
 same-length c = search needs
@@ -59,11 +60,12 @@ returns : tie.Need-returns
 returns c =
     let called = c .before .before .before .before .before .before in
     let turned = called .before .before .before .before .before .before .before in
-    let start = turned .before .before .before .before .before .before .before in
-    let small : (i : ℕ) → getD (start .args .agenda .now) i 0 < 256 = λ i. omega (arith, turned .before .before .before .before .slice-known .given i) in
+    let known = turned .before .before .before .before in
+    let start = known .before .before .before in
+    let small : (i : ℕ) → getD (start .args .agenda .now) i 0 < 256 = λ i. omega (arith, known .slice-known .given i) in
     let stepped : start .args .state .counts .steps .0 < 2 ^ 32 = omega (arith, start .good .1 .1 .1 .1 .1 .1 .0) in
-    let runs = few-runs _ _ _ _ (called .run .last .1 .1 .1 .1 .0) _ _ _ _ (turned .words-of .ensures) (called .before .before .before .before .any-words-of .ensures) small stepped (start .pre .1 .1) (start .pre .1 .0)
-    (called .run .ensures) in (
+    let runs = few-runs _ _ _ _ (called .run .last .1 .1 .1 .1 .0) _ _ (turned .words-of .ensures) (called .before .before .before .before .any-words-of .ensures) small stepped (start .pre .1 .1)
+    (start .pre .1 .0) (called .run .ensures) in (
       runs-at (called .run .last .1 .1 .1 .1 .0) (turned .words-of .ensures) (start .pre .0 .of-agenda .even) (called .run .kept .1 .1 .1 .1 .0) small stepped (start .pre .1 .0) (runs .0)
           (c .before .before .write-back .ensures),
       runs .1,

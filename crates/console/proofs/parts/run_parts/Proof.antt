@@ -51,8 +51,11 @@ same-length c = search needs
 
 returns : tie.Need-returns Inv-loop μ-loop
 returns c =
-    let start = c .before .before .before .before .before .before .before .before .before .before .before .before .before in
-    returns-end (c .before .before .before .before .before .before .before .before .loop .inv) (c .before .before .before .before .before .before .before .end-of .ensures) (c .before .before .before .before .run-part .ensures) (start .pre .0) (λ i. omega (arith, c .before .before .before .before .before .before .before .before .before .before .slice-known .given i)) (start .pre .1) (c .if1 .taken)
+    let ran = c .before .before .before .before .run-part .ensures in
+    let part = c .before .before .before .before .before .before .before .end-of .ensures in
+    let known = c .before .before .before .before .before .before .before .before .before .before in
+    let pre = known .before .before .before .pre in
+    returns-end (c .before .before .before .before .before .before .before .before .loop .inv) part ran (pre .0) (λ i. omega (arith, known .slice-known .given i)) (pre .1) (c .if1 .taken)
 
 goes-on-requires : tie.Need-goes-on-requires Inv-loop μ-loop
 goes-on-requires c κs = search needs
@@ -62,9 +65,11 @@ same-length-2 c = search needs
 
 returns-2 : tie.Need-returns-2 Inv-loop μ-loop
 returns-2 c =
-    let start = c .before .before .before .before .before .before .before .before .before .before .before .before .before .before .before in
-    returns-stop (c .before .before .before .before .before .before .before .before .before .before .loop .inv) (c .before .before .before .before .before .before .before .before .before .end-of .ensures) (c .before .before .before .before .before .before .run-part .ensures) (start .pre .0) (λ i. omega (arith, c .before .before .before .before .before .before .before .before .before .before .before .before .slice-known .given i)) (start .pre .1)
-    _ (c .before .goes-on .ensures) (c .if2 .taken)
+    let ran = c .before .before .before .before .before .before .run-part .ensures in
+    let part = c .before .before .before .before .before .before .before .before .before .end-of .ensures in
+    let known = c .before .before .before .before .before .before .before .before .before .before .before .before in
+    let pre = known .before .before .before .pre in
+    returns-stop (c .before .before .before .before .before .before .before .before .before .before .loop .inv) part ran (pre .0) (λ i. omega (arith, known .slice-known .given i)) (pre .1) _ (c .before .goes-on .ensures) (c .if2 .taken)
 
 loop-less : tie.Need-loop-less Inv-loop μ-loop
 loop-less c = let part = c .before .before .before .before .before .before .before .before .before .before .end-of .ensures in omega (arith, part .more (c .before .before .before .if1 .left), part .within)
