@@ -38,7 +38,8 @@ count-is {words = words} {k = k} t = sym (length-take-le k words (t .room))
 drop-same : (k : ℕ) (a b : List ℕ) → length a ≡ length b → ((i : ℕ) → k ≤ i → i < length a → getD a i 0 ≡ getD b i 0) → drop k a ≡ drop k b
 drop-same k a b e h =
     ext-getD 0 (drop k a) (drop k b) (simp length-drop (omega arith))
-    (λ i l. let inside : k + i < length a = omega (arith, length-drop k a) in getD-drop k a i 0 ∙ h (k + i) (omega arith) inside ∙ sym (getD-drop k b i 0))
+    (λ i l. let inside : k + i < length a = omega (arith, length-drop k a) in getD-drop k a i 0 ∙ h (k + i) (omega arith) inside ∙ sym
+    (getD-drop k b i 0))
 
 -- A callee left y in the part that was lent to it.
 module _ {b words : List ℕ} {k most : ℕ} (y : List ℕ) (t : Turned b k most words) (kept : length y ≡ length (take k words)) where
@@ -80,19 +81,22 @@ module _ {n d i j k v m x : ℕ} {domains tables agenda ds ts xs after : List �
   chooses-words h = record { left = y; chooses = rw (← (e .said), ← (f .said), ← (g .said)) h; said = left-said y g kept said }
 
 -- A run that left y in the part of the words that was lent to it, of which what can have changed is written back.
-pub runs-at : {n d k most : ℕ} {domains tables agenda xs requests after : List ℕ} {s : State} {r : Ran} (y : List ℕ) → Turned agenda k most xs → Whole agenda
+pub runs-at : {n d k most : ℕ} {domains tables agenda xs requests after : List ℕ} {s : State} {r : Ran} (y : List ℕ) → Turned agenda k most xs
+    → Whole agenda
     → length y ≡ length (take k xs) → ((i : ℕ) → getD agenda i 0 < 256) → s .counts .steps .0 < 2 ^ 32 → Listed n (length requests)
     → Runs n d domains tables (take k xs) y (wordsOf requests) s r
     → WritesBack n (s .subproblems) (r .taken) (r .state .subproblems) (take k (y ++ drop k xs)) agenda after
     → RunsAt n d domains tables agenda after requests s r
-runs-at {n} {d} {domains = domains} {tables = tables} {agenda = agenda} {requests = requests} {after = after} {s = s} {r = r} y t w kept small stepped listed h written =
+runs-at {n} {d} {domains = domains} {tables = tables} {agenda = agenda} {requests = requests} {after = after} {s = s} {r = r} y t w kept small stepped
+    listed h written =
     let runs : Runs n d domains tables (wordsOf agenda) y (wordsOf requests) s r = rw (← (t .said)) h in
     let back : WritesBack n (s .subproblems) (r .taken) (r .state .subproblems) y agenda after = rw (left-again y t kept) at written in
     let long : length y ≡ length (wordsOf agenda) = kept ∙ ap length (t .said) in
     let whole = whole-words n requests (listed .requests, listed .whole) in
     let fits : s .counts .steps .0 ≤ 4294967295 = omega arith in
     let low : take (back .from) y ≡ take (back .from) (wordsOf agenda) =
-    sym (take-take (back .from) _ y (back .lower)) ∙ ap (take (back .from)) (run-lower n d domains tables (wordsOf agenda) s (words-small agenda small) fits y (wordsOf requests) r whole runs)
+    sym (take-take (back .from) _ y (back .lower)) ∙ ap (take (back .from))
+    (run-lower n d domains tables (wordsOf agenda) s (words-small agenda small) fits y (wordsOf requests) r whole runs)
     ∙ take-take (back .from) _ (wordsOf agenda) (back .lower) in
     let past : drop (back .to) y ≡ drop (back .to) (wordsOf agenda) =
     drop-same (back .to) y (wordsOf agenda) long
@@ -101,7 +105,8 @@ runs-at {n} {d} {domains = domains} {tables = tables} {agenda = agenda} {request
     record { left = y; runs = runs; said = back .said ∙ middle-said (back .from) (back .to) agenda y w small (back .order) low past }
 
 -- A run of a list that was turned into words whole: what it returns fits 32 bits.
-pub few-runs : (n d : ℕ) {j k l most : ℕ} (domains tables : List ℕ) {agenda xs requests words : List ℕ} (y : List ℕ) (s : State) (r : Ran) → Turned agenda k most xs
+pub few-runs : (n d : ℕ) {j k l most : ℕ} (domains tables : List ℕ) {agenda xs requests words : List ℕ} (y : List ℕ) (s : State) (r : Ran)
+    → Turned agenda k most xs
     → Turned requests j l words → ((i : ℕ) → getD agenda i 0 < 256) → s .counts .steps .0 < 2 ^ 32 → s .subproblems < 4294967296
     → Listed n (length requests) → Runs n d domains tables (take k xs) y (take j words) s r
     → Runs n d domains tables (take k xs) y (wordsOf requests) s r × Narrow r
@@ -112,7 +117,8 @@ few-runs n d {k = k} domains tables {agenda} {xs} {requests} y s r t e small ste
     (list, run-narrow n d domains tables (wordsOf agenda) s (words-small agenda small) (omega arith) y (wordsOf requests) r whole few runs)
 
 -- A run at the words that the bytes of the problem say.
-pub runs-words : {n d i j v m : ℕ} {domains tables agenda ds ts requests after : List ℕ} {s : State} {r : Ran} → Turned domains i v ds → Turned tables j m ts
+pub runs-words : {n d i j v m : ℕ} {domains tables agenda ds ts requests after : List ℕ} {s : State} {r : Ran} → Turned domains i v ds
+    → Turned tables j m ts
     → RunsAt n d (take i ds) (take j ts) agenda after requests s r × Narrow r
     → RunsWords n d domains tables agenda after requests s r × Narrow r
 runs-words e f (h, narrow) = (record { left = h .left; runs = rw (← (e .said), ← (f .said)) (h .runs); said = h .said }, narrow)
@@ -125,12 +131,14 @@ zeros-said b h i = elim (decLt (2 * i + 1) (length b)) [
 ]
 
 -- A run in the front of an agenda that tells how it ends is the run in all of it.
-pub front-runs : {n d : ℕ} {domains tables agenda requests front : List ℕ} {f : ℕ} {s : State} {r : Ran} → FrontOf n (s .subproblems) (length requests) agenda f
+pub front-runs : {n d : ℕ} {domains tables agenda requests front : List ℕ} {f : ℕ} {s : State} {r : Ran}
+    → FrontOf n (s .subproblems) (length requests) agenda f
     → Listed n (length requests) → length front ≡ length (take f agenda) → RunsWords n d domains tables (take f agenda) front requests s r
     → RunsWords n d domains tables agenda (front ++ drop f agenda) requests s r
 front-runs {n} {d} {domains} {tables} {agenda} {requests} {front} {f} {s} {r} fronts listed kept h = go (fronts .reach .how)
   where
-    go : Shorter n (s .subproblems) (length requests) (length agenda) f ⊎ (f ≡ length agenda) → RunsWords n d domains tables agenda (front ++ drop f agenda) requests s r
+    go : Shorter n (s .subproblems) (length requests) (length agenda) f ⊎ (f ≡ length agenda)
+        → RunsWords n d domains tables agenda (front ++ drop f agenda) requests s r
     go (inr e) =
         let all : take f agenda ≡ agenda = take-all f agenda (omega arith) in
         let past : length agenda ≤ f = omega arith in
@@ -153,7 +161,8 @@ front-runs {n} {d} {domains} {tables} {agenda} {requests} {front} {f} {s} {r} fr
         let added : (n + 1) * length (requestsIn n (wordsOf requests)) ≡ (n + 1) * (length requests / (2 * (n + 3))) =
         ap (λ (k : ℕ). (n + 1) * k) (requests-count n requests listed) in
         let runs : Runs n d (wordsOf domains) (wordsOf tables) (a ++ z) (h .left ++ z) (wordsOf requests) s r =
-        runs-front n d (wordsOf domains) (wordsOf tables) a (h .left) z (wordsOf requests) s r (short .slots) (short .all) its whole (omega (arith, short .room)) (short .within) (short .few) left
+        runs-front n d (wordsOf domains) (wordsOf tables) a (h .left) z (wordsOf requests) s r (short .slots) (short .all) its whole
+        (omega (arith, short .room)) (short .within) (short .few) left
         (zeros-said (drop f agenda) zeros) (omega (arith, short .room)) (h .runs) in
         record {
           left = h .left ++ z;
@@ -187,7 +196,8 @@ loads-words x y z e f g a b c h s t u = record {
 pub choose-fits : {n d : ℕ} {domains tables before after : List ℕ} {limit : ℕ} {s : State} {r : Ran} → ((i : ℕ) → getD before i 0 < 256)
     → s .counts .steps .0 < 2 ^ 32 → s .subproblems < 4294967296 → ChoosesWords n d domains tables before after limit s r → Narrow r
 choose-fits {n} {d} {domains} {tables} {before} {after} {limit} {s} {r} small stepped few h =
-    choose-narrow n d (wordsOf domains) (wordsOf tables) (wordsOf before) s (words-small before small) (omega arith) (h .left) limit r few (h .chooses)
+    choose-narrow n d (wordsOf domains) (wordsOf tables) (wordsOf before) s (words-small before small) (omega arith) (h .left) limit r few
+    (h .chooses)
 
 -- The blocks that save writes.
 save-fits : (n d : ℕ) (domains tables agenda : List ℕ) (s : State) (before after : List ℕ) (r : Saved)
@@ -203,7 +213,8 @@ save-fits n d domains tables bytes s before after r small h = elim (ℕ-discrete
 ]
 
 -- Save at the words that the bytes say.
-pub saves-words : (n d : ℕ) {i j k v m x : ℕ} {domains tables agenda ds ts xs : List ℕ} (s : State) (before after : List ℕ) (r : Saved) → Turned domains i v ds
+pub saves-words : (n d : ℕ) {i j k v m x : ℕ} {domains tables agenda ds ts xs : List ℕ} (s : State) (before after : List ℕ) (r : Saved)
+    → Turned domains i v ds
     → Turned tables j m ts → Turned agenda k x xs → ((i : ℕ) → getD agenda i 0 < 256) → Saves n d (take i ds) (take j ts) (take k xs) s before after r
     → Saves n d (wordsOf domains) (wordsOf tables) (wordsOf agenda) s before after r × (r .blocks < 4294967296)
 saves-words n d {domains = domains} {tables = tables} {agenda = agenda} s before after r e f g small h =

@@ -61,17 +61,20 @@ unwhole-file-3 file =
 pub open-in-words : Open-in-words
 open-in-words n d domains tables before after r w h =
     let x = h .whole w in
-    subst (λ (l : List ℕ). Opens n d (wordsOf domains) (wordsOf tables) (wordsOf before) l r) (sym (ap wordsOf (x .said) ∙ words.words-again (x .left))) (x .opens)
+    subst (λ (l : List ℕ). Opens n d (wordsOf domains) (wordsOf tables) (wordsOf before) l r)
+    (sym (ap wordsOf (x .said) ∙ words.words-again (x .left))) (x .opens)
 
 pub run-in-words : Run-in-words
 run-in-words n d domains tables before after requests s r w e h =
     let x = h .whole w e in
-    subst (λ (l : List ℕ). Runs n d (wordsOf domains) (wordsOf tables) (wordsOf before) l (wordsOf requests) s r) (sym (ap wordsOf (x .said) ∙ words.words-again (x .left))) (x .runs)
+    subst (λ (l : List ℕ). Runs n d (wordsOf domains) (wordsOf tables) (wordsOf before) l (wordsOf requests) s r)
+    (sym (ap wordsOf (x .said) ∙ words.words-again (x .left))) (x .runs)
 
 pub choose-in-words : Choose-in-words
 choose-in-words n d domains tables before after limit s r w h =
     let x = h .whole w in
-    subst (λ (l : List ℕ). Chooses n d (wordsOf domains) (wordsOf tables) (wordsOf before) l limit s r) (sym (ap wordsOf (x .said) ∙ words.words-again (x .left))) (x .chooses)
+    subst (λ (l : List ℕ). Chooses n d (wordsOf domains) (wordsOf tables) (wordsOf before) l limit s r)
+    (sym (ap wordsOf (x .said) ∙ words.words-again (x .left))) (x .chooses)
 
 pub load-in-words : Load-in-words
 load-in-words file domains domains′ tables tables′ agenda agenda′ r w h =
@@ -134,7 +137,8 @@ rastwob-save-one n d domains tables agenda steps checks subproblems before after
     )
 
 pub rastwob-load-one : Rastwob-load-one
-rastwob-load-one file domains domains₁ domains₂ tables tables₁ tables₂ agenda agenda₁ agenda₂ n n′ d d′ steps steps′ checks checks′ subproblems subproblems′ refusal refusal′ h k =
+rastwob-load-one file domains domains₁ domains₂ tables tables₁ tables₂ agenda agenda₁ agenda₂ n n′ d d′ steps steps′ checks checks′ subproblems
+    subproblems′ refusal refusal′ h k =
     let (same, one, two, three) = loads-one file domains domains₁ domains₂ tables tables₁ tables₂ agenda agenda₁ agenda₂ (h .outcome) (k .outcome) (h .loads) (k .loads) in (
       one,
       two,

@@ -55,7 +55,12 @@ unfolding named backtracking forwardChecking idc halving extraction
 named-few n allowed P r =
     let a = backtracking n allowed P (variableOf r) (valueOf r) in
     let first : length a ≤ n + 2 =
-    rw length-append (omega (arith, either-few (forbidden n allowed P (variableOf r) (valueOf r)) [] (instantiate P (variableOf r) (valueOf r) ∷ []) 1 (omega arith) (omega arith))) in
+    rw length-append
+    (omega (
+      arith,
+      either-few (forbidden n allowed P (variableOf r) (valueOf r)) [] (instantiate P (variableOf r) (valueOf r) ∷ []) 1 (omega arith) (omega arith),
+    ))
+    in
     either-few (eqb (kindOf r) 1) _ _ (n + 2) first
     (either-few (eqb (kindOf r) 2) _ _ (n + 2) (omega arith)
     (either-few (eqb (kindOf r) 3) _ _ (n + 2) (omega (arith, some-few n (disjunct allowed P (variableOf r) (valueOf r)) (λ j. not (eqb j (variableOf r)))))
@@ -191,7 +196,8 @@ ends-front first n a y z s x r kept h ends = record {
   agenda = go (eqb first 0) (ends .agenda);
 }
   where
-    go : (b : Bool) → y ≡ cond b (agendaOf n (length a) (x .search .stack)) a → y ++ z ≡ cond b (agendaOf n (length (a ++ z)) (x .search .stack)) (a ++ z)
+    go : (b : Bool) → y ≡ cond b (agendaOf n (length a) (x .search .stack)) a
+        → y ++ z ≡ cond b (agendaOf n (length (a ++ z)) (x .search .stack)) (a ++ z)
     go true e = agenda-front n (x .search .stack) a y z kept h e
     go false e = ap (λ (l : List ℕ). l ++ z) e
 
@@ -227,10 +233,14 @@ runs-front n d domains tables a y z requests s r slots all its whole some within
 
     first-same : first (a ++ z) ≡ first a
     first-same =
-        first-front n d domains tables a z requests (s .counts .steps .0) (s .counts .checks .0) (s .subproblems) slots all its whole some within few (omega arith) h
+        first-front n d domains tables a z requests (s .counts .steps .0) (s .counts .checks .0) (s .subproblems) slots all its whole some within few
+        (omega arith) h
 
     run-same : run p (slotsIn n (length (a ++ z))) rs (searchOf n (a ++ z) s) ≡ run p (slotsIn n (length a)) rs (searchOf n a s)
     run-same =
-        ap (λ (S : List Subproblem). run p (slotsIn n (length (a ++ z))) rs (record { stack = S; steps = s .counts .steps .0; checks = s .counts .checks .0 })) stack-same
+        ap
+        (λ (S : List Subproblem). run p (slotsIn n (length (a ++ z))) rs
+        (record { stack = S; steps = s .counts .steps .0; checks = s .counts .checks .0 }))
+        stack-same
         ∙ run-roomy p (slotsIn n (length a)) (slotsIn n (length (a ++ z))) (omega (arith, few-slots, all-slots)) rs (searchOf n a s)
         (omega (arith, few-slots, length-stackOf n a (s .subproblems)))

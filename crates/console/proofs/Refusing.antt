@@ -42,7 +42,8 @@ module _ (domains tables agenda : List ℕ) (b : Bool) (is : b ≡ roomFor (leng
   whole-then y = room-whole domains tables agenda (room-true domains tables agenda b is y)
 
   -- Whole and not turned into words, it is too long or empty.
-  pub above-then : b ≡ false → WholeProblem domains tables agenda → AboveOrNone (length (wordsOf domains)) (length (wordsOf tables)) (length (wordsOf agenda))
+  pub above-then : b ≡ false → WholeProblem domains tables agenda
+      → AboveOrNone (length (wordsOf domains)) (length (wordsOf tables)) (length (wordsOf agenda))
   above-then y w = long-above domains tables agenda w (room-false domains tables agenda b is y w)
 
 -- ---- opening
@@ -139,11 +140,14 @@ cut-three n requests b is y even few = go (eqb (length (wordsOf requests) % (n +
 
 module _ (n d : ℕ) (domains tables agenda : List ℕ) (s : State) (b : Bool) (is : b ≡ roomFor (length domains) (length tables) (length agenda)) where
   module _ (requests : List ℕ) where
-    pub runs-turned : (after : List ℕ) (t : Bool) (r : Ran) → not b ≡ false → t ≡ wholeList n (length requests) → t ≡ true → RunsWords n d domains tables agenda after requests s r
+    pub runs-turned : (after : List ℕ) (t : Bool) (r : Ran) → not b ≡ false → t ≡ wholeList n (length requests) → t ≡ true
+        → RunsWords n d domains tables agenda after requests s r
         → RunsBytes n d domains tables agenda after requests s r
     runs-turned after t r y is-t z h = record {
       whole = λ w q. h;
-      odd = λ f. absurd (f (whole-then domains tables agenda b is (not-false b y)) (listed-even n (length requests) (listed-then n (length requests) t is-t z)));
+      odd =
+          λ f. absurd
+          (f (whole-then domains tables agenda b is (not-false b y)) (listed-even n (length requests) (listed-then n (length requests) t is-t z)));
     }
 
     module _ (r : Ran) (few : s .subproblems < 4294967296) (small : (i : ℕ) → getD agenda i 0 < 256) (e : r ≡ refused n d s) where
@@ -197,7 +201,8 @@ module _ (n d : ℕ) (domains tables agenda : List ℕ) (s : State) (b : Bool) (
 
   -- ---- save
 
-  pub saves-turned : (before after : List ℕ) (r : Saved) → b ≡ true → Saves n d (wordsOf domains) (wordsOf tables) (wordsOf agenda) s before after r × (r .blocks < 4294967296)
+  pub saves-turned : (before after : List ℕ) (r : Saved) → b ≡ true
+      → Saves n d (wordsOf domains) (wordsOf tables) (wordsOf agenda) s before after r × (r .blocks < 4294967296)
       → SavesBytes n d domains tables agenda s before after r × (r .blocks < 4294967296)
   saves-turned before after r y h = (record { whole = λ w. h .0; odd = λ f. absurd (f (whole-then domains tables agenda b is y)) }, h .1)
 
@@ -209,7 +214,8 @@ module _ (n d : ℕ) (domains tables agenda : List ℕ) (s : State) (b : Bool) (
           whole = λ w.
               let first : saveRefusal n d (wordsOf domains) (wordsOf tables) (wordsOf agenda) s before ≡ unwhole n d =
               save-above n d (wordsOf domains) (wordsOf tables) (wordsOf agenda) s before (above-then domains tables agenda b is y w) in
-              let not-none : saveRefusal n d (wordsOf domains) (wordsOf tables) (wordsOf agenda) s before ≡ 0 → ⊥ = λ z. unwhole-not n d (sym first ∙ z) in
+              let not-none : saveRefusal n d (wordsOf domains) (wordsOf tables) (wordsOf agenda) s before ≡ 0 → ⊥ = λ z. unwhole-not n d
+              (sym first ∙ z) in
               record { refusal = sym first; blocks = not-given _ _ _ _ not-none refl; file = not-given _ _ _ _ not-none refl };
           odd = λ f. (refl, refl);
         },
@@ -268,15 +274,18 @@ module _ (file domains tables agenda : List ℕ) (b : Bool) (is : b ≡ roomFor 
     load-few file (wordsOf domains) (h .left-domains) (wordsOf tables) (h .left-tables) (wordsOf agenda) (h .left-agenda) r (h .loads),
   )
 
-  pub loads-refused : (r : Loaded) → b ≡ false → ((i : ℕ) → getD domains i 0 < 256) → ((i : ℕ) → getD tables i 0 < 256) → ((i : ℕ) → getD agenda i 0 < 256)
+  pub loads-refused : (r : Loaded) → b ≡ false → ((i : ℕ) → getD domains i 0 < 256) → ((i : ℕ) → getD tables i 0 < 256)
+      → ((i : ℕ) → getD agenda i 0 < 256)
       → r ≡ unloaded file → LoadsBytes file domains domains tables tables agenda agenda r × NarrowLoaded r
   loads-refused r y small small′ small″ e =
       subst (λ (x : Loaded). LoadsBytes file domains domains tables tables agenda agenda x × NarrowLoaded x) (sym e) (
         record {
           whole = λ w.
               let first : loadRefusal file (length (wordsOf domains)) (length (wordsOf tables)) (length (wordsOf agenda)) ≡ unwholeFile file =
-              load-above file (length (wordsOf domains)) (length (wordsOf tables)) (length (wordsOf agenda)) (above-then domains tables agenda b is y w) in
-              let not-none : loadRefusal file (length (wordsOf domains)) (length (wordsOf tables)) (length (wordsOf agenda)) ≡ 0 → ⊥ = λ z. unwhole-file-not file (sym first ∙ z) in
+              load-above file (length (wordsOf domains)) (length (wordsOf tables)) (length (wordsOf agenda))
+              (above-then domains tables agenda b is y w) in
+              let not-none : loadRefusal file (length (wordsOf domains)) (length (wordsOf tables)) (length (wordsOf agenda)) ≡ 0 → ⊥ = λ z.
+              unwhole-file-not file (sym first ∙ z) in
               record {
                 left-domains = wordsOf domains;
                 left-tables = wordsOf tables;

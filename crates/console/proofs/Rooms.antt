@@ -72,7 +72,8 @@ fits-false : (bytes most : ℕ) → fits bytes most ≡ false → bytes % 2 ≡ 
 unfolding fits
 fits-false bytes most e even = leb-false bytes (2 * most) (rw (eq-eqb (bytes % 2) 0 even) at e)
 
-pub room-true : (domains tables agenda : List ℕ) (b : Bool) → b ≡ roomFor (length domains) (length tables) (length agenda) → b ≡ true → Room domains tables agenda
+pub room-true : (domains tables agenda : List ℕ) (b : Bool) → b ≡ roomFor (length domains) (length tables) (length agenda) → b ≡ true
+    → Room domains tables agenda
 unfolding roomFor
 room-true domains tables agenda b s y =
     let product : ℕ = length domains * length tables * length agenda in
@@ -105,7 +106,8 @@ room-false domains tables agenda b s y w =
     let z : Bool = fits (length agenda) 17408 in
     ⊎-elim
     (λ three. ⊎-elim
-    (λ two. ⊎-elim (λ e. inl (fits-false (length domains) 32 e (w .of-domains))) (λ e. inr (inl (fits-false (length tables) 16384 e (w .of-tables)))) (and-cases x y′ two))
+    (λ two. ⊎-elim (λ e. inl (fits-false (length domains) 32 e (w .of-domains))) (λ e. inr (inl (fits-false (length tables) 16384 e (w .of-tables))))
+    (and-cases x y′ two))
     (λ e. inr (inr (inl (fits-false (length agenda) 17408 e (w .of-agenda)))))
     (and-cases (x && y′) z three))
     (λ e. let none : product ≤ 0 = ltb-false 0 product e in inr (inr (inr (omega arith))))
@@ -158,7 +160,8 @@ long-above domains tables agenda w h =
     (λ k. inr (⊎-elim (λ l. inl (omega (arith, words-length agenda, w .of-agenda)))
     (λ e. inr (eighth _ _ _ (rw (twice-words domains (w .of-domains), twice-words tables (w .of-tables), twice-words agenda (w .of-agenda)) at e))) k)) k)) h
 
-pub lengths-three : (n d domains tables agenda : ℕ) → In-range n d → AboveOrNone domains tables agenda → refusalOfLengths n d domains tables agenda ≡ 3
+pub lengths-three : (n d domains tables agenda : ℕ) → In-range n d → AboveOrNone domains tables agenda
+    → refusalOfLengths n d domains tables agenda ≡ 3
 unfolding refusalOfLengths
 lengths-three n d domains tables agenda range h = go (eqb domains n && eqb tables (n * n * d) && wholeSlots n agenda) refl
   where
@@ -182,7 +185,8 @@ lengths-three n d domains tables agenda range h = go (eqb domains n && eqb table
         let some-tables : 1 ≤ tables = omega arith in
         let some-agenda : 1 ≤ agenda = omega (arith, slots .3) in
         let all : 1 * 1 * 1 ≤ domains * tables * agenda = mul-le-mul (mul-le-mul some-domains some-tables) some-agenda in
-        absurd (⊎-elim (λ l. omega (arith, range .few)) (λ k. ⊎-elim (λ l. omega arith) (λ k. ⊎-elim (λ l. omega (arith, slots .3)) (λ e. omega arith) k) k) h)
+        absurd
+        (⊎-elim (λ l. omega (arith, range .few)) (λ k. ⊎-elim (λ l. omega arith) (λ k. ⊎-elim (λ l. omega (arith, slots .3)) (λ e. omega arith) k) k) h)
 
 -- ---- the refusals that follow
 
@@ -232,7 +236,8 @@ module _ (n d : ℕ) (domains tables agenda : List ℕ) where
   unfolding runRefusal unwhole refusalOfLengths
   run-cut requests steps checks subproblems h =
       else-three (refusalOfNumbers n d) _
-      (λ e. go (eqb (length domains) n && eqb (length tables) (n * n * d) && wholeSlots n (length agenda)) (refusalOfRequests n (length requests)) (h (in-range n d e .few)))
+      (λ e. go (eqb (length domains) n && eqb (length tables) (n * n * d) && wholeSlots n (length agenda)) (refusalOfRequests n (length requests))
+      (h (in-range n d e .few)))
     where
       go : (b : Bool) (x : ℕ) → x ≡ 3
           → orElse (cond b 0 3) (orElse x (orElse (refusalOfProblem (problemOf n d domains tables)) (refusalOfSearch (problemOf n d domains tables) agenda steps checks subproblems))) ≡ 3
@@ -244,7 +249,9 @@ pub save-above : (n d : ℕ) (domains tables agenda : List ℕ) (s : State) (fil
     → saveRefusal n d domains tables agenda s file ≡ unwhole n d
 unfolding saveRefusal
 save-above n d domains tables agenda s file h =
-    rw (search-above n d domains tables agenda (s .counts .steps .0) (s .counts .checks .0) (s .subproblems) h, ne-eqb (unwhole n d) 0 (unwhole-not n d)) refl
+    rw
+    (search-above n d domains tables agenda (s .counts .steps .0) (s .counts .checks .0) (s .subproblems) h, ne-eqb (unwhole n d) 0 (unwhole-not n d))
+    refl
 
 -- The first checks of no words at all.
 pub none-unwhole : (n d : ℕ) → openRefusal n d [] [] [] ≡ unwhole n d
@@ -257,8 +264,10 @@ none-unwhole n d =
 pub list-true : (n bytes : ℕ) (b : Bool) → b ≡ wholeList n bytes → b ≡ true → (n ≤ 32) × (bytes % (2 * (n + 3)) ≡ 0)
 unfolding wholeList
 list-true n bytes b s y =
-    let e : wholeList n bytes ≡ true = sym s ∙ y in
-    (leb-true n 32 (and-left (leb n 32) (eqb (bytes % (2 * (n + 3))) 0) e), eqb-true (bytes % (2 * (n + 3))) 0 (and-right (leb n 32) (eqb (bytes % (2 * (n + 3))) 0) e))
+    let e : wholeList n bytes ≡ true = sym s ∙ y in (
+      leb-true n 32 (and-left (leb n 32) (eqb (bytes % (2 * (n + 3))) 0) e),
+      eqb-true (bytes % (2 * (n + 3))) 0 (and-right (leb n 32) (eqb (bytes % (2 * (n + 3))) 0) e),
+    )
 
 -- ---- load
 
@@ -273,7 +282,8 @@ unwhole-file-not file = go (eqb (refusalOfFile file) 0) refl
 said-range : (file : List ℕ) → Accepts file → In-range (saidN file) (saidD file)
 said-range file r = record { some = r .some-variable; few = r .variables; some-value = r .some-value; small = r .values }
 
-pub load-above : (file : List ℕ) (domains tables agenda : ℕ) → AboveOrNone domains tables agenda → loadRefusal file domains tables agenda ≡ unwholeFile file
+pub load-above : (file : List ℕ) (domains tables agenda : ℕ) → AboveOrNone domains tables agenda
+    → loadRefusal file domains tables agenda ≡ unwholeFile file
 unfolding loadRefusal unwholeFile
 load-above file domains tables agenda h =
     ap (orElse (refusalOfFile file)) (else-three (refusalOfWords file) _
@@ -294,7 +304,8 @@ front-few n before after slots few b a h =
     omega (arith, mul-le-mul most slot)
 
 -- The slots used before and after take no more words than so many times the larger number.
-pub front-used : (n before after slots words used : ℕ) → before ≤ slots → after ≤ slots → used ≡ slots * (n + 2) → used < words → Front n before after words used
+pub front-used : (n before after slots words used : ℕ) → before ≤ slots → after ≤ slots → used ≡ slots * (n + 2) → used < words
+    → Front n before after words used
 front-used n before after slots words used b a e l = record {
   inside = omega arith;
   past = λ i h m.
@@ -321,7 +332,8 @@ written-back n before taken after from to words b bytes (order, lower) front lon
     let room : length (take (2 * to - 2 * from) (drop (2 * from) b)) ≡ 2 * to - 2 * from =
     length-take-le _ (drop (2 * from) b) (rw length-drop (omega (arith, front .inside))) in
     let half : length (take (2 * to - 2 * from) (drop (2 * from) b)) / 2 ≡ to - from = omega arith in
-    let said : bytes ≡ bytesOf (take (to - from) (drop from words)) = e ∙ ap bytesOf (rw half (take-take (to - from) (to - from) (drop from words) (omega arith))) in
+    let said : bytes ≡ bytesOf (take (to - from) (drop from words)) = e ∙ ap bytesOf
+    (rw half (take-take (to - from) (to - from) (drop from words) (omega arith))) in
     record {
       from = from;
       to = to;
@@ -403,7 +415,8 @@ unfolding zerosFrom
 zeros-all bytes k bits h l to =
     let end : k ≡ length bytes - 0 = omega arith in
     to .tell ∙ ap (λ (j : ℕ). every j (λ i. eqb (getD bytes i 0) 0)) end
-    ∙ every-same (λ i. eqb (getD bytes i 0) 0) (λ i. eqb (getD bytes (0 + i) 0) 0) (length bytes - 0) (λ i m. ap (λ (j : ℕ). eqb (getD bytes j 0) 0) (sym (zero-add i)))
+    ∙ every-same (λ i. eqb (getD bytes i 0) 0) (λ i. eqb (getD bytes (0 + i) 0) 0) (length bytes - 0)
+    (λ i m. ap (λ (j : ℕ). eqb (getD bytes j 0) 0) (sym (zero-add i)))
 
 -- Where all that is past them is zero.
 pub front-zeros : (n subproblems requests : ℕ) (agenda : List ℕ) (r : ℕ) (b : Bool) → Reach n subproblems requests (length agenda) r
@@ -412,7 +425,8 @@ front-zeros n subproblems requests agenda r b h is y = record {
   reach = h;
   zero = λ i l.
       let at : r + (0 + (i - r)) ≡ i = omega arith in
-      let rest : take (length agenda - r) (drop r agenda) ≡ drop r agenda = take-all (length agenda - r) (drop r agenda) (rw length-drop (omega arith)) in
+      let rest : take (length agenda - r) (drop r agenda) ≡ drop r agenda = take-all (length agenda - r) (drop r agenda)
+      (rw length-drop (omega arith)) in
       ap (λ (k : ℕ). getD agenda k 0) (sym at) ∙ sym (getD-drop r agenda (0 + (i - r)) 0)
       ∙ zeros-each 0 (drop r agenda) (ap (zerosFrom 0) (sym rest) ∙ sym is ∙ y) (i - r);
 }
@@ -449,6 +463,7 @@ front-fits {n} {subproblems} {requests} {r} {agenda} f h =
     some (inr e) = rw e (h .some)
 
 -- So all that is lent is.
-pub front-room : {n subproblems requests r : ℕ} {domains tables agenda : List ℕ} → FrontOf n subproblems requests agenda r → Room domains tables agenda
+pub front-room : {n subproblems requests r : ℕ} {domains tables agenda : List ℕ} → FrontOf n subproblems requests agenda r
+    → Room domains tables agenda
     → Room domains tables (take r agenda)
 front-room f room = record { of-domains = room .of-domains; of-tables = room .of-tables; of-agenda = front-fits f (room .of-agenda) }

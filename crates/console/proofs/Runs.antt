@@ -41,7 +41,9 @@ use Rattle.console.specs.Work.Parts.{joined, Narrow}
 
 module _ (p : Problem) (room : ℕ) where
   after-more : (k : ℕ) (x : Stopped) → after 1 (after k x) ≡ after (1 + k) x
-  after-more k x = let e : 1 + (k + x .taken) ≡ 1 + k + x .taken = omega arith in λ i. record { search = x .search; refusal = x .refusal; taken = e i }
+  after-more k x =
+      let e : 1 + (k + x .taken) ≡ 1 + k + x .taken = omega arith in
+      λ i. record { search = x .search; refusal = x .refusal; taken = e i }
 
   -- A list that is taken whole is gone on from.
   pub run-on : (qs rs : List (List ℕ)) (s : Search) → run p room rs s .refusal ≡ 0 → run p room rs s .taken ≡ length rs
@@ -191,7 +193,8 @@ module _ (n d : ℕ) (domains tables before : List ℕ) (s : State) (small : (i 
         | yes e ↦
             let handed = run-handed requests e in
             let l = run-leaves-so n d domains tables before left requests s r handed runs .0 whole in
-            known n d domains tables left (r .state) (l .handed) .passed .zeros i a h′ ∙ sym (known n d domains tables before s handed .passed .zeros i b h)
+            known n d domains tables left (r .state) (l .handed) .passed .zeros i a h′ ∙ sym
+            (known n d domains tables before s handed .passed .zeros i b h)
         | no f ↦ let same : left ≡ before = rw (ne-eqb first 0 f) at (runs .agenda) in ap (λ (w : List ℕ). getD w i 0) same
       ]
 
@@ -230,12 +233,15 @@ module _ (n d : ℕ) (domains tables before : List ℕ) (s : State) (small : (i 
             ap (take ((s .subproblems - r .taken) * (n + 2))) same
       ]
 
-  pub choose-narrow : (left : List ℕ) (limit : ℕ) (r : Ran) → s .subproblems < 4294967296 → Chooses n d domains tables before left limit s r → Narrow r
+  pub choose-narrow : (left : List ℕ) (limit : ℕ) (r : Ran) → s .subproblems < 4294967296 → Chooses n d domains tables before left limit s r
+      → Narrow r
   choose-narrow left limit r few chooses =
       let as-run = picked (problemOf n d domains tables) (slotsIn n (length before)) limit (searchOf n before s) 0 in
       ends-narrow _ n d domains tables before left s _ r chooses few
       (λ e. chooser-leaves-so n d domains tables before left limit s r (record { words = small; stepped = stepped; passes = e }) chooses)
-      (rw as-run (steps-count (problemOf n d domains tables) (slotsIn n (length before)) (picks (problemOf n d domains tables) (slotsIn n (length before)) limit (searchOf n before s)) (searchOf n before s)))
+      (rw as-run
+      (steps-count (problemOf n d domains tables) (slotsIn n (length before))
+      (picks (problemOf n d domains tables) (slotsIn n (length before)) limit (searchOf n before s)) (searchOf n before s)))
 
   module _ (mid a b : List ℕ) (r : Ran) (wa : WholeRequests n (length a)) (wb : WholeRequests n (length b)) (runs : Runs n d domains tables before mid a s r) where
     first : List ℕ → ℕ
@@ -280,12 +286,14 @@ module _ (n d : ℕ) (domains tables before : List ℕ) (s : State) (small : (i 
         ∙ run-on p room (requestsIn n b) (requestsIn n a) x0 refused (sym taken ∙ t) ∙ ap (after (x1 .taken)) (sym same) in
         let all : first (a ++ b) ≡ 0 = first-same ∙ zero in
         record {
-          verdict = given (first (a ++ b)) _ _ _ all ((rw none at (more .verdict)) ∙ sym (ap (λ (y : Stopped). verdictOf n (y .search .stack)) whole));
+          verdict =
+              given (first (a ++ b)) _ _ _ all ((rw none at (more .verdict)) ∙ sym (ap (λ (y : Stopped). verdictOf n (y .search .stack)) whole));
           refusal = given (first (a ++ b)) _ _ _ all ((rw none at (more .refusal)) ∙ sym (ap (λ (y : Stopped). y .refusal) whole));
           taken = given (first (a ++ b)) _ _ _ all (ap₂ _+_ taken (rw none at (more .taken)) ∙ sym (ap (λ (y : Stopped). y .taken) whole));
           steps = given (first (a ++ b)) _ _ _ all ((rw none at (more .steps)) ∙ sym (ap (λ (y : Stopped). y .search .steps) whole));
           checks = given (first (a ++ b)) _ _ _ all ((rw none at (more .checks)) ∙ sym (ap (λ (y : Stopped). y .search .checks) whole));
-          subproblems = given (first (a ++ b)) _ _ _ all ((rw none at (more .subproblems)) ∙ sym (ap (λ (y : Stopped). length (y .search .stack)) whole));
+          subproblems =
+              given (first (a ++ b)) _ _ _ all ((rw none at (more .subproblems)) ∙ sym (ap (λ (y : Stopped). length (y .search .stack)) whole));
           agenda = given (first (a ++ b)) _ _ _ all ((rw none at (more .agenda)) ∙ ap (λ (k : ℕ). agendaOf n k (x2 .search .stack)) (l .length-kept)
               ∙ sym (ap (λ (y : Stopped). agendaOf n (length before) (y .search .stack)) whole));
         }
@@ -321,4 +329,5 @@ module _ (n d : ℕ) (domains tables before : List ℕ) (s : State) (small : (i 
     unfolding first p room x0 x1
     took-all e v =
         let zero : first a ≡ 0 = passed e in
-        (rw zero at (runs .taken)) ∙ run-whole p room (requestsIn n a) x0 (sym (rw zero at (runs .refusal)) ∙ e) (sym (rw zero at (runs .verdict)) ∙ v)
+        (rw zero at (runs .taken)) ∙ run-whole p room (requestsIn n a) x0 (sym (rw zero at (runs .refusal)) ∙ e)
+        (sym (rw zero at (runs .verdict)) ∙ v)

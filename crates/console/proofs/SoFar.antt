@@ -44,7 +44,8 @@ between n a b (i, e) (j, f) h = elim (decLt j i) [
       absurd (omega arith)
   | no k ↦
       let sum : i + (j - i) ≡ j = omega (arith, lt-of-not-le k) in
-      let both : j * (2 * (n + 3)) ≡ i * (2 * (n + 3)) + (j - i) * (2 * (n + 3)) = ap (λ (m : ℕ). m * (2 * (n + 3))) (sym sum) ∙ add-mul i (j - i) (2 * (n + 3)) in
+      let both : j * (2 * (n + 3)) ≡ i * (2 * (n + 3)) + (j - i) * (2 * (n + 3)) = ap (λ (m : ℕ). m * (2 * (n + 3))) (sym sum) ∙ add-mul i (j - i)
+      (2 * (n + 3)) in
       (j - i, omega arith)
 ]
 
@@ -74,9 +75,11 @@ part-full n at bytes listed h (k, e) l =
     }
 
 -- What a part asks.
-pub part-asks : {n at end : ℕ} (l : List ℕ) → Part n at (length l) end → (length (take (end - at) (drop at l)) % 2 ≡ 0) × (length (take (end - at) (drop at l)) ≤ 14000)
+pub part-asks : {n at end : ℕ} (l : List ℕ) → Part n at (length l) end
+    → (length (take (end - at) (drop at l)) % 2 ≡ 0) × (length (take (end - at) (drop at l)) ≤ 14000)
 part-asks {n} {at} {end} l part =
-    let long : length (take (end - at) (drop at l)) ≡ end - at = length-take-le (end - at) (drop at l) (rw length-drop (omega (arith, part .within))) in
+    let long : length (take (end - at) (drop at l)) ≡ end - at = length-take-le (end - at) (drop at l) (rw length-drop (omega (arith, part .within)))
+    in
     (rw long (whole-even n (end - at) (part .whole)), rw long (part .short))
 
 -- ---- whether it goes on
@@ -105,7 +108,8 @@ pub requests-count : (n : ℕ) (l : List ℕ) → Listed n (length l) → length
 unfolding requestsIn
 requests-count n l listed =
     let words : length (wordsOf l) ≡ listed .requests * (n + 3) = words-length l ∙ omega (arith, listed .whole) in
-    cut-length (length (wordsOf l) / (n + 3)) (n + 3) (wordsOf l) ∙ ap (λ (k : ℕ). k / (n + 3)) words ∙ mul-div-cancel (listed .requests) (omega arith)
+    cut-length (length (wordsOf l) / (n + 3)) (n + 3) (wordsOf l) ∙ ap (λ (k : ℕ). k / (n + 3)) words ∙ mul-div-cancel (listed .requests)
+    (omega arith)
     ∙ sym (ap (λ (k : ℕ). k / (2 * (n + 3))) (listed .whole) ∙ mul-div-cancel (listed .requests) (omega arith))
 
 ends-taken : (first n k : ℕ) (before left : List ℕ) (s : State) (x : Stopped) (r : Ran) → Ends first n before left s x r → x .taken ≤ k → r .taken ≤ k
@@ -170,7 +174,8 @@ module _ {n d : ℕ} {domains tables before requests : List ℕ} {s : State} {mi
   pub part-taken : q .taken ≤ end - at
   unfolding here
   part-taken =
-      let few : run (problemOf n d domains tables) (slotsIn n (length mid)) (requestsIn n (wordsOf here)) (searchOf n mid state) .taken ≤ length (requestsIn n (wordsOf here)) =
+      let few : run (problemOf n d domains tables) (slotsIn n (length mid)) (requestsIn n (wordsOf here)) (searchOf n mid state) .taken ≤ length
+      (requestsIn n (wordsOf here)) =
       stops (problemOf n d domains tables) (slotsIn n (length mid)) (requestsIn n (wordsOf here)) (searchOf n mid state) .0 in
       ends-taken _ n (end - at) mid left state _ q runs (omega (arith, few, requests-few n (wordsOf here), words-length here, here-length))
 
@@ -192,7 +197,8 @@ module _ {n d : ℕ} {domains tables before requests : List ℕ} {s : State} {mi
   unfolding rest
   all-words =
       ap wordsOf (sym (take-append-drop end requests)) ∙ words-append (take end requests) (drop end requests) upto-even
-      ∙ ap (λ (l : List ℕ). l ++ wordsOf (drop end requests)) upto-words ∙ append-assoc (wordsOf (take at requests)) (wordsOf here) (wordsOf (drop end requests))
+      ∙ ap (λ (l : List ℕ). l ++ wordsOf (drop end requests)) upto-words ∙ append-assoc (wordsOf (take at requests)) (wordsOf here)
+      (wordsOf (drop end requests))
 
   -- At the list's end.
   so-far-end : end ≡ length requests → Runs n d domains tables before left (wordsOf requests) s (joined taken q)
@@ -200,7 +206,8 @@ module _ {n d : ℕ} {domains tables before requests : List ℕ} {s : State} {mi
   so-far-end e =
       let same : wordsOf requests ≡ wordsOf (take at requests) ++ wordsOf here =
       ap wordsOf (sym (take-length requests) ∙ ap (λ (k : ℕ). take k requests) (sym e)) ∙ upto-words in
-      subst (λ (l : List ℕ). Runs n d domains tables before left l s (joined taken q)) (sym same) (going .far .on (wordsOf here) left q here-whole runs)
+      subst (λ (l : List ℕ). Runs n d domains tables before left l s (joined taken q)) (sym same)
+      (going .far .on (wordsOf here) left q here-whole runs)
 
   -- Where it does not go on.
   so-far-stop : goesOn (joined taken q) ≡ false → Runs n d domains tables before left (wordsOf requests) s (joined taken q)
@@ -208,9 +215,11 @@ module _ {n d : ℕ} {domains tables before requests : List ℕ} {s : State} {mi
   so-far-stop e =
       subst (λ (l : List ℕ). Runs n d domains tables before left l s (joined taken q)) (sym all-words)
       (going .far .on (wordsOf here ++ wordsOf rest) left q (whole-both here-whole rest-whole)
-      (run-ended n d domains tables mid state (going .small) (omega (arith, going .stepped)) left (wordsOf here) (wordsOf rest) q here-whole rest-whole runs (stops-not q e)))
+      (run-ended n d domains tables mid state (going .small) (omega (arith, going .stepped)) left (wordsOf here) (wordsOf rest) q here-whole
+      rest-whole runs (stops-not q e)))
     where
-      whole-both : WholeRequests n (length (wordsOf here)) → WholeRequests n (length (wordsOf rest)) → WholeRequests n (length (wordsOf here ++ wordsOf rest))
+      whole-both : WholeRequests n (length (wordsOf here)) → WholeRequests n (length (wordsOf rest))
+          → WholeRequests n (length (wordsOf here ++ wordsOf rest))
       whole-both a b = whole-append n (wordsOf here) (wordsOf rest) a b
 
   -- Where it goes on.
@@ -222,8 +231,11 @@ module _ {n d : ℕ} {domains tables before requests : List ℕ} {s : State} {mi
     place = part .place;
     on = λ b last x w h.
         let more : Runs n d domains tables mid last (wordsOf here ++ b) state (joined (q .taken) x) =
-        run-joined n d domains tables mid state (going .small) (omega (arith, going .stepped)) left (wordsOf here) b q here-whole w runs (goes-refusal q e)
-        (took-all n d domains tables mid state (going .small) (omega (arith, going .stepped)) left (wordsOf here) b q here-whole w runs (goes-refusal q e) (goes-running q e)) last x h in
+        run-joined n d domains tables mid state (going .small) (omega (arith, going .stepped)) left (wordsOf here) b q here-whole w runs
+        (goes-refusal q e)
+        (took-all n d domains tables mid state (going .small) (omega (arith, going .stepped)) left (wordsOf here) b q here-whole w runs
+        (goes-refusal q e) (goes-running q e))
+        last x h in
         let both : Runs n d domains tables before last (wordsOf (take at requests) ++ (wordsOf here ++ b)) s (joined taken (joined (q .taken) x)) =
         going .far .on (wordsOf here ++ b) last (joined (q .taken) x) (whole-append n (wordsOf here) b here-whole w) more in
         let list : wordsOf (take end requests) ++ b ≡ wordsOf (take at requests) ++ (wordsOf here ++ b) =
@@ -235,7 +247,8 @@ module _ {n d : ℕ} {domains tables before requests : List ℕ} {s : State} {mi
   }
 
   -- What the next part goes on with.
-  pub go-again : (b : Bool) → b ≡ goesOn (joined taken q) → not b ≡ false → SoFar n d domains tables before requests s left (q .state) end (taken + q .taken)
+  pub go-again : (b : Bool) → b ≡ goesOn (joined taken q) → not b ≡ false
+      → SoFar n d domains tables before requests s left (q .state) end (taken + q .taken)
   go-again b e y = so-far-more (sym e ∙ not-false b y)
 
   pub stepped-again : q .state .counts .steps .0 < 2 ^ 32
@@ -247,8 +260,11 @@ module _ {n d : ℕ} {domains tables before requests : List ℕ} {s : State} {mi
   module _ (listed : Listed n (length requests)) (small : (i : ℕ) → getD before i 0 < 2 ^ 16) (few : s .subproblems < 4294967296) where
     narrow-too : Runs n d domains tables before left (wordsOf requests) s (joined taken q)
         → Runs n d domains tables before left (wordsOf requests) s (joined taken q) × Narrow (joined taken q)
-    narrow-too h =
-        (h, run-narrow n d domains tables before s small (omega (arith, going .begun)) left (wordsOf requests) (joined taken q) (whole-words n requests (listed .requests, listed .whole)) few h)
+    narrow-too h = (
+      h,
+      run-narrow n d domains tables before s small (omega (arith, going .begun)) left (wordsOf requests) (joined taken q)
+          (whole-words n requests (listed .requests, listed .whole)) few h,
+    )
 
     pub returns-end : end ≡ length requests → Runs n d domains tables before left (wordsOf requests) s (joined taken q) × Narrow (joined taken q)
     returns-end e = narrow-too (so-far-end e)

@@ -151,7 +151,8 @@ pub bytes-more : (w d m : List ℕ) (i x y : ℕ) → m ≡ take (2 * i) (bytesO
 bytes-more w d m i x y e s t h k =
     let long : 2 * i + 1 < length (bytesOf w) = omega (arith, bytes-length w) in
     let two : 2 * i + 1 + 1 ≡ 2 * (i + 1) = omega arith in
-    let first : set m (2 * i) x ≡ take (2 * i + 1) (bytesOf w) ++ drop (2 * i + 1) d = copy-more (bytesOf w) d m (2 * i) x e (s ∙ sym (low-at w i h)) (omega arith) (omega arith) in
+    let first : set m (2 * i) x ≡ take (2 * i + 1) (bytesOf w) ++ drop (2 * i + 1) d = copy-more (bytesOf w) d m (2 * i) x e (s ∙ sym (low-at w i h))
+    (omega arith) (omega arith) in
     copy-more (bytesOf w) d (set m (2 * i) x) (2 * i + 1) y first (t ∙ sym (high-at w i h)) long (omega arith)
     ∙ ap (λ (j : ℕ). take j (bytesOf w) ++ drop j d) two
 

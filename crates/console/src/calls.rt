@@ -39,7 +39,7 @@ fn open_words(n: usize, d: usize, domains: &[u8], tables: &[u8], agenda: &mut [u
     opened
 }
 
-// Opening.
+// Opening on bytes: at their words where there is room for these, else refused.
 pub(crate) fn open(n: usize, d: usize, domains: &[u8], tables: &[u8], agenda: &mut [u8]) -> Opened
     ensures { λ r. ⌜ OpensBytes n d (now (domains .entry)) (now (tables .entry)) (now (agenda .entry)) (now (agenda .exit)) r × (r .state .subproblems < 4294967296) ⌝ }
 {
@@ -193,7 +193,7 @@ fn choose_words(
     ran
 }
 
-// The house chooser.
+// The house chooser on bytes: at their words where there is room for these, else refused.
 pub(crate) fn choose(
     n: usize,
     d: usize,
@@ -242,7 +242,7 @@ fn save_words(
     )
 }
 
-// Save.
+// Save of bytes: at their words where there is room for these, else refused.
 pub(crate) fn save(
     n: usize,
     d: usize,
@@ -298,7 +298,7 @@ fn load_none(file: &[u8]) -> Loaded
     )
 }
 
-// Load.
+// Load into bytes: at their words where there is room for these, else refused.
 pub(crate) fn load(file: &[u8], domains: &mut [u8], tables: &mut [u8], agenda: &mut [u8]) -> Loaded
     ensures { λ r. ⌜ LoadsBytes (now (file .entry)) (now (domains .entry)) (now (domains .exit)) (now (tables .entry)) (now (tables .exit)) (now (agenda .entry)) (now (agenda .exit)) r × NarrowLoaded r ⌝ }
 {

@@ -53,7 +53,9 @@ module _ (file : List ℕ) where
   -- So the tables are symmetric.
   mirror : (i j a b : ℕ) → i < j → a < saidD file → bit (saidAllowed file i j a) b ≡ bit (saidAllowed file j i b) a
   mirror i j a b l m =
-      sym (ap (λ (x : ℕ). bit x a) (above-is j i b l) ∙ gathered-bit (saidD file) (λ v. bit (saidAllowed file i j v) b) (λ v. bit-le (saidAllowed file i j v) b) a m)
+      sym
+      (ap (λ (x : ℕ). bit x a) (above-is j i b l) ∙ gathered-bit (saidD file) (λ v. bit (saidAllowed file i j v) b)
+      (λ v. bit-le (saidAllowed file i j v) b) a m)
 
   -- A problem of such numbers, domains and masks is proper.
   proper-said : 1 ≤ saidN file → saidN file ≤ 32 → 1 ≤ saidD file → saidD file ≤ 16
@@ -154,17 +156,31 @@ module _ (file : List ℕ) where
       let (j, k, y) = every-fails (pair i) (saidN file) x in
       let (a, m, z) = every-fails (test i j) (saidD file) (or-right (not (ltb i j)) (every (saidD file) (test i j)) y) in
       let h : i < j = ltb-true i j (not-false (ltb i j) (or-left (not (ltb i j)) (every (saidD file) (test i j)) y)) in
-      inr (i, j, a, l, k, (λ e. absurd (omega arith)), m, over-of (saidD file) (saidAllowed file i j a) (ltb-false (saidAllowed file i j a) (2 ^ saidD file) z))
+      inr (
+        i,
+        j,
+        a,
+        l,
+        k,
+        (λ e. absurd (omega arith)),
+        m,
+        over-of (saidD file) (saidAllowed file i j a) (ltb-false (saidAllowed file i j a) (2 ^ saidD file) z),
+      )
 
   -- What the tests say.
   tests-accept : tests ≡ true → Accepts file
   unfolding tests t-one t-vars t-val t-vals t-few t-fills t-zero t-doms t-rules t-count
   tests-accept e11 =
-      let e10 : (t-one && t-vars && t-val && t-vals && t-few && t-fills && t-zero && t-doms && t-masks && t-rules) ≡ true = and-left (t-one && t-vars && t-val && t-vals && t-few && t-fills && t-zero && t-doms && t-masks && t-rules) t-count e11 in
-      let e9 : (t-one && t-vars && t-val && t-vals && t-few && t-fills && t-zero && t-doms && t-masks) ≡ true = and-left (t-one && t-vars && t-val && t-vals && t-few && t-fills && t-zero && t-doms && t-masks) t-rules e10 in
-      let e8 : (t-one && t-vars && t-val && t-vals && t-few && t-fills && t-zero && t-doms) ≡ true = and-left (t-one && t-vars && t-val && t-vals && t-few && t-fills && t-zero && t-doms) t-masks e9 in
-      let e7 : (t-one && t-vars && t-val && t-vals && t-few && t-fills && t-zero) ≡ true = and-left (t-one && t-vars && t-val && t-vals && t-few && t-fills && t-zero) t-doms e8 in
-      let e6 : (t-one && t-vars && t-val && t-vals && t-few && t-fills) ≡ true = and-left (t-one && t-vars && t-val && t-vals && t-few && t-fills) t-zero e7 in
+      let e10 : (t-one && t-vars && t-val && t-vals && t-few && t-fills && t-zero && t-doms && t-masks && t-rules) ≡ true = and-left
+      (t-one && t-vars && t-val && t-vals && t-few && t-fills && t-zero && t-doms && t-masks && t-rules) t-count e11 in
+      let e9 : (t-one && t-vars && t-val && t-vals && t-few && t-fills && t-zero && t-doms && t-masks) ≡ true = and-left
+      (t-one && t-vars && t-val && t-vals && t-few && t-fills && t-zero && t-doms && t-masks) t-rules e10 in
+      let e8 : (t-one && t-vars && t-val && t-vals && t-few && t-fills && t-zero && t-doms) ≡ true = and-left
+      (t-one && t-vars && t-val && t-vals && t-few && t-fills && t-zero && t-doms) t-masks e9 in
+      let e7 : (t-one && t-vars && t-val && t-vals && t-few && t-fills && t-zero) ≡ true = and-left
+      (t-one && t-vars && t-val && t-vals && t-few && t-fills && t-zero) t-doms e8 in
+      let e6 : (t-one && t-vars && t-val && t-vals && t-few && t-fills) ≡ true = and-left (t-one && t-vars && t-val && t-vals && t-few && t-fills)
+      t-zero e7 in
       let e5 : (t-one && t-vars && t-val && t-vals && t-few) ≡ true = and-left (t-one && t-vars && t-val && t-vals && t-few) t-fills e6 in
       let e4 : (t-one && t-vars && t-val && t-vals) ≡ true = and-left (t-one && t-vars && t-val && t-vals) t-few e5 in
       let e3 : (t-one && t-vars && t-val) ≡ true = and-left (t-one && t-vars && t-val) t-vals e4 in
@@ -186,11 +202,16 @@ module _ (file : List ℕ) where
         zeros = λ k l m.
             let at : saidWords file + (k - saidWords file) ≡ k = omega arith in
             rw (← at) (eqb-true (contentWord file (saidWords file + (k - saidWords file))) 0
-            (every-at (λ k. eqb (contentWord file (saidWords file + k)) 0) (blocksIn file * 253 - saidWords file) (k - saidWords file) (omega arith) (and-right (t-one && t-vars && t-val && t-vals && t-few && t-fills) t-zero e7)));
+            (every-at (λ k. eqb (contentWord file (saidWords file + k)) 0) (blocksIn file * 253 - saidWords file) (k - saidWords file) (omega arith)
+            (and-right (t-one && t-vars && t-val && t-vals && t-few && t-fills) t-zero e7)));
         domains = doms;
         masks = masks;
-        rules = all-rules (saidProblem file) (saidSearch file .stack) (proper-said n₁ n₂ d₁ d₂ doms masks) (and-right (t-one && t-vars && t-val && t-vals && t-few && t-fills && t-zero && t-doms && t-masks) t-rules e10);
-        counted = leb-true (saidChecks file) (496 * saidSteps file) (and-right (t-one && t-vars && t-val && t-vals && t-few && t-fills && t-zero && t-doms && t-masks && t-rules) t-count e11);
+        rules =
+            all-rules (saidProblem file) (saidSearch file .stack) (proper-said n₁ n₂ d₁ d₂ doms masks)
+            (and-right (t-one && t-vars && t-val && t-vals && t-few && t-fills && t-zero && t-doms && t-masks) t-rules e10);
+        counted =
+            leb-true (saidChecks file) (496 * saidSteps file)
+            (and-right (t-one && t-vars && t-val && t-vals && t-few && t-fills && t-zero && t-doms && t-masks && t-rules) t-count e11);
       }
 
   accept-tests : Accepts file → tests ≡ true
@@ -246,7 +267,10 @@ module _ (file : List ℕ) where
       doms a b c d f g h (inl x) = masks a b c d f g h x (either t-masks)
       doms a b c d f g h (inr x) =
           let (i, l, z) = every-fails (λ i. ltb (saidProblem file .domain i) (2 ^ saidD file)) (saidN file) x in
-          inr (inr (inr (inr (inr (inl (inl (i, l, over-of (saidD file) (saidProblem file .domain i) (ltb-false (saidProblem file .domain i) (2 ^ saidD file) z))))))))
+          inr
+          (inr
+          (inr
+          (inr (inr (inl (inl (i, l, over-of (saidD file) (saidProblem file .domain i) (ltb-false (saidProblem file .domain i) (2 ^ saidD file) z))))))))
 
       zeros : t-one ≡ true → t-vars ≡ true → t-val ≡ true → t-vals ≡ true → t-few ≡ true → t-fills ≡ true → Way t-zero → Deserves-15 file
       zeros a b c d f g (inl x) = doms a b c d f g x (either t-doms)

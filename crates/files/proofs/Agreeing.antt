@@ -33,7 +33,8 @@ module _ {p : Problem} {P : Subproblem} {r : List ℕ} (s : Splits p P r) (g : T
   held = record { proper = s .proper; rules = s .rules }
 
   low : (i : ℕ) → i < p .n → lowest (domain P i) < p .d
-  low i l = member-lt (p .d) (p .domain i) (lowest (domain P i)) (s .proper .domains i l) (s .rules .part i l (lowest (domain P i)) (lowest-in held i l))
+  low i l =
+      member-lt (p .d) (p .domain i) (lowest (domain P i)) (s .proper .domains i l) (s .rules .part i l (lowest (domain P i)) (lowest-in held i l))
 
   variable-lt : 1 ≤ kindOf r → kindOf r ≤ 3 → variableOf r < p .n
   variable-lt h k = let q : p .n ≤ variableOf r → ⊥ = λ l. s .accepted .not-8 ((h, omega arith), inl l) in omega arith

@@ -40,7 +40,8 @@ fewest-so-far : (n : ℕ) (P : Subproblem) (i : ℕ) → i ≤ n
 unfolding fewestOf
 fewest-so-far n P zero h = inr (refl, λ k l. absurd (omega arith))
 fewest-so-far n P (suc i) h =
-    go (eqb (bit (P .marked) i) 0) refl (eqb (fewestOf n P i) n) refl (ltb (size (domain P i)) (size (domain P (fewestOf n P i)))) (fewest-so-far n P i (omega arith))
+    go (eqb (bit (P .marked) i) 0) refl (eqb (fewestOf n P i) n) refl (ltb (size (domain P i)) (size (domain P (fewestOf n P i))))
+    (fewest-so-far n P i (omega arith))
   where
     Way : ℕ → ℕ → Type 0
     Way x i = ((x < n) × (bit (P .marked) x ≡ 0)) ⊎ ((x ≡ n) × ((k : ℕ) → k < i → Instantiated P k))
@@ -75,7 +76,8 @@ module _ (p : Problem) (g : Table) (agree : Allow-same (p .n) (p .d) (p .allowed
   unfolding refusalOfTop splitTop
   top-same P S s r h top = elim (ℕ-discrete (refusalOf (p .n) (p .d) P r) 0) [
     | yes e ↦
-        let split : Splits p P r = record { proper = h .proper; rules = h .rules P (rw top (List·Memᴰ·head refl)); accepted = refusal-none (p .n) (p .d) P r .0 e } in
+        let split : Splits p P r = record
+        { proper = h .proper; rules = h .rules P (rw top (List·Memᴰ·head refl)); accepted = refusal-none (p .n) (p .d) P r .0 e } in
         rw (pieces-same split g agree) refl
     | no f ↦ rw (ne-eqb (refusalOf (p .n) (p .d) P r) 0 f) refl
   ]
@@ -117,12 +119,14 @@ module _ (p : Problem) (g : Table) (agree : Allow-same (p .n) (p .d) (p .allowed
   -- ---- the chooser
 
   -- The request that it may choose is accepted.
-  three-accepted : (P : Subproblem) (V′ v : ℕ) → V′ < p .n → bit (P .marked) V′ ≡ 0 → v < p .d → v ∈ domain P V′ → Accepted (p .n) (p .d) P (request 3 V′ v)
+  three-accepted : (P : Subproblem) (V′ v : ℕ) → V′ < p .n → bit (P .marked) V′ ≡ 0 → v < p .d → v ∈ domain P V′
+      → Accepted (p .n) (p .d) P (request 3 V′ v)
   three-accepted P V′ v l free m has = record {
     not-7 = λ x. ⊎-elim (λ (y : 3 < 1). absurd (omega arith)) (λ (y : 5 < 3). absurd (omega arith)) x;
     not-8 = λ x. ⊎-elim (λ (y : p .n ≤ V′). absurd (omega arith)) (λ (y : Instantiated P V′). absurd (omega arith)) (x .1);
     not-9 = λ x.
-        ⊎-elim (λ (y : ((1 ≤ 3) × (3 ≤ 3)) × ((p .d ≤ v) ⊎ (v ∈ domain P V′ → ⊥))). ⊎-elim (λ (z : p .d ≤ v). absurd (omega arith)) (λ z. z has) (y .1))
+        ⊎-elim
+        (λ (y : ((1 ≤ 3) × (3 ≤ 3)) × ((p .d ≤ v) ⊎ (v ∈ domain P V′ → ⊥))). ⊎-elim (λ (z : p .d ≤ v). absurd (omega arith)) (λ z. z has) (y .1))
         (λ (y : (3 ≡ 4) × (size (domain P V′) ≡ 1)). absurd (omega (arith, y .0))) x;
     not-10 = λ x. absurd (omega (arith, x .0));
   }
@@ -153,7 +157,9 @@ module _ (p : Problem) (g : Table) (agree : Allow-same (p .n) (p .d) (p .allowed
       r′ = chosen other room (s .stack)
 
       first : Stopped
-      first = cond (eqb (refusalOfRequest p room r s) 0) (chooseFrom p room m (step p r s) (k + 1)) (record { search = s; refusal = refusalOfRequest p room r s; taken = k })
+      first =
+          cond (eqb (refusalOfRequest p room r s) 0) (chooseFrom p room m (step p r s) (k + 1))
+          (record { search = s; refusal = refusalOfRequest p room r s; taken = k })
 
       second : Stopped
       second =
@@ -171,7 +177,8 @@ module _ (p : Problem) (g : Table) (agree : Allow-same (p .n) (p .d) (p .allowed
       next more e =
           let (P, S, top) = running-top (p .n) (s .stack) e in
           let same : r ≡ r′ = request-is P S top (free P S top e) in
-          let refusals : refusalOfRequest p room r s ≡ refusalOfRequest other room r′ s = request-same P S s r h top ∙ ap (λ (x : List ℕ). refusalOfRequest other room x s) same in
+          let refusals : refusalOfRequest p room r s ≡ refusalOfRequest other room r′ s = request-same P S s r h top ∙ ap
+          (λ (x : List ℕ). refusalOfRequest other room x s) same in
           elim (ℕ-discrete (refusalOfRequest p room r s) 0) [
             | yes z ↦
                 rw (eq-eqb (refusalOfRequest p room r s) 0 z, eq-eqb (refusalOfRequest other room r′ s) 0 (sym refusals ∙ z))
@@ -182,7 +189,8 @@ module _ (p : Problem) (g : Table) (agree : Allow-same (p .n) (p .d) (p .allowed
                 (ap (λ (x : ℕ). record { search = s; refusal = x; taken = k }) refusals)
           ]
 
-      go : ((t : Search) (j : ℕ) → Passes p room t → chooseFrom p room m t j ≡ chooseFrom other room m t j) → (b : Bool) → finished (p .n) (s .stack) ≡ b
+      go : ((t : Search) (j : ℕ) → Passes p room t → chooseFrom p room m t j ≡ chooseFrom other room m t j) → (b : Bool)
+          → finished (p .n) (s .stack) ≡ b
           → cond b (record { search = s; refusal = 0; taken = k }) first ≡ cond b (record { search = s; refusal = 0; taken = k }) second
       go more true e = refl
       go more false e = next more e

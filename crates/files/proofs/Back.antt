@@ -58,7 +58,8 @@ module _ (file : List ℕ) (n d : ℕ) (domains : List ℕ) (allowed : Table) (x
       rw (says .whole, says .accepted, three, le-ltb (slotsIn (saidN file) agenda₀) (saidSubproblems file) slots) refl
 
   -- What it returns and leaves is what the file says.
-  pub lent : (domains₀ domains′ tables₀ tables′ agenda₀ agenda′ : List ℕ) (r : Loaded) → Loads file domains₀ domains′ tables₀ tables′ agenda₀ agenda′ r
+  pub lent : (domains₀ domains′ tables₀ tables′ agenda₀ agenda′ : List ℕ) (r : Loaded)
+      → Loads file domains₀ domains′ tables₀ tables′ agenda₀ agenda′ r
       → Fits n d (length domains₀) (length tables₀) (length agenda₀) → length (x .stack) ≤ slotsIn n (length agenda₀)
       → Lent file n d domains x (length agenda₀) r domains′ tables′ agenda′
   unfolding stateOf
@@ -73,7 +74,8 @@ module _ (file : List ℕ) (n d : ℕ) (domains : List ℕ) (allowed : Table) (x
         its-d = (rw none at (h .its-d)) ∙ says .its-d;
         its-domains = (rw none at (h .its-domains)) ∙ says .its-domains;
         its-tables = (rw none at (h .its-tables)) ∙ ap₂ (λ (n d : ℕ). tableWords n d (saidAllowed file)) (says .its-n) (says .its-d);
-        its-agenda = (rw none at (h .its-agenda)) ∙ ap₂ (λ (n : ℕ) (y : Search). agendaOf n (length agenda₀) (y .stack)) (says .its-n) (says .its-search);
+        its-agenda =
+            (rw none at (h .its-agenda)) ∙ ap₂ (λ (n : ℕ) (y : Search). agendaOf n (length agenda₀) (y .stack)) (says .its-n) (says .its-search);
         its-state = λ i. record { counts = record { steps = record { 0 = steps i }; checks = record { 0 = checks i } }; subproblems = subproblems i };
       }
 
@@ -102,7 +104,8 @@ state-search n few words x shape =
 
 -- Load of what save wrote returns and leaves the search that was saved.
 module _ (n d : ℕ) (domains tables agenda : List ℕ) (s : State) (before after : List ℕ) (saved : Saved)
-    (domains₀ domains′ tables₀ tables′ agenda₀ agenda′ : List ℕ) (r : Loaded) (words : Words agenda) (h : Saves n d domains tables agenda s before after saved)
+    (domains₀ domains′ tables₀ tables′ agenda₀ agenda′ : List ℕ) (r : Loaded) (words : Words agenda)
+    (h : Saves n d domains tables agenda s before after saved)
     (e : saved .refusal ≡ 0) (l : Loads (take (512 * saved .blocks) after) domains₀ domains′ tables₀ tables′ agenda₀ agenda′ r) (ds : length domains₀ ≡ n)
     (ts : length tables₀ ≡ n * n * d) (ws : WholeSlots n (length agenda₀)) (room : s .subproblems ≤ slotsIn n (length agenda₀)) where
   none : saveRefusal n d domains tables agenda s before ≡ 0
@@ -110,7 +113,8 @@ module _ (n d : ℕ) (domains tables agenda : List ℕ) (s : State) (before afte
 
   passing : PassedSearch n d domains tables agenda (s .counts .steps .0) (s .counts .checks .0) (s .subproblems)
   passing =
-      search-is-passed n d domains tables agenda (s .counts .steps .0) (s .counts .checks .0) (s .subproblems) .0 (save-none n d domains tables agenda s before .0 none .0)
+      search-is-passed n d domains tables agenda (s .counts .steps .0) (s .counts .checks .0) (s .subproblems) .0
+      (save-none n d domains tables agenda s before .0 none .0)
 
   says-it : Says (fileOf (handedContent n d domains tables agenda s)) n d domains (tableOf n d tables) (searchOf n agenda s)
   says-it = saved-says n d domains tables agenda s words passing
@@ -119,7 +123,8 @@ module _ (n d : ℕ) (domains tables agenda : List ℕ) (s : State) (before afte
   lent-back =
       let file = fileOf (handedContent n d domains tables agenda s) in
       let x = searchOf n agenda s in
-      let given : Loads file domains₀ domains′ tables₀ tables′ agenda₀ agenda′ r = rw (written-blocks n d domains tables agenda s before after saved h none) at l in
+      let given : Loads file domains₀ domains′ tables₀ tables′ agenda₀ agenda′ r = rw
+      (written-blocks n d domains tables agenda s before after saved h none) at l in
       let fits : Fits n d (length domains₀) (length tables₀) (length agenda₀) = record { domain-words = ds; table-words = ts; slots = ws } in
       let size : length (x .stack) ≡ s .subproblems = length-stackOf n agenda (s .subproblems) in
       let slots : length (x .stack) ≤ slotsIn n (length agenda₀) = omega arith in
@@ -132,9 +137,12 @@ module _ (n d : ℕ) (domains tables agenda : List ℕ) (s : State) (before afte
     its-n = lent-back .its-n;
     its-d = lent-back .its-d;
     its-domains = lent-back .its-domains;
-    its-allowed = rw (lent-back .its-tables) (lent-agree (fileOf (handedContent n d domains tables agenda s)) n d domains (tableOf n d tables) (searchOf n agenda s) says-it);
+    its-allowed =
+        rw (lent-back .its-tables)
+        (lent-agree (fileOf (handedContent n d domains tables agenda s)) n d domains (tableOf n d tables) (searchOf n agenda s) says-it);
     its-search = ap₂ (searchOf n) (lent-back .its-agenda) (lent-back .its-state)
-        ∙ state-search n (passing .passed .proper .variables) (length agenda₀) (searchOf n agenda s) (stack-shape n d domains tables agenda s words passing);
+        ∙ state-search n (passing .passed .proper .variables) (length agenda₀) (searchOf n agenda s)
+        (stack-shape n d domains tables agenda s words passing);
   }
 
 -- ---- save after load
@@ -171,7 +179,8 @@ module _ (file domains₀ domains tables₀ tables agenda₀ agenda : List ℕ) 
   content-is =
       let t = load-taken file (length domains₀) (length tables₀) (length agenda₀) passes in
       let read = memory-read file (t .accepts) bytes (length agenda₀) (t .lengths .slots) (t .room) in
-      let same = triangle-same (saidN file) (saidD file) (tableOf (saidN file) (saidD file) (tableWords (saidN file) (saidD file) (saidAllowed file))) (saidAllowed file)
+      let same = triangle-same (saidN file) (saidD file) (tableOf (saidN file) (saidD file) (tableWords (saidN file) (saidD file) (saidAllowed file)))
+      (saidAllowed file)
       (λ i j a l k m. sym (said-agree file (t .accepts) i j a (omega arith) k (λ q. absurd (omega arith)) m)) in
       rw (read, same) (saved-again file bytes (t .accepts .variables) (t .whole) (t .accepts))
 

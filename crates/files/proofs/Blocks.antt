@@ -165,14 +165,16 @@ content-small c b h r = elim (decLt r 253) [
   | no l ↦ rw (List·getD-eq-default (contentOfBlock c b) 0 {n = r} (omega (arith, content-length c b))) (omega arith)
 ]
 
-headed-small : (blocks : ℕ) (c : List ℕ) (b : ℕ) → b < 101 → blocks ≤ 101 → ((k : ℕ) → getD c k 0 < 65536) → (r : ℕ) → getD (headedBlock blocks c b) r 0 < 65536
+headed-small : (blocks : ℕ) (c : List ℕ) (b : ℕ) → b < 101 → blocks ≤ 101 → ((k : ℕ) → getD c k 0 < 65536) → (r : ℕ)
+    → getD (headedBlock blocks c b) r 0 < 65536
 unfolding headedBlock
 headed-small blocks c b l m h zero = omega arith
 headed-small blocks c b l m h (suc zero) = omega arith
 headed-small blocks c b l m h (suc (suc r)) = content-small c b h r
 
 -- The bytes of blocks of words are bytes.
-pub blocks-small : (m blocks : ℕ) (c : List ℕ) → m ≤ 101 → blocks ≤ 101 → ((k : ℕ) → getD c k 0 < 65536) → (i : ℕ) → getD (firstBlocks m blocks c) i 0 < 256
+pub blocks-small : (m blocks : ℕ) (c : List ℕ) → m ≤ 101 → blocks ≤ 101 → ((k : ℕ) → getD c k 0 < 65536) → (i : ℕ)
+    → getD (firstBlocks m blocks c) i 0 < 256
 unfolding firstBlocks blockWords
 blocks-small zero blocks c l few h i = omega arith
 blocks-small (suc m) blocks c l few h i =

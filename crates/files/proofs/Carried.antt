@@ -62,7 +62,8 @@ module _ (n d : ℕ) (domains tables : List ℕ) (w : Two-ways n d domains table
   its-own : agenda ≡ agendaOf n (length agenda) (stackOf n agenda (s .subproblems))
   unfolding agenda s
   its-own =
-      agenda-of-words n (w .first-agenda) (w .first .state .subproblems) (within n d domains tables (w .first-agenda) (w .first .state) (handed .words) passing) (handed .words)
+      agenda-of-words n (w .first-agenda) (w .first .state .subproblems)
+      (within n d domains tables (w .first-agenda) (w .first .state) (handed .words) passing) (handed .words)
       (λ i l. elim (decLt i (length (w .first-agenda))) [ yes k ↦ passing .zeros i l k | no k ↦ List·getD-eq-default (w .first-agenda) 0 (omega arith) ])
 
   pub carried : Carried w
@@ -74,10 +75,12 @@ module _ (n d : ℕ) (domains tables : List ℕ) (w : Two-ways n d domains table
       let room : s .subproblems ≤ slotsIn n (length (w .agenda₀)) = rw (w .agenda-words) (passing .room) in
       let slots : WholeSlots n (length (w .agenda₀)) = rw (w .agenda-words) (passing .passed .slots) in
       let back =
-      lent-back n d domains tables agenda s (w .buffer) (w .written) (w .saved) (w .domains₀) (w .domains′) (w .tables₀) (w .tables′) (w .agenda₀) (w .agenda′) (w .loaded)
+      lent-back n d domains tables agenda s (w .buffer) (w .written) (w .saved) (w .domains₀) (w .domains′) (w .tables₀) (w .tables′) (w .agenda₀)
+      (w .agenda′) (w .loaded)
       (handed .words) (w .saves) saved (w .loads) (w .domain-words) (w .table-words) slots room in
       let given =
-      loads-back n d domains tables agenda s (w .buffer) (w .written) (w .saved) (w .domains₀) (w .domains′) (w .tables₀) (w .tables′) (w .agenda₀) (w .agenda′) (w .loaded)
+      loads-back n d domains tables agenda s (w .buffer) (w .written) (w .saved) (w .domains₀) (w .domains′) (w .tables₀) (w .tables′) (w .agenda₀)
+      (w .agenda′) (w .loaded)
       (handed .words) (w .saves) saved (w .loads) (w .domain-words) (w .table-words) slots room in
       let count = length-stackOf n agenda (s .subproblems) in
       record {
@@ -87,7 +90,9 @@ module _ (n d : ℕ) (domains tables : List ℕ) (w : Two-ways n d domains table
         its-d = back .its-d;
         its-domains = back .its-domains;
         its-tables = record {
-          words = ap length (back .its-tables) ∙ table-length n d (saidAllowed (fileOf (handedContent n d domains tables agenda s))) ∙ sym (passing .passed .tables-words);
+          words =
+              ap length (back .its-tables) ∙ table-length n d (saidAllowed (fileOf (handedContent n d domains tables agenda s))) ∙ sym
+              (passing .passed .tables-words);
           masks = given .its-allowed;
         };
         its-agenda = back .its-agenda ∙ ap (λ (k : ℕ). agendaOf n k (stackOf n agenda (s .subproblems))) (w .agenda-words) ∙ sym its-own;

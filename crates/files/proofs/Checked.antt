@@ -119,7 +119,8 @@ module _ (file : List ℕ) (small : Bytes file) (whole : Whole file) (sized : si
       let zeros : contentFrom file (agendaFrom (saidN file) (saidD file) + used) left ≡ replicate left 0 =
       map-is (λ k. contentWord file (agendaFrom (saidN file) (saidD file) + used + k)) left (replicate left 0) (length-replicate left 0)
       (λ k l. full .zeros (agendaFrom (saidN file) (saidD file) + used + k) (omega arith) ∙ sym (zeros-at left k)) in
-      ap (contentFrom file (agendaFrom (saidN file) (saidD file))) (sym all) ∙ seq-join (contentWord file) (agendaFrom (saidN file) (saidD file)) used left
+      ap (contentFrom file (agendaFrom (saidN file) (saidD file))) (sym all) ∙ seq-join (contentWord file) (agendaFrom (saidN file) (saidD file)) used
+      left
       ∙ ap (λ (t : List ℕ). contentFrom file (agendaFrom (saidN file) (saidD file)) used ++ t) zeros ∙ agenda-said file (512 * (n + 2)) small
 
   -- It holds the stack that the file says.
@@ -161,7 +162,8 @@ module _ (file : List ℕ) (small : Bytes file) (whole : Whole file) (sized : si
             let other : i ≡ j → ⊥ = λ q. absurd (omega arith) in
             rw (← table-other n d (saidAllowed file) i j a (omega arith) k other m) (h .passed .proper .masks i j a (omega arith) k other m);
         rules = λ P m.
-            rules-agree n d (λ i. getD (saidDomains file) i 0) (tableOf n d tables) (saidAllowed file) (table-other n d (saidAllowed file)) (h .passed .proper .domains) P
+            rules-agree n d (λ i. getD (saidDomains file) i 0) (tableOf n d tables) (saidAllowed file) (table-other n d (saidAllowed file))
+            (h .passed .proper .domains) P
             (h .rules P (rw memory-read m));
         counted = h .limit;
       }

@@ -110,7 +110,12 @@ module _ (n d : ℕ) (domains : List ℕ) (allowed : Table) (s : Search) (few : 
     pub says-checks : saidChecks file ≡ s .checks
     unfolding contentOf
     says-checks =
-        rw (holds 4 (omega (arith, content-length)), holds 5 (omega (arith, content-length)), holds 6 (omega (arith, content-length)), holds 7 (omega (arith, content-length)))
+        rw (
+          holds 4 (omega (arith, content-length)),
+          holds 5 (omega (arith, content-length)),
+          holds 6 (omega (arith, content-length)),
+          holds 7 (omega (arith, content-length)),
+        )
         (four-words (s .checks))
 
     -- It says the number of subproblems.
@@ -149,7 +154,9 @@ module _ (n d : ℕ) (domains : List ℕ) (allowed : Table) (s : Search) (few : 
     -- What is allowed, of a table that is symmetric.
     mask-at : (i j a : ℕ) → i < j → j < n → a < d
         → contentWord file (9 + saidN file + trianglePlace (saidN file) (saidD file) i j a) ≡ allowed i j a
-    mask-at i j a h l m = rw (says-n, says-d) (holds (9 + n + trianglePlace n d i j a) (omega (arith, content-length, place-lt n d i j a h l m)) ∙ content-mask i j a h l m)
+    mask-at i j a h l m =
+        rw (says-n, says-d)
+        (holds (9 + n + trianglePlace n d i j a) (omega (arith, content-length, place-lt n d i j a h l m)) ∙ content-mask i j a h l m)
 
     -- For i below j it says what is allowed.
     pub says-below : (i j a : ℕ) → i < j → j < n → a < d → saidAllowed file i j a ≡ allowed i j a

@@ -38,7 +38,8 @@ pub record Outcome (n : ℕ) (before left : List ℕ) (x : Stopped) (r : Ran) : 
   pub subproblems : r .state .subproblems ≡ length (x .search .stack)
   pub agenda : left ≡ agendaOf n (length before) (x .search .stack)
 
-ends-outcome : (first n : ℕ) (before left : List ℕ) (s : State) (x : Stopped) (r : Ran) → first ≡ 0 → Ends first n before left s x r → Outcome n before left x r
+ends-outcome : (first n : ℕ) (before left : List ℕ) (s : State) (x : Stopped) (r : Ran) → first ≡ 0 → Ends first n before left s x r
+    → Outcome n before left x r
 ends-outcome first n before left s x r e h = record {
   verdict = rw e at (h .verdict);
   refusal = rw e at (h .refusal);
@@ -52,7 +53,8 @@ ends-outcome first n before left s x r e h = record {
 -- ---- two calls in the place of one
 
 -- Where the uncut call stops as the second does, so many more taken before, the end is the uncut call's.
-joined-end : (n d : ℕ) (domains tables agenda : List ℕ) (w : Two-ways n d domains tables) (x x₁ x₂ : Stopped) → Outcome n agenda (w .whole-agenda) x (w .whole)
+joined-end : (n d : ℕ) (domains tables agenda : List ℕ) (w : Two-ways n d domains tables) (x x₁ x₂ : Stopped)
+    → Outcome n agenda (w .whole-agenda) x (w .whole)
     → Outcome n agenda (w .first-agenda) x₁ (w .first) → Outcome n (w .first-agenda) (w .second-agenda) x₂ (w .second) → x ≡ after (x₁ .taken) x₂
     → length (w .first-agenda) ≡ length agenda → Carried w → Same-end w
 joined-end n d domains tables agenda w x x₁ x₂ out out₁ out₂ joined kept c = record {
@@ -111,7 +113,8 @@ module _ (n d : ℕ) (domains tables agenda : List ℕ) (s : State) (requests mo
   unfolding x₁
   few =
       rw (requests-append n requests more w v)
-      (omega (arith, out₁ .taken, stops p room (requestsIn n requests) (searchOf n agenda s) .0, length-append (requestsIn n requests) (requestsIn n more)))
+      (omega
+      (arith, out₁ .taken, stops p room (requestsIn n requests) (searchOf n agenda s) .0, length-append (requestsIn n requests) (requestsIn n more)))
 
   -- Where what was gone on with stops.
   x₂ : Stopped
@@ -162,7 +165,8 @@ took p room (suc m) s j = go (finished (p .n) (s .stack)) refl (eqb k₁ 0) refl
 
     go : (a : Bool) → finished (p .n) (s .stack) ≡ a → (b : Bool) → eqb k₁ 0 ≡ b → Took p room (j + 1 + m) (chooseFrom p room m t₁ (j + 1))
         → Took p room (j + suc m)
-        (cond a (record { search = s; refusal = 0; taken = j }) (cond b (chooseFrom p room m t₁ (j + 1)) (record { search = s; refusal = k₁; taken = j })))
+        (cond a (record { search = s; refusal = 0; taken = j })
+        (cond b (chooseFrom p room m t₁ (j + 1)) (record { search = s; refusal = k₁; taken = j })))
     go true e b f rest = inr (omega arith, λ N. rw e refl)
     go false e true f rest =
         let up : j + 1 + m ≡ j + suc m = omega arith in
@@ -179,7 +183,8 @@ onward p room m k a none (inl e) =
 onward p room m zero a none (inr (fewer, again)) =
     let left : (m + 0) - a .taken ≡ suc ((m - a .taken) - 1) = omega arith in
     let nothing : a .refusal ≡ 0 = none refl in
-    ap (λ (N : ℕ). choose p room N (a .search)) left ∙ again ((m - a .taken) - 1) ∙ (λ i. record { search = a .search; refusal = nothing i; taken = 0 })
+    ap (λ (N : ℕ). choose p room N (a .search)) left ∙ again ((m - a .taken) - 1) ∙
+    (λ i. record { search = a .search; refusal = nothing i; taken = 0 })
 onward p room m (suc k) a none (inr (fewer, again)) =
     let left : (m + suc k) - a .taken ≡ suc ((m + k) - a .taken) = omega arith in
     ap (λ (N : ℕ). choose p room N (a .search)) left ∙ again ((m + k) - a .taken) ∙ sym (again k)
@@ -200,7 +205,8 @@ module _ (n d : ℕ) (domains tables agenda : List ℕ) (s : State) (m k : ℕ) 
   y₂ = choose q slots k (y₁ .search)
 
   -- The chooser on a search that passes.
-  chosen-outcome : (before left : List ℕ) (limit : ℕ) (st : State) (r : Ran) → Handed n d domains tables before st → Chooses n d domains tables before left limit st r
+  chosen-outcome : (before left : List ℕ) (limit : ℕ) (st : State) (r : Ran) → Handed n d domains tables before st
+      → Chooses n d domains tables before left limit st r
       → Outcome n before left (choose q (slotsIn n (length before)) limit (searchOf n before st)) r
   unfolding q
   chosen-outcome before left limit st r h chooses =

@@ -76,7 +76,9 @@ module _ (n d : ℕ) (domains tables tables′ : List ℕ) (same : AgreeApart n 
   pub content-same : (agenda : List ℕ) (s : State) → handedContent n d domains tables agenda s ≡ handedContent n d domains tables′ agenda s
   unfolding contentOf
   content-same agenda s =
-      rw (triangle-same n d (tableOf n d tables) (tableOf n d tables′) (λ i j a l k m. same .masks i j a (omega arith) k (λ e. absurd (omega arith)) m)) refl
+      rw
+      (triangle-same n d (tableOf n d tables) (tableOf n d tables′) (λ i j a l k m. same .masks i j a (omega arith) k (λ e. absurd (omega arith)) m))
+      refl
 
   -- ---- the four calls
 
@@ -91,7 +93,8 @@ module _ (n d : ℕ) (domains tables tables′ : List ℕ) (same : AgreeApart n 
   }
 
   -- A run.
-  pub diagonal-run : (before after requests : List ℕ) (s : State) (r : Ran) → s .counts .steps .0 ≤ 4294967295 → Runs n d domains tables before after requests s r
+  pub diagonal-run : (before after requests : List ℕ) (s : State) (r : Ran) → s .counts .steps .0 ≤ 4294967295
+      → Runs n d domains tables before after requests s r
       → Runs n d domains tables′ before after requests s r
   diagonal-run before after requests s r l h =
       rw (← run-refusal-same before requests (s .counts .steps .0) (s .counts .checks .0) (s .subproblems)) (ends-swap
@@ -103,7 +106,8 @@ module _ (n d : ℕ) (domains tables tables′ : List ℕ) (same : AgreeApart n 
       (run-is-passed n d domains tables before (s .counts .steps .0) (s .counts .checks .0) (s .subproblems) requests .0 e .0))) h)
 
   -- The chooser.
-  pub diagonal-choose : (before after : List ℕ) (limit : ℕ) (s : State) (r : Ran) → s .counts .steps .0 ≤ 4294967295 → Chooses n d domains tables before after limit s r
+  pub diagonal-choose : (before after : List ℕ) (limit : ℕ) (s : State) (r : Ran) → s .counts .steps .0 ≤ 4294967295
+      → Chooses n d domains tables before after limit s r
       → Chooses n d domains tables′ before after limit s r
   diagonal-choose before after limit s r l h =
       rw (← search-same before (s .counts .steps .0) (s .counts .checks .0) (s .subproblems)) (ends-swap
@@ -114,7 +118,8 @@ module _ (n d : ℕ) (domains tables tables′ : List ℕ) (same : AgreeApart n 
       (passed-passes n d domains tables before s l
       (search-is-passed n d domains tables before (s .counts .steps .0) (s .counts .checks .0) (s .subproblems) .0 e))) h)
 
-  save-same : (agenda : List ℕ) (s : State) (file : List ℕ) → saveRefusal n d domains tables agenda s file ≡ saveRefusal n d domains tables′ agenda s file
+  save-same : (agenda : List ℕ) (s : State) (file : List ℕ)
+      → saveRefusal n d domains tables agenda s file ≡ saveRefusal n d domains tables′ agenda s file
   unfolding saveRefusal
   save-same agenda s file = rw (search-same agenda (s .counts .steps .0) (s .counts .checks .0) (s .subproblems), content-same agenda s) refl
 

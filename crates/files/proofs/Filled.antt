@@ -10,7 +10,7 @@ use native.Mathlib.Nat.{mul-assoc, mul-le-mul, mul-le-mul-right, zero-add, add-z
 use native.Mathlib.Numerals.{add-one}
 use native.Mathlib.Decide.{decLt}
 use lib.ListN.{length, getD, take, drop, set, replicate, length-set, length-append, length-drop, length-replicate, replicate-append-replicate, take-append-drop, List·getD-eq-default}
-use lib.Seq.{getD-take, getD-drop, drop-cons, append-snoc, set-at, take-at, take-all, drop-drop, drop-length, length-take-le}
+use lib.Seq.{getD-take, getD-drop, drop-cons, append-snoc, set-at, take-all, drop-drop, drop-length, length-take-le}
 use borrow.Rule.Slice.PartMut.{putMid}
 use Rattle.splits.specs.Problem.{total}
 use Rattle.splits.specs.Splits.{below}
@@ -35,7 +35,8 @@ module _ (f : ℕ → ℕ) where
   front-none l = refl
 
   -- One more.
-  pub front-more : (l m : List ℕ) (k x : ℕ) → m ≡ map f (below k) ++ drop k l → x ≡ f k → k < length l → set m k x ≡ map f (below (k + 1)) ++ drop (k + 1) l
+  pub front-more : (l m : List ℕ) (k x : ℕ) → m ≡ map f (below k) ++ drop k l → x ≡ f k → k < length l
+      → set m k x ≡ map f (below (k + 1)) ++ drop (k + 1) l
   unfolding below
   front-more l m k x e s h =
       rw (e, s, drop-cons l k 0 h)
@@ -129,7 +130,8 @@ padded-put l m₁ m₂ ws end h (e₁, is-end) kept e₂ =
     let left : length m₁ - end ≡ length l - length ws = omega arith in
     let none : List ℕ = replicate (length l - length ws) 0 in
     let all : length (ws ++ none) ≡ length l = length-append ws none ∙ omega (arith, length-replicate {A = ℕ} (length l - length ws) 0) in
-    e₂ ∙ ap₂ (λ (x : List ℕ) (k : ℕ). splice x end (replicate k 0)) e₁ left ∙ splice-splice l 0 ws none end (sym is-end) (omega arith) ∙ splice-all l (ws ++ none) all
+    e₂ ∙ ap₂ (λ (x : List ℕ) (k : ℕ). splice x end (replicate k 0)) e₁ left ∙ splice-splice l 0 ws none end (sym is-end) (omega arith) ∙ splice-all l
+    (ws ++ none) all
 
 -- ---- a part written after those before it
 
@@ -146,7 +148,8 @@ module _ (f : ℕ → List ℕ) (l : List ℕ) (at : ℕ) where
   passed-none = record { ends = omega arith; kept = refl; made = sym (splice-none l at) }
 
   -- One part more.
-  pub passed-more : (m m′ ys : List ℕ) (i end end′ : ℕ) → Passed f l at m i end → end ≤ length l → ys ≡ f i → m′ ≡ splice m end ys → end′ ≡ end + length ys
+  pub passed-more : (m m′ ys : List ℕ) (i end end′ : ℕ) → Passed f l at m i end → end ≤ length l → ys ≡ f i → m′ ≡ splice m end ys
+      → end′ ≡ end + length ys
       → length m′ ≡ length m → Passed f l at m′ (i + 1) end′
   passed-more m m′ ys i end end′ inv h y e is-end same =
       let next : each f (below i) ++ ys ≡ each f (below (i + 1)) = rw (y, add-one) (sym (each-more f i)) in
@@ -181,7 +184,8 @@ content-block : (block : List ℕ) → take (255 - 2) (drop 2 (map (blockWord bl
 unfolding contentFrom
 content-block block =
     let all : List ℕ = map (blockWord block 0) (below 256) in
-    let long : length (take 253 (drop 2 all)) ≡ 253 = length-take-le 253 (drop 2 all) (omega (arith, length-drop 2 all, map-length (blockWord block 0) 256)) in
+    let long : length (take 253 (drop 2 all)) ≡ 253 = length-take-le 253 (drop 2 all)
+    (omega (arith, length-drop 2 all, map-length (blockWord block 0) 256)) in
     sym (map-is (λ k. contentWord block (0 + k)) 253 (take 253 (drop 2 all)) long
     (λ k h.
     sym (content-in block k h) ∙ sym (getD-take 253 (drop 2 all) k 0 h ∙ getD-drop 2 all k 0 ∙ map-at (blockWord block 0) 256 (2 + k) 0 (omega arith))))
@@ -318,15 +322,18 @@ module _ (words : List ℕ) (n d i : ℕ) where
     pairs-more m′ rows from end′ is-from r size e is-end same =
         let turned : columnPart rows (length rows) ≡ pairPart words n d i j d = pair-turned words n d j i from is-from rows r size h in
         let long : length (columnPart rows (length rows)) ≡ d = ap length turned ∙ pair-length j d in
-        passed-more (λ k. pairPart words n d i k d) l at m m′ (columnPart rows (length rows)) j end end′ inv (omega (arith, pair-room, inv .kept)) turned e
+        passed-more (λ k. pairPart words n d i k d) l at m m′ (columnPart rows (length rows)) j end end′ inv (omega (arith, pair-room, inv .kept))
+        turned e
         (omega (arith, size, long)) same
 
   -- All are written.
   pub pairs-end : (l m : List ℕ) (at j end : ℕ) → Passed (λ k. pairPart words n d i k d) l at m j end → j ≡ i
       → (m ≡ splice l at (rowPart words n d i i)) × (end ≡ at + i * d)
   unfolding rowPart
-  pairs-end l m at j end inv last =
-      (inv .made ∙ ap (λ (k : ℕ). splice l at (each (λ k. pairPart words n d i k d) (below k))) last, inv .ends ∙ ap (λ (x : ℕ). at + x) (row-length j ∙ ap (λ (k : ℕ). k * d) last))
+  pairs-end l m at j end inv last = (
+    inv .made ∙ ap (λ (k : ℕ). splice l at (each (λ k. pairPart words n d i k d) (below k))) last,
+    inv .ends ∙ ap (λ (x : ℕ). at + x) (row-length j ∙ ap (λ (k : ℕ). k * d) last),
+  )
 
   -- Zeros, and the masks that stand together.
   after-made : (ws : List ℕ) → i < n → ws ≡ partIn words (9 + n + total i (λ h. n - suc h) * d) ((n - (i + 1)) * d) → length ws ≡ (n - (i + 1)) * d
@@ -354,7 +361,9 @@ module _ (words : List ℕ) (n d i : ℕ) where
 
 -- Zeros are passed over.
 zeros-passed : (p : List ℕ) (k d : ℕ) → length p + d ≤ k → splice (zeros k) 0 p ≡ splice (zeros k) 0 (p ++ replicate d 0)
-zeros-passed p k d h = front-of-zeros p k ∙ ap (λ (j : ℕ). p ++ replicate j 0) left ∙ both (k - length (p ++ replicate d 0)) ∙ sym (front-of-zeros (p ++ replicate d 0) k)
+zeros-passed p k d h =
+    front-of-zeros p k ∙ ap (λ (j : ℕ). p ++ replicate j 0) left ∙ both (k - length (p ++ replicate d 0)) ∙ sym
+    (front-of-zeros (p ++ replicate d 0) k)
   where
     left : k - length p ≡ d + (k - length (p ++ replicate d 0))
     left = omega (arith, length-append p (replicate d 0), length-replicate {A = ℕ} d 0)
@@ -408,7 +417,8 @@ module _ (words : List ℕ) (n d : ℕ) where
           let front : length (t ++ r) ≡ own = length-append t r ∙ omega (arith, inv .ends, row-length words n d i i) in
           let seam : 0 + length ((t ++ r) ++ none) ≡ own + d = omega (arith, length-append (t ++ r) none, length-replicate {A = ℕ} d 0) in
           let fits : own + d ≤ 16384 = omega (arith, rows-few, row-width) in
-          let first : m₁ ≡ splice l 0 (t ++ r) = e₁ ∙ rw (inv .made) (splice-splice l 0 t r end (sym (inv .ends)) (omega (arith, rows-few, zeros-long l 16384 z))) in
+          let first : m₁ ≡ splice l 0 (t ++ r) = e₁ ∙ rw (inv .made)
+          (splice-splice l 0 t r end (sym (inv .ends)) (omega (arith, rows-few, zeros-long l 16384 z))) in
           let past : m₁ ≡ splice l 0 ((t ++ r) ++ none) = first ∙ rw z (zeros-passed (t ++ r) 16384 d (omega arith)) in
           let all : m₂ ≡ splice l 0 (((t ++ r) ++ none) ++ ws) =
           e₂ ∙ rw past (splice-splice l 0 ((t ++ r) ++ none) ws (own + d) seam (omega (arith, zeros-long l 16384 z))) in
@@ -425,8 +435,10 @@ module _ (words : List ℕ) (n d : ℕ) where
   pub tables-end : (l m : List ℕ) (i end : ℕ) → Passed (λ k. rowPart words n d k n) l 0 m i end → i ≡ n
       → (m ≡ splice l 0 (tablePart words n d n)) × (end ≡ n * (n * d))
   unfolding tablePart
-  tables-end l m i end inv last =
-      (inv .made ∙ ap (λ (k : ℕ). splice l 0 (each (λ k. rowPart words n d k n) (below k))) last, inv .ends ∙ omega (arith, table-length i ∙ ap (λ (k : ℕ). k * (n * d)) last))
+  tables-end l m i end inv last = (
+    inv .made ∙ ap (λ (k : ℕ). splice l 0 (each (λ k. rowPart words n d k n) (below k))) last,
+    inv .ends ∙ omega (arith, table-length i ∙ ap (λ (k : ℕ). k * (n * d)) last),
+  )
 
 -- The pairs that stand before are those counted.
 pub after-read : (words ws : List ℕ) (n d i p : ℕ) → p ≡ total i (λ h. n - suc h) → ws ≡ partIn words (9 + n + p * d) ((n - (i + 1)) * d)

@@ -19,11 +19,14 @@ use Rattle.files.proofs.Lists.{map-same}
 -- ---- the words of a block
 
 -- Words of the same bytes are the same.
-pub words-same : (l m : List ℕ) (b : ℕ) → ((i : ℕ) → i < 512 → getD l i 0 ≡ getD m (b * 512 + i) 0) → (k : ℕ) → k < 256 → blockWord l 0 k ≡ blockWord m b k
+pub words-same : (l m : List ℕ) (b : ℕ) → ((i : ℕ) → i < 512 → getD l i 0 ≡ getD m (b * 512 + i) 0) → (k : ℕ) → k < 256
+    → blockWord l 0 k ≡ blockWord m b k
 unfolding blockWord wordAt
 words-same l m b h k q =
-    let high : getD l (2 * (256 * 0 + k)) 0 ≡ getD m (2 * (256 * b + k)) 0 = h (2 * (256 * 0 + k)) (omega arith) ∙ ap (λ (i : ℕ). getD m i 0) (omega arith) in
-    let low : getD l (2 * (256 * 0 + k) + 1) 0 ≡ getD m (2 * (256 * b + k) + 1) 0 = h (2 * (256 * 0 + k) + 1) (omega arith) ∙ ap (λ (i : ℕ). getD m i 0) (omega arith) in
+    let high : getD l (2 * (256 * 0 + k)) 0 ≡ getD m (2 * (256 * b + k)) 0 = h (2 * (256 * 0 + k)) (omega arith) ∙ ap (λ (i : ℕ). getD m i 0)
+    (omega arith) in
+    let low : getD l (2 * (256 * 0 + k) + 1) 0 ≡ getD m (2 * (256 * b + k) + 1) 0 = h (2 * (256 * 0 + k) + 1) (omega arith) ∙ ap
+    (λ (i : ℕ). getD m i 0) (omega arith) in
     ap₂ (λ (x y : ℕ). x * 256 + y) high low
 
 -- So are their heads.
@@ -63,14 +66,24 @@ module _ (block : List ℕ) (number blocks : ℕ) where
       simp (eq-eqb (blockWord block 0 0) number (sym a ∙ b), eq-eqb (blockWord block 0 1) blocks (sym c ∙ d), sym e, sym f)
 
 -- A block that was cut out of a file of so many.
-pub good-part : (file block : List ℕ) (number blocks : ℕ) (r : Bool) → 1 ≤ number → length file ≡ blocks * 512 → block ≡ partIn file ((number - 1) * 512) 512
+pub good-part : (file block : List ℕ) (number blocks : ℕ) (r : Bool) → 1 ≤ number → length file ≡ blocks * 512
+    → block ≡ partIn file ((number - 1) * 512) 512
     → r ≡ goodIn block number blocks → r ≡ goodBlock file (number - 1)
 unfolding goodIn goodBlock
 good-part file block number blocks r some e is-block h =
     let b : ℕ = number - 1 in
     let count : length file / 512 ≡ blocks = omega arith in
     let next : b + 1 ≡ number = omega arith in
-    h ∙ rw (is-block, part-words file b 0 (omega arith), part-words file b 1 (omega arith), part-words file b 255 (omega arith), heads-same _ file b (part-words file b), count, next) refl
+    h ∙ rw (
+      is-block,
+      part-words file b 0 (omega arith),
+      part-words file b 1 (omega arith),
+      part-words file b 255 (omega arith),
+      heads-same _ file b (part-words file b),
+      count,
+      next,
+    )
+    refl
 
 -- ---- 14: all
 
@@ -128,7 +141,13 @@ module _ (file : List ℕ) where
       → leb x 512 ≡ numbersSaid file
   unfolding numbersSaid
   numbers-5 v w x a h k e l m f =
-      simp (le-leb 1 (saidN file) (omega arith), le-leb (saidN file) 32 (omega arith), le-leb 1 (saidD file) (omega arith), le-leb (saidD file) 16 (omega arith), f)
+      simp (
+        le-leb 1 (saidN file) (omega arith),
+        le-leb (saidN file) 32 (omega arith),
+        le-leb 1 (saidD file) (omega arith),
+        le-leb (saidD file) 16 (omega arith),
+        f,
+      )
 
 -- ---- 15: zeros after the words
 
@@ -151,6 +170,7 @@ module _ (file : List ℕ) (words : ℕ) where
   filled-not f = simp (ne-eqb (length file / 512) ((words + 252) / 253) f)
 
   -- They fill so many blocks: the zeros decide.
-  pub filled-zeros : (r : Bool) → length file / 512 ≡ (words + 252) / 253 → r ≡ every (length file / 512 * 253 - words) (zeroIn file words) → r ≡ filled file words
+  pub filled-zeros : (r : Bool) → length file / 512 ≡ (words + 252) / 253 → r ≡ every (length file / 512 * 253 - words) (zeroIn file words)
+      → r ≡ filled file words
   unfolding filled blocksFor
   filled-zeros r e h = simp (eq-eqb (length file / 512) ((words + 252) / 253) e) h

@@ -89,10 +89,13 @@ each-none f = refl
 
 -- Those below a, and those of the b after them.
 pub each-split : (f : ℕ → List ℕ) (a b : ℕ) → each f (below (a + b)) ≡ each f (below a) ++ each (λ k. f (a + k)) (below b)
-each-split f a zero = ap (λ (n : ℕ). each f (below n)) (add-zero a) ∙ sym (append-nil (each f (below a))) ∙ ap (λ (l : List ℕ). each f (below a) ++ l) (sym (each-none (λ k. f (a + k))))
+each-split f a zero =
+    ap (λ (n : ℕ). each f (below n)) (add-zero a) ∙ sym (append-nil (each f (below a))) ∙ ap (λ (l : List ℕ). each f (below a) ++ l)
+    (sym (each-none (λ k. f (a + k))))
 each-split f a (suc b) =
     ap (λ (n : ℕ). each f (below n)) (add-suc a b) ∙ each-more f (a + b) ∙ ap (λ (l : List ℕ). l ++ f (a + b)) (each-split f a b)
-    ∙ append-assoc (each f (below a)) (each (λ k. f (a + k)) (below b)) (f (a + b)) ∙ ap (λ (l : List ℕ). each f (below a) ++ l) (sym (each-more (λ k. f (a + k)) b))
+    ∙ append-assoc (each f (below a)) (each (λ k. f (a + k)) (below b)) (f (a + b)) ∙ ap (λ (l : List ℕ). each f (below a) ++ l)
+    (sym (each-more (λ k. f (a + k)) b))
 
 -- That of 0 alone.
 pub each-one : (f : ℕ → List ℕ) → each f (below 1) ≡ f 0
@@ -139,7 +142,8 @@ module _ (f : ℕ → List ℕ) (w : ℕ → ℕ) where
 pub after-is : (n i : ℕ) → after n i ≡ map (λ k. suc i + k) (below (n - suc i))
 unfolding after below keep
 after-is zero i = let e : 0 - suc i ≡ 0 = omega arith in rw e refl
-after-is (suc n) i = keep-append (λ j. ltb i j) (below n) (n ∷ []) ∙ ap (λ (l : List ℕ). l ++ keep (λ j. ltb i j) (n ∷ [])) (after-is n i) ∙ go (decLt i n)
+after-is (suc n) i =
+    keep-append (λ j. ltb i j) (below n) (n ∷ []) ∙ ap (λ (l : List ℕ). l ++ keep (λ j. ltb i j) (n ∷ [])) (after-is n i) ∙ go (decLt i n)
   where
     next : ℕ → ℕ
     next k = suc i + k
@@ -148,7 +152,8 @@ after-is (suc n) i = keep-append (λ j. ltb i j) (below n) (n ∷ []) ∙ ap (λ
     go (yes l) =
         let one : suc n - suc i ≡ suc (n - suc i) = omega arith in
         let end : n ≡ next (n - suc i) = omega arith in
-        rw (one, lt-ltb i n l) (ap (λ (x : ℕ). map next (below (n - suc i)) ++ (x ∷ [])) end ∙ sym (map-append next (below (n - suc i)) ((n - suc i) ∷ [])))
+        rw (one, lt-ltb i n l)
+        (ap (λ (x : ℕ). map next (below (n - suc i)) ++ (x ∷ [])) end ∙ sym (map-append next (below (n - suc i)) ((n - suc i) ∷ [])))
     go (no l) =
         let a : n - suc i ≡ 0 = omega arith in
         let b : suc n - suc i ≡ 0 = omega arith in

@@ -71,20 +71,25 @@ module _ (n d : ℕ) (domains opened-tables tables agenda : List ℕ) (s : State
       let file : List ℕ = fileOf (handedContent n d domains tables agenda s) in
       let x = searchOf n agenda s in
       let says : Says file n d domains (tableOf n d tables) x = saved-says n d domains tables agenda s (life .handed .words) p in
-      let given : Loads file domains₀ domains′ tables₀ tables′ agenda₀ agenda′ r = rw (written-blocks n d domains tables agenda s before after saved saves passes) at loads in
+      let given : Loads file domains₀ domains′ tables₀ tables′ agenda₀ agenda′ r = rw
+      (written-blocks n d domains tables agenda s before after saved saves passes) at loads in
       let t = load-taken file (length domains₀) (length tables₀) (length agenda₀) (sym (given .refusal) ∙ accepted) in
       let fits : Fits n d (length domains₀) (length tables₀) (length agenda₀) = rw (says .its-n, says .its-d) at (t .lengths) in
       let room : length (x .stack) ≤ slotsIn n (length agenda₀) = rw (says .its-subproblems, says .its-n) at (t .room) in
       let back = lent file n d domains (tableOf n d tables) x says domains₀ domains′ tables₀ tables′ agenda₀ agenda′ r given fits room in
       let agree : Allow-same n d (tableOf n d tables) (tableOf n d tables′) =
-      rw (back .its-tables) (agree-back (tableOf n d (tableWords n d (saidAllowed file))) (tableOf n d tables) (lent-agree file n d domains (tableOf n d tables) x says)) in
-      let proper : Proper (problemOf n d domains tables′) = proper-agree n d (λ i. getD domains i 0) (tableOf n d tables) (tableOf n d tables′) agree (life .proper) in
+      rw (back .its-tables)
+      (agree-back (tableOf n d (tableWords n d (saidAllowed file))) (tableOf n d tables) (lent-agree file n d domains (tableOf n d tables) x says)) in
+      let proper : Proper (problemOf n d domains tables′) = proper-agree n d (λ i. getD domains i 0) (tableOf n d tables) (tableOf n d tables′) agree
+      (life .proper) in
       let reached : Reached n d domains tables′ (slotsIn n (length agenda₀)) x =
       reached-agree n d domains tables (life .proper) tables′ agree (Reached.moved (life .reached) room) in
       let long : length tables′ ≡ n * n * d = ap length (back .its-tables) ∙ table-length n d (saidAllowed file) in
-      let passed : Passed n d domains tables′ agenda₀ = record { proper = proper; domains-words = life .words; tables-words = long; slots = fits .slots } in
+      let passed : Passed n d domains tables′ agenda₀ = record
+      { proper = proper; domains-words = life .words; tables-words = long; slots = fits .slots } in
       let l =
-      leaves n d domains tables′ agenda₀ agenda′ (r .state) x passed (reached-passes n d domains tables′ (slotsIn n (length agenda₀)) x proper reached)
+      leaves n d domains tables′ agenda₀ agenda′ (r .state) x passed
+      (reached-passes n d domains tables′ (slotsIn n (length agenda₀)) x proper reached)
       (known n d domains tables agenda s (life .handed) .shaped) (back .its-agenda) (ap (λ st. st .counts .steps .0) (back .its-state))
       (ap (λ st. st .counts .checks .0) (back .its-state)) (ap (λ st. st .subproblems) (back .its-state)) in
       record {
@@ -125,7 +130,8 @@ module _ (n d : ℕ) (domains opened-tables tables agenda : List ℕ) (s : State
       }
 
 -- It is known of each.
-pub lived : {n d : ℕ} {domains opened-tables tables agenda : List ℕ} {s : State} → Lived n d domains opened-tables tables agenda s → Life n d domains opened-tables tables agenda s
+pub lived : {n d : ℕ} {domains opened-tables tables agenda : List ℕ} {s : State} → Lived n d domains opened-tables tables agenda s
+    → Life n d domains opened-tables tables agenda s
 lived {n} {d} {domains} {opened-tables} (opened {before} {after} {r} opens none) =
     let l = open-leaves n d domains opened-tables before after r opens none in
     let passed = known n d domains opened-tables after (r .state) (l .handed) .passed .passed in
@@ -140,15 +146,19 @@ lived {n} {d} {domains} {opened-tables} (ran {tables} {before} {after} {s} {r} h
     let life = lived h in
     let both = run-leaves n d domains tables before after requests s r (life .handed) runs in
     elim (whole-requests n (length requests)) [
-      | yes w ↦ gone-on n d domains opened-tables tables before after s (r .state) life (both .0 w) (Reached.ran (life .reached) (requestsIn n requests))
+      | yes w ↦
+          gone-on n d domains opened-tables tables before after s (r .state) life (both .0 w) (Reached.ran (life .reached) (requestsIn n requests))
       | no w ↦ gone-on n d domains opened-tables tables before after s (r .state) life (both .1 w) (life .reached)
     ]
 lived {n} {d} {domains} {opened-tables} (chose {tables} {before} {after} {s} {r} h limit chooses) =
     let life = lived h in
-    gone-on n d domains opened-tables tables before after s (r .state) life (chooser-leaves n d domains tables before after limit s r (life .handed) chooses)
+    gone-on n d domains opened-tables tables before after s (r .state) life
+    (chooser-leaves n d domains tables before after limit s r (life .handed) chooses)
     (Reached.chose (life .reached) limit)
-lived {n} {d} {domains} {opened-tables} (loaded {tables} {agenda} {before} {after} {domains₀} {domains′} {tables₀} {tables′} {agenda₀} {agenda′} {s} {saved} {r} h saves none loads accepted) =
-    loaded-on n d domains opened-tables tables agenda s (lived h) before after saved saves none domains₀ domains′ tables₀ tables′ agenda₀ agenda′ r loads accepted
+lived {n} {d} {domains} {opened-tables}
+    (loaded {tables} {agenda} {before} {after} {domains₀} {domains′} {tables₀} {tables′} {agenda₀} {agenda′} {s} {saved} {r} h saves none loads accepted) =
+    loaded-on n d domains opened-tables tables agenda s (lived h) before after saved saves none domains₀ domains′ tables₀ tables′ agenda₀ agenda′ r
+    loads accepted
 lived {n} {d} {domains} {opened-tables} (moved {tables} {agenda} {s} h words slots takes) =
     moved-to n d domains opened-tables tables agenda s (lived h) words slots takes
 
@@ -164,7 +174,8 @@ module _ {n d : ℕ} {domains opened-tables tables agenda : List ℕ} {s : State
   reached₀ = reached-agree n d domains tables (life .proper) opened-tables back (life .reached)
 
   -- What a verdict says of it.
-  pub says-unsolvable : (v : Verdict) → v ≡ verdictOf n (stackOf n agenda (s .subproblems)) → numberOf v ≡ 3 → Has-solution (problemOf n d domains opened-tables) → ⊥
+  pub says-unsolvable : (v : Verdict) → v ≡ verdictOf n (stackOf n agenda (s .subproblems)) → numberOf v ≡ 3
+      → Has-solution (problemOf n d domains opened-tables) → ⊥
   says-unsolvable v e h =
       reached-unsolvable n d domains opened-tables (slotsIn n (length agenda)) (searchOf n agenda s) proper₀ reached₀ (ap numberOf (sym e) ∙ h)
 
@@ -183,7 +194,8 @@ run-verdict n d domains tables before after requests s r handed runs some =
           run-says n d domains tables before after requests s r handed
           (run-is-passed n d domains tables before (s .counts .steps .0) (s .counts .checks .0) (s .subproblems) requests .0 none .1) runs .verdict
       | no refused ↦
-          let test : eqb (runRefusal n d domains tables before requests (s .counts .steps .0) (s .counts .checks .0) (s .subproblems)) 0 ≡ false = ne-eqb _ 0 refused in
+          let test : eqb (runRefusal n d domains tables before requests (s .counts .steps .0) (s .counts .checks .0) (s .subproblems)) 0 ≡ false =
+          ne-eqb _ 0 refused in
           let nothing : r .verdict ≡ None = rw test at (runs .verdict) in
           absurd (omega (arith, ap numberOf nothing, some))
     ]

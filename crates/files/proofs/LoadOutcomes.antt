@@ -67,8 +67,12 @@ module _ (file : List ℕ) (domains tables agenda n d m : ℕ) where
       record {
         numbers = numbers .0;
         few = numbers .1;
-        domains-words = rw is-n (eqb-true domains (saidN file) (and-left (eqb domains (saidN file)) (eqb tables (saidN file * saidN file * saidD file)) both));
-        tables-words = rw (is-n, is-d) (eqb-true tables (saidN file * saidN file * saidD file) (and-right (eqb domains (saidN file)) (eqb tables (saidN file * saidN file * saidD file)) both));
+        domains-words =
+            rw is-n (eqb-true domains (saidN file) (and-left (eqb domains (saidN file)) (eqb tables (saidN file * saidN file * saidD file)) both));
+        tables-words =
+            rw (is-n, is-d)
+            (eqb-true tables (saidN file * saidN file * saidD file)
+            (and-right (eqb domains (saidN file)) (eqb tables (saidN file * saidN file * saidD file)) both));
         agenda-words = omega (arith, div-mul-le-self agenda (n + 2));
       }
     where
@@ -90,17 +94,24 @@ mask-said file words says i j a = elim (ℕ-discrete i j) [
 ]
 
 -- The tables are those that the file says.
-pub tables-said : (file words t : List ℕ) (n d : ℕ) → ((k : ℕ) → getD words k 0 ≡ contentWord file k) → n ≡ saidN file → d ≡ saidD file → t ≡ tablePart words n d n
+pub tables-said : (file words t : List ℕ) (n d : ℕ) → ((k : ℕ) → getD words k 0 ≡ contentWord file k) → n ≡ saidN file → d ≡ saidD file
+    → t ≡ tablePart words n d n
     → t ≡ tableWords (saidN file) (saidD file) (saidAllowed file)
 unfolding tablePart rowPart pairPart tableWords
 tables-said file words t n d says is-n is-d e =
-    e ∙ rw (is-n, is-d) (each-same _ _ (saidN file) (λ i l. each-same _ _ (saidN file) (λ j q. map-same _ _ (saidD file) (λ a p. mask-said file words says i j a))))
+    e ∙ rw (is-n, is-d)
+    (each-same _ _ (saidN file) (λ i l. each-same _ _ (saidN file) (λ j q. map-same _ _ (saidD file) (λ a p. mask-said file words says i j a))))
 
 -- The words that were read say the content.
 pub content-read : (file words : List ℕ) → refusalOfFile file ≡ 0 → sizedIn file ≡ true → words ≡ contentFrom file 0 25553 → Read file words
 content-read file words e sized h =
     let whole = file-whole file e in
-    record { whole = e; sized = sized; long = ap length h ∙ length-from file 0 25553; says = content-says file words (blocksIn file) (whole .whole) (whole .few) h }
+    record {
+      whole = e;
+      sized = sized;
+      long = ap length h ∙ length-from file 0 25553;
+      says = content-says file words (blocksIn file) (whole .whole) (whole .few) h;
+    }
 
 -- What was made stands in the front of the room for it.
 module _ (file words l m : List ℕ) (n d count : ℕ) (read : Read file words) (is-n : n ≡ saidN file) (is-d : d ≡ saidD file) (z : l ≡ zeros 16384)
@@ -109,10 +120,13 @@ module _ (file words l m : List ℕ) (n d count : ℕ) (read : Read file words) 
   made = tables-said file words (tablePart words n d n) n d (read .says) is-n is-d refl
 
   made-long : length (tablePart words n d n) ≡ count
-  made-long = ap length made ∙ table-length (saidN file) (saidD file) (saidAllowed file) ∙ sym (is-count ∙ sym (mul-assoc n n d) ∙ rw (is-n, is-d) refl)
+  made-long =
+      ap length made ∙ table-length (saidN file) (saidD file) (saidAllowed file) ∙ sym (is-count ∙ sym (mul-assoc n n d) ∙ rw (is-n, is-d) refl)
 
   made-taken : take count m ≡ tablePart words n d n
-  made-taken = ap (take count) (e ∙ rw z (front-of-zeros (tablePart words n d n) 16384)) ∙ take-at (tablePart words n d n) (replicate (16384 - length (tablePart words n d n)) 0) count made-long
+  made-taken =
+      ap (take count) (e ∙ rw z (front-of-zeros (tablePart words n d n) 16384)) ∙ take-at (tablePart words n d n)
+      (replicate (16384 - length (tablePart words n d n)) 0) count made-long
 
   pub made-ready : Ready file words (take count m)
   made-ready = record { read = read; made = made-taken ∙ made }
@@ -149,7 +163,9 @@ module _ (file domains tables agenda : List ℕ) (r : ℕ) (is-r : r ≡ loadRef
   -- Accepted: what the file says.
   module _ (zero-r : r ≡ 0) (words masks : List ℕ) (ready : Ready file words masks) where
     abbrev fitted : Fitted (length domains) (length tables) (length agenda) (saidN file) (saidD file) (saidSubproblems file)
-    fitted = load-passed file (length domains) (length tables) (length agenda) (saidN file) (saidD file) (saidSubproblems file) refl refl refl (sym is-r ∙ zero-r)
+    fitted =
+        load-passed file (length domains) (length tables) (length agenda) (saidN file) (saidD file) (saidSubproblems file) refl refl refl
+        (sym is-r ∙ zero-r)
 
     -- What is lent takes the search.
     pub load-lent : Lent file words masks domains tables agenda
@@ -163,7 +179,8 @@ module _ (file domains tables agenda : List ℕ) (r : ℕ) (is-r : r ≡ loadRef
     }
 
     -- Everything that load returns and leaves.
-    pub load-accepted : (small : Bytes file) (s : Loaded) (domains′ tables′ agenda′ : List ℕ) → Told file s → domains′ ≡ partIn words 9 (saidN file) → tables′ ≡ masks
+    pub load-accepted : (small : Bytes file) (s : Loaded) (domains′ tables′ agenda′ : List ℕ) → Told file s → domains′ ≡ partIn words 9 (saidN file)
+        → tables′ ≡ masks
         → agenda′ ≡ slotsPart words (saidN file) (saidD file) (saidSubproblems file) (length agenda) → Loads file domains domains′ tables tables′ agenda agenda′ s
     unfolding refusal slotsPart
     load-accepted small s domains′ tables′ agenda′ told ds ts as′ =

@@ -79,7 +79,11 @@ module _ (file : List ℕ) (a : Accepts file) where
     pub memory-length : length (agendaOf (saidN file) words (saidSearch file .stack)) ≡ words
     memory-length =
         length-agenda (saidN file) words (saidSearch file .stack)
-        (rw (shape-length (saidN file) (a .variables) (saidSearch file .stack) (said-shape file bytes (a .variables)), said-length file bytes (a .variables)) within)
+        (rw (
+          shape-length (saidN file) (a .variables) (saidSearch file .stack) (said-shape file bytes (a .variables)),
+          said-length file bytes (a .variables),
+        )
+        within)
 
     -- It holds the stack that the file says.
     pub memory-read : stackOf (saidN file) (agendaOf (saidN file) words (saidSearch file .stack)) (saidSubproblems file) ≡ saidSearch file .stack
@@ -94,7 +98,8 @@ module _ (file : List ℕ) (a : Accepts file) where
         let tables = tableOf (saidN file) (saidD file) (tableWords (saidN file) (saidD file) (saidAllowed file)) in
         record {
           passed = record {
-            proper = proper-agree (saidN file) (saidD file) (λ i. getD (saidDomains file) i 0) (saidAllowed file) tables said-agree (said-proper file a);
+            proper =
+                proper-agree (saidN file) (saidD file) (λ i. getD (saidDomains file) i 0) (saidAllowed file) tables said-agree (said-proper file a);
             domains-words = domain-count;
             tables-words = table-length (saidN file) (saidD file) (saidAllowed file);
             slots = rw memory-length slots;
@@ -134,6 +139,7 @@ load-taken file domains tables agenda e =
       room = fits (ltb (slotsIn (saidN file) agenda) (saidSubproblems file)) refl z;
     }
   where
-    fits : (b : Bool) → ltb (slotsIn (saidN file) agenda) (saidSubproblems file) ≡ b → _≡_ {A = ℕ} (cond b 12 0) 0 → saidSubproblems file ≤ slotsIn (saidN file) agenda
+    fits : (b : Bool) → ltb (slotsIn (saidN file) agenda) (saidSubproblems file) ≡ b → _≡_ {A = ℕ} (cond b 12 0) 0
+        → saidSubproblems file ≤ slotsIn (saidN file) agenda
     fits true e z = absurd (omega arith)
     fits false e z = ltb-false (slotsIn (saidN file) agenda) (saidSubproblems file) e

@@ -76,7 +76,8 @@ slots-few n k count h l m =
 pub place-within : (n d i j p : ℕ) → Numbers n d → i < j → j < n → p ≡ total i (λ h. n - suc h) → 9 + n + (p + (j - (i + 1))) * d + d ≤ 7977
 unfolding trianglePlace
 place-within n d i j p s h l e =
-    let last : (total i (λ h. n - suc h) + (j - suc i)) * d + (d - 1) < triangleWords n d = place-lt n d i j (d - 1) h l (omega (arith, s .some-value)) in
+    let last : (total i (λ h. n - suc h) + (j - suc i)) * d + (d - 1) < triangleWords n d = place-lt n d i j (d - 1) h l
+    (omega (arith, s .some-value)) in
     let same : (p + (j - (i + 1))) * d ≡ (total i (λ h. n - suc h) + (j - suc i)) * d = rw (e, add-one) refl in
     omega (arith, triangle-few n d s, s .variables, s .some-value)
 

@@ -91,10 +91,12 @@ from-small file from words small i = elim (decLt i words) [
 ]
 
 -- The sum of the words that were read.
-pub sum-read : (block words : List ℕ) (t : ℕ) → words ≡ map (blockWord block 0) (below 256) → t ≡ total 255 (valueAt words) → t ≡ total 255 (blockWord block 0)
+pub sum-read : (block words : List ℕ) (t : ℕ) → words ≡ map (blockWord block 0) (below 256) → t ≡ total 255 (valueAt words)
+    → t ≡ total 255 (blockWord block 0)
 unfolding valueAt
 sum-read block words t e h =
-    h ∙ total-same 255 (λ k. getD words k 0) (blockWord block 0) (λ k l. ap (λ (x : List ℕ). getD x k 0) e ∙ map-at (blockWord block 0) 256 k 0 (omega arith))
+    h ∙ total-same 255 (λ k. getD words k 0) (blockWord block 0)
+    (λ k l. ap (λ (x : List ℕ). getD x k 0) e ∙ map-at (blockWord block 0) 256 k 0 (omega arith))
 
 -- The sum folded twice, taken from 65535, is the check.
 pub check-made : (file : List ℕ) (b t y z : ℕ) → ((i : ℕ) → getD file i 0 < 256) → t ≡ total 255 (blockWord file b) → y ≡ t % 65536 + t / 65536

@@ -94,7 +94,8 @@ pub sum-folded : Sum-folded
 sum-folded ws t y z words few = Sums.twice-is ws t y z words (omega arith)
 
 pub load-after-save : Load-after-save
-load-after-save n d domains tables agenda s words e = Saving.saved-says n d domains tables agenda s words (search-is-passed n d domains tables agenda _ _ _ .0 e)
+load-after-save n d domains tables agenda s words e =
+    Saving.saved-says n d domains tables agenda s words (search-is-passed n d domains tables agenda _ _ _ .0 e)
 
 pub save-after-load : Save-after-load
 save-after-load file bytes e h =
@@ -167,10 +168,12 @@ pub diagonal-open : Diagonal-open
 diagonal-open n d domains tables tables′ before after r same = Diagonal.diagonal-open n d domains tables tables′ same before after r
 
 pub diagonal-run : Diagonal-run
-diagonal-run n d domains tables tables′ before after requests s r same = Diagonal.diagonal-run n d domains tables tables′ same before after requests s r
+diagonal-run n d domains tables tables′ before after requests s r same =
+    Diagonal.diagonal-run n d domains tables tables′ same before after requests s r
 
 pub diagonal-choose : Diagonal-choose
-diagonal-choose n d domains tables tables′ before after limit s r same = Diagonal.diagonal-choose n d domains tables tables′ same before after limit s r
+diagonal-choose n d domains tables tables′ before after limit s r same =
+    Diagonal.diagonal-choose n d domains tables tables′ same before after limit s r
 
 pub diagonal-save : Diagonal-save
 diagonal-save n d domains tables tables′ agenda s before after r same = Diagonal.diagonal-save n d domains tables tables′ same agenda s before after r

@@ -68,7 +68,9 @@ module _ (n d : ℕ) (domains tables agenda : List ℕ) (s : State) (file : List
 
   -- 13, exactly.
   pub save-13 : (saveRefusal n d domains tables agenda s file ≡ 13)
-      ↔ ((searchRefusal n d domains tables agenda (s .counts .steps .0) (s .counts .checks .0) (s .subproblems) ≡ 0) × Deserves-13 n d domains tables agenda s file)
+      ↔
+      ((searchRefusal n d domains tables agenda (s .counts .steps .0) (s .counts .checks .0) (s .subproblems) ≡ 0) × Deserves-13 n d domains tables
+      agenda s file)
   unfolding first needed
   save-13 = go way
     where
@@ -194,7 +196,8 @@ module _ (file domains tables agenda : List ℕ) where
       (refusalOfLengths (saidN file) (saidD file) (length domains) (length tables) (length agenda)) room
   unfolding loadRefusal room
   all =
-      given (refusalOfFile file) (refusalOfWords file) (refusalOfLengths (saidN file) (saidD file) (length domains) (length tables) (length agenda)) room
+      given (refusalOfFile file) (refusalOfWords file) (refusalOfLengths (saidN file) (saidD file) (length domains) (length tables) (length agenda))
+      room
       (file-either file) (words-either file) (lengths-either (saidN file) (saidD file) domains tables agenda)
       (⊎-elim (λ e. inr e) (λ e. inl e) (one-of (ltb (slotsIn (saidN file) (length agenda)) (saidSubproblems file)) 12 0))
 
@@ -213,20 +216,28 @@ module _ (file domains tables agenda : List ℕ) where
   pub load-3 : (loadRefusal file (length domains) (length tables) (length agenda) ≡ 3)
       ↔ ((Deserves-14 file → ⊥) × (Deserves-15 file → ⊥) × Deserves-3 (saidN file) (saidD file) domains tables agenda)
   load-3 = (
-    λ e. let (x, y, z) = given-3 all .0 e in (refusal-not-14 file .0 x, refusal-not-15 file .0 y, lengths-3 (saidN file) (saidD file) domains tables agenda .0 z),
-    λ g. given-3 all .1 (refusal-not-14 file .1 (g .0), refusal-not-15 file .1 (g .1), lengths-3 (saidN file) (saidD file) domains tables agenda .1 (g .2)),
+    λ e. let (x, y, z) =
+        given-3 all .0 e in (refusal-not-14 file .0 x, refusal-not-15 file .0 y, lengths-3 (saidN file) (saidD file) domains tables agenda .0 z),
+    λ g. given-3 all .1
+        (refusal-not-14 file .1 (g .0), refusal-not-15 file .1 (g .1), lengths-3 (saidN file) (saidD file) domains tables agenda .1 (g .2)),
   )
 
   -- 12, exactly.
   pub load-12 : (loadRefusal file (length domains) (length tables) (length agenda) ≡ 12)
-      ↔ ((Deserves-14 file → ⊥) × (Deserves-15 file → ⊥) × (Deserves-3 (saidN file) (saidD file) domains tables agenda → ⊥) × Deserves-12-load file agenda)
+      ↔
+      ((Deserves-14 file → ⊥) × (Deserves-15 file → ⊥) × (Deserves-3 (saidN file) (saidD file) domains tables agenda → ⊥) × Deserves-12-load file
+      agenda)
   load-12 = (
     λ e.
         let (x, y, z, w) = given-12 all .0 e in
         (refusal-not-14 file .0 x, refusal-not-15 file .0 y, lengths-none (saidN file) (saidD file) domains tables agenda .0 z, room-12 .0 w),
     λ g.
-        given-12 all .1
-        (refusal-not-14 file .1 (g .0), refusal-not-15 file .1 (g .1), lengths-none (saidN file) (saidD file) domains tables agenda .1 (g .2), room-12 .1 (g .3)),
+        given-12 all .1 (
+          refusal-not-14 file .1 (g .0),
+          refusal-not-15 file .1 (g .1),
+          lengths-none (saidN file) (saidD file) domains tables agenda .1 (g .2),
+          room-12 .1 (g .3),
+        ),
   )
 
   -- None, exactly.
@@ -238,6 +249,10 @@ module _ (file domains tables agenda : List ℕ) where
         let (x, y, z, w) = given-none all .0 e in
         (refusal-not-14 file .0 x, refusal-not-15 file .0 y, lengths-none (saidN file) (saidD file) domains tables agenda .0 z, room-not-12 .0 w),
     λ g.
-        given-none all .1
-        (refusal-not-14 file .1 (g .0), refusal-not-15 file .1 (g .1), lengths-none (saidN file) (saidD file) domains tables agenda .1 (g .2), room-not-12 .1 (g .3)),
+        given-none all .1 (
+          refusal-not-14 file .1 (g .0),
+          refusal-not-15 file .1 (g .1),
+          lengths-none (saidN file) (saidD file) domains tables agenda .1 (g .2),
+          room-not-12 .1 (g .3),
+        ),
   )

@@ -55,8 +55,10 @@ module _ (file : List ℕ) where
   words-tests =
       ap (λ (t : Bool). cond t 0 15)
       (grouped (leb 1 (saidN file) && leb (saidN file) 32 && leb 1 (saidD file) && leb (saidD file) 16 && leb (saidSubproblems file) 512)
-      (eqb (blocksIn file) (blocksFor (saidWords file))) (every (blocksIn file * 253 - saidWords file) (λ k. eqb (contentWord file (saidWords file + k)) 0))
-      (every (saidN file) (λ i. ltb (saidProblem file .domain i) (2 ^ saidD file))) (masksBelowTriangle file) (allObey (saidProblem file) (saidSearch file .stack))
+      (eqb (blocksIn file) (blocksFor (saidWords file)))
+      (every (blocksIn file * 253 - saidWords file) (λ k. eqb (contentWord file (saidWords file + k)) 0))
+      (every (saidN file) (λ i. ltb (saidProblem file .domain i) (2 ^ saidD file))) (masksBelowTriangle file)
+      (allObey (saidProblem file) (saidSearch file .stack))
       (leb (saidChecks file) (496 * saidSteps file)))
 
   -- The numbers are out of their ranges.
@@ -65,7 +67,8 @@ module _ (file : List ℕ) where
   refused-numbers b e y = rw (sym e ∙ not-true b y) refl
 
   -- They are not; the blocks decide.
-  pub sized-blocks : (words : ℕ) (a b : Bool) → a ≡ numbersSaid file → not a ≡ false → words ≡ wordCount (saidN file) (saidD file) (saidSubproblems file)
+  pub sized-blocks : (words : ℕ) (a b : Bool) → a ≡ numbersSaid file → not a ≡ false
+      → words ≡ wordCount (saidN file) (saidD file) (saidSubproblems file)
       → b ≡ filled file words → b ≡ sizedIn file
   unfolding sizedIn
   sized-blocks words a b e y w f = f ∙ rw (w, sym e ∙ not-false a y) refl
@@ -127,7 +130,8 @@ module _ (file : List ℕ) where
 
     -- What passing 15 leaves of them.
     pub numbers-passed : refusalOfWords file ≡ 0 → Numbers n d × (m ≤ 512)
-    numbers-passed e = sized-numbers (and-left (sizedIn file) rest (given-if (sizedIn file && rest) 15 (λ z. absurd (omega arith)) (sym words-tests ∙ e)))
+    numbers-passed e =
+        sized-numbers (and-left (sizedIn file) rest (given-if (sizedIn file && rest) 15 (λ z. absurd (omega arith)) (sym words-tests ∙ e)))
 
 -- The numbers of a file that was read.
 pub read-numbers : (file words : List ℕ) (n d : ℕ) → Read file words → n ≡ saidN file → d ≡ saidD file → Numbers n d × (saidSubproblems file ≤ 512)
@@ -166,7 +170,8 @@ module _ (file : List ℕ) (domains tables agenda : ℕ) where
     refused-3 r a b e f =
         let same : r ≡ refusalOfLengths (saidN file) (saidD file) domains tables agenda =
         lengths-of n d domains tables agenda r (numbers-passed file n d m is-n is-d is-m b .0) e ∙ rw (is-n, is-d) refl in
-        else-rest r (refusalOfFile file) _ a (else-rest r (refusalOfWords file) _ b (else-first r (refusalOfLengths (saidN file) (saidD file) domains tables agenda) _ same f))
+        else-rest r (refusalOfFile file) _ a
+        (else-rest r (refusalOfWords file) _ b (else-first r (refusalOfLengths (saidN file) (saidD file) domains tables agenda) _ same f))
 
     -- Past 3 the slots decide.
     pub slots-last : (r s : ℕ) → refusalOfFile file ≡ 0 → refusalOfWords file ≡ 0 → s ≡ sizesRefusal n d domains tables agenda → s ≡ 0
@@ -176,7 +181,8 @@ module _ (file : List ℕ) (domains tables agenda : ℕ) where
         let none : refusalOfLengths (saidN file) (saidD file) domains tables agenda ≡ 0 =
         sym (lengths-of n d domains tables agenda s (numbers-passed file n d m is-n is-d is-m b .0) e ∙ rw (is-n, is-d) refl) ∙ z in
         let last : r ≡ cond (ltb (slotsIn (saidN file) agenda) (saidSubproblems file)) 12 0 = h ∙ rw (is-n, is-m) refl in
-        else-rest r (refusalOfFile file) _ a (else-rest r (refusalOfWords file) _ b (else-rest r (refusalOfLengths (saidN file) (saidD file) domains tables agenda) _ none last))
+        else-rest r (refusalOfFile file) _ a
+        (else-rest r (refusalOfWords file) _ b (else-rest r (refusalOfLengths (saidN file) (saidD file) domains tables agenda) _ none last))
 
 -- There are more subproblems than slots.
 pub twelve : (n agenda m : ℕ) → agenda / (n + 2) < m → _≡_ {A = ℕ} 12 (cond (ltb (slotsIn n agenda) m) 12 0)

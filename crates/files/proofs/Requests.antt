@@ -17,14 +17,16 @@ cut-append zero k size (x ∷ a) b e = absurd (omega (arith, zero-mul size))
 cut-append (suc m) k size a b e =
     let some : size ≤ length a = omega (arith, suc-mul m size) in
     let rest : length (drop size a) ≡ m * size = length-drop size a ∙ omega (arith, suc-mul m size) in
-    rw (suc-add m k, take-append-le size a b some, drop-append-le size a b some) (ap {B = List (List ℕ)} (λ l. take size a ∷ l) (cut-append m k size (drop size a) b rest))
+    rw (suc-add m k, take-append-le size a b some, drop-append-le size a b some)
+    (ap {B = List (List ℕ)} (λ l. take size a ∷ l) (cut-append m k size (drop size a) b rest))
 
 cut-drop : (t k size : ℕ) (w : List ℕ) → cutInto k size (drop (t * size) w) ≡ drop t (cutInto (t + k) size w)
 unfolding cutInto
 cut-drop zero k size w = rw (zero-mul size, zero-add k) refl
 cut-drop (suc t) k size w =
     let size-first : suc t * size ≡ size + t * size = suc-mul t size ∙ add-comm (t * size) size in
-    rw (suc-add t k) (ap (λ (j : ℕ). cutInto k size (drop j w)) size-first ∙ ap (cutInto k size) (sym (drop-drop (t * size) size w)) ∙ cut-drop t k size (drop size w))
+    rw (suc-add t k)
+    (ap (λ (j : ℕ). cutInto k size (drop j w)) size-first ∙ ap (cutInto k size) (sym (drop-drop (t * size) size w)) ∙ cut-drop t k size (drop size w))
 
 -- So many parts are cut as asked.
 pub cut-length : (m size : ℕ) (w : List ℕ) → length (cutInto m size w) ≡ m
@@ -46,7 +48,8 @@ module _ (n : ℕ) where
   whole-append a b (m, e) (k, f) = (m + k, length-append a b ∙ ap₂ _+_ e f ∙ sym (add-mul m k (n + 3)))
 
   -- They are those of the first, then those of the second.
-  pub requests-append : (a b : List ℕ) → WholeRequests n (length a) → WholeRequests n (length b) → requestsIn n (a ++ b) ≡ requestsIn n a ++ requestsIn n b
+  pub requests-append : (a b : List ℕ) → WholeRequests n (length a) → WholeRequests n (length b)
+      → requestsIn n (a ++ b) ≡ requestsIn n a ++ requestsIn n b
   requests-append a b (m, e) (k, f) =
       requests-are (m + k) (a ++ b) (length-append a b ∙ ap₂ _+_ e f ∙ sym (add-mul m k (n + 3)))
       ∙ cut-append m k (n + 3) a b e ∙ ap₂ _++_ (sym (requests-are m a e)) (sym (requests-are k b f))
@@ -59,7 +62,8 @@ module _ (n : ℕ) where
     left : length (drop (t * (n + 3)) w) ≡ (whole .0 - t) * (n + 3)
     left =
         let sum : t + (whole .0 - t) ≡ whole .0 = omega (arith, some) in
-        let all : whole .0 * (n + 3) ≡ t * (n + 3) + (whole .0 - t) * (n + 3) = ap (λ (j : ℕ). j * (n + 3)) (sym sum) ∙ add-mul t (whole .0 - t) (n + 3) in
+        let all : whole .0 * (n + 3) ≡ t * (n + 3) + (whole .0 - t) * (n + 3) = ap (λ (j : ℕ). j * (n + 3)) (sym sum) ∙ add-mul t (whole .0 - t)
+        (n + 3) in
         length-drop (t * (n + 3)) w ∙ omega (arith, whole .1)
 
     -- What is left is whole requests.

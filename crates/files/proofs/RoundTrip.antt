@@ -103,7 +103,8 @@ module _ (n d : ℕ) (domains : List ℕ) (allowed : Table) (s : Search) (few : 
           | yes h ↦ says-below n d domains allowed s few words shape file blocks-hold i j a h k m
           | no h ↦
               let less : j < i = lt-of-le-ne (omega arith) (λ e. q (sym e)) in
-              says-above n d domains allowed s few words shape file blocks-hold i j a less l m (λ b o. proper .symmetric i j a b l k q m o) (proper .masks i j a l k q m)
+              says-above n d domains allowed s few words shape file blocks-hold i j a less l m (λ b o. proper .symmetric i j a b l k q m o)
+              (proper .masks i j a l k q m)
         ]
 
         the-words : saidWords file ≡ length (contentOf n d domains allowed s)
@@ -129,7 +130,10 @@ module _ (n d : ℕ) (domains : List ℕ) (allowed : Table) (s : Search) (few : 
           rules = λ P m.
               rw (the-domains, the-n, the-d) (rules-agree n d (λ i. getD domains i 0) allowed (saidAllowed file) (agree-back (saidAllowed file) allowed the-allowed) (proper .domains) P
               (rules P (rw (says-stack n d domains allowed s few words shape file blocks-hold) at m)));
-          counted = rw (says-checks n d domains allowed s few words shape file blocks-hold, says-steps n d domains allowed s few words shape file blocks-hold) counted;
+          counted =
+              rw
+              (says-checks n d domains allowed s few words shape file blocks-hold, says-steps n d domains allowed s few words shape file blocks-hold)
+              counted;
         }
 
 -- ---- save after load
@@ -206,23 +210,28 @@ module _ (file : List ℕ) (bytes : Bytes file) where
             rw (
               two-high (g 2) (g 3) (content-word-small file bytes 3),
               two-low (g 2) (g 3) (content-word-small file bytes 3),
-              four-first (g 4) (g 5) (g 6) (g 7) (content-word-small file bytes 5) (content-word-small file bytes 6) (content-word-small file bytes 7),
-              four-second (g 4) (g 5) (g 6) (g 7) (content-word-small file bytes 5) (content-word-small file bytes 6) (content-word-small file bytes 7),
+              four-first (g 4) (g 5) (g 6) (g 7) (content-word-small file bytes 5) (content-word-small file bytes 6)
+                  (content-word-small file bytes 7),
+              four-second (g 4) (g 5) (g 6) (g 7) (content-word-small file bytes 5) (content-word-small file bytes 6)
+                  (content-word-small file bytes 7),
               four-third (g 4) (g 5) (g 6) (g 7) (content-word-small file bytes 6) (content-word-small file bytes 7),
               two-low ((g 4 * 65536 + g 5) * 65536 + g 6) (g 7) (content-word-small file bytes 7),
               said-length,
             ) refl
 
     -- So its blocks are the file.
-    pub saved-again : Whole file → Accepts file → fileOf (contentOf (saidN file) (saidD file) (saidDomains file) (saidAllowed file) (saidSearch file)) ≡ file
+    pub saved-again : Whole file → Accepts file
+        → fileOf (contentOf (saidN file) (saidD file) (saidDomains file) (saidAllowed file) (saidSearch file)) ≡ file
     saved-again w a =
         ap fileOf said-content
-        ∙ rebuilt file w bytes (seq (contentWord file) 0 (saidWords file)) (ap blocksFor (seq-length (contentWord file) 0 (saidWords file)) ∙ sym (a .fills)) says
+        ∙ rebuilt file w bytes (seq (contentWord file) 0 (saidWords file))
+        (ap blocksFor (seq-length (contentWord file) 0 (saidWords file)) ∙ sym (a .fills)) says
       where
         says : (k : ℕ) → k < blocksIn file * 253 → contentWord file k ≡ getD (seq (contentWord file) 0 (saidWords file)) k 0
         says k l = elim (decLt k (saidWords file)) [
           | yes h ↦ sym (seq-at (contentWord file) 0 (saidWords file) k h ∙ ap (contentWord file) (zero-add k))
           | no h ↦
               a .zeros k (omega arith) l
-              ∙ sym (List·getD-eq-default (seq (contentWord file) 0 (saidWords file)) 0 (omega (arith, seq-length (contentWord file) 0 (saidWords file))))
+              ∙ sym
+              (List·getD-eq-default (seq (contentWord file) 0 (saidWords file)) 0 (omega (arith, seq-length (contentWord file) 0 (saidWords file))))
         ]

@@ -50,7 +50,8 @@ module _ (n d : ℕ) (domains tables agenda : List ℕ) (s : State) where
       (and-left a b (and-left (a && b) c (and-left (a && b && c) f (given-if (a && b && c && f) 6 (λ z. absurd (omega arith)) e))))
 
   -- What the first checks leave where they pass.
-  first-passed : searchRefusal n d domains tables agenda (s .counts .steps .0) (s .counts .checks .0) (s .subproblems) ≡ 0 → Savable n d domains tables agenda s
+  first-passed : searchRefusal n d domains tables agenda (s .counts .steps .0) (s .counts .checks .0) (s .subproblems) ≡ 0
+      → Savable n d domains tables agenda s
   unfolding searchRefusal
   first-passed e =
       let search : ℕ = refusalOfSearch (problemOf n d domains tables) agenda (s .counts .steps .0) (s .counts .checks .0) (s .subproblems) in
@@ -87,7 +88,8 @@ module _ (n d : ℕ) (domains tables agenda : List ℕ) (s : State) where
         → (r ≡ 0 → ⊥) → x .refusal ≡ r → x .blocks ≡ 0 → Saves n d domains tables agenda s file file x
     unfolding refusal saveRefusal
     save-refused r x e f a b =
-        let same : r ≡ refusal = else-first r (searchRefusal n d domains tables agenda (s .counts .steps .0) (s .counts .checks .0) (s .subproblems)) _ e f in
+        let same : r ≡ refusal = else-first r (searchRefusal n d domains tables agenda (s .counts .steps .0) (s .counts .checks .0) (s .subproblems))
+        _ e f in
         let some : refusal ≡ 0 → ⊥ = λ z. f (same ∙ z) in
         record {
           refusal = a ∙ same;
@@ -100,16 +102,21 @@ module _ (n d : ℕ) (domains tables agenda : List ℕ) (s : State) where
       counted-blocks : (words + 252) / 253 ≡ blocksFor (length (handedContent n d domains tables agenda s))
       unfolding blocksFor
       counted-blocks =
-          let all : words ≡ length (handedContent n d domains tables agenda s) = is-words ∙ sym (handed-length n d domains tables agenda s (save-passed r is-r zero-r) small) in
+          let all : words ≡ length (handedContent n d domains tables agenda s) = is-words ∙ sym
+          (handed-length n d domains tables agenda s (save-passed r is-r zero-r) small) in
           ap (λ (x : ℕ). (x + 252) / 253) all
 
       -- 13 or none is left.
       last : refusal ≡ cond (ltb (length file) (512 * ((words + 252) / 253))) 13 0
       unfolding refusal saveRefusal
-      last = sym (else-rest _ (searchRefusal n d domains tables agenda (s .counts .steps .0) (s .counts .checks .0) (s .subproblems)) _ (sym is-r ∙ zero-r) (ap (λ (x : ℕ). cond (ltb (length file) (512 * x)) 13 0) counted-blocks))
+      last =
+          sym
+          (else-rest _ (searchRefusal n d domains tables agenda (s .counts .steps .0) (s .counts .checks .0) (s .subproblems)) _ (sym is-r ∙ zero-r)
+          (ap (λ (x : ℕ). cond (ltb (length file) (512 * x)) 13 0) counted-blocks))
 
       -- The buffer is too short.
-      pub save-short : (x : Saved) → length file < 512 * ((words + 252) / 253) → x .refusal ≡ 13 → x .blocks ≡ 0 → Saves n d domains tables agenda s file file x
+      pub save-short : (x : Saved) → length file < 512 * ((words + 252) / 253) → x .refusal ≡ 13 → x .blocks ≡ 0
+          → Saves n d domains tables agenda s file file x
       unfolding refusal
       save-short x h a b =
           let same : refusal ≡ 13 = last ∙ rw (lt-ltb (length file) (512 * ((words + 252) / 253)) h) refl in
@@ -142,5 +149,8 @@ module _ (n d : ℕ) (domains tables agenda : List ℕ) (s : State) where
           record {
             refusal = a ∙ sym none;
             blocks = given refusal (blocksFor (length (handedContent n d domains tables agenda s))) 0 (x .blocks) none (b ∙ counted-blocks);
-            file = given refusal (fileOf (handedContent n d domains tables agenda s) ++ drop (length (fileOf (handedContent n d domains tables agenda s))) file) file after none (same ∙ written);
+            file =
+                given refusal
+                (fileOf (handedContent n d domains tables agenda s) ++ drop (length (fileOf (handedContent n d domains tables agenda s))) file) file
+                after none (same ∙ written);
           }

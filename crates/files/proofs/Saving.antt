@@ -76,7 +76,8 @@ module _ (n d : ℕ) (domains tables agenda : List ℕ) (s : State) (words : Wor
   -- Its content fills at most 101 blocks.
   pub saved-few : blocksFor (length (handedContent n d domains tables agenda s)) ≤ 101
   saved-few =
-      blocks-few n d domains (tableOf n d tables) (searchOf n agenda s) (h .passed .proper .variables) (h .passed .proper .values) (h .passed .domains-words) stack-few
+      blocks-few n d domains (tableOf n d tables) (searchOf n agenda s) (h .passed .proper .variables) (h .passed .proper .values)
+      (h .passed .domains-words) stack-few
 
   -- Its content is words, the steps fitting their counter.
   saved-words : s .counts .steps .0 ≤ 4294967295 → Words (handedContent n d domains tables agenda s)
@@ -99,7 +100,8 @@ module _ (n d : ℕ) (domains tables agenda : List ℕ) (s : State) (words : Wor
       let last : Words rest =
       append-small 65536 (domains ++ triangle n d (tableOf n d tables)) (stackWords n (stackOf n agenda (s .subproblems)))
       (append-small 65536 domains (triangle n d (tableOf n d tables)) masks pairs) stack in
-      three-small n d (steps / 65536) (steps % 65536 ∷ checks / 2 ^ 48 ∷ checks / 2 ^ 32 % 65536 ∷ checks / 65536 % 65536 ∷ checks % 65536 ∷ count ∷ rest)
+      three-small n d (steps / 65536)
+      (steps % 65536 ∷ checks / 2 ^ 48 ∷ checks / 2 ^ 32 % 65536 ∷ checks / 65536 % 65536 ∷ checks % 65536 ∷ count ∷ rest)
       (omega (arith, h .passed .proper .variables)) (omega arith) (omega arith)
       (three-small (steps % 65536) (checks / 2 ^ 48) (checks / 2 ^ 32 % 65536) (checks / 65536 % 65536 ∷ checks % 65536 ∷ count ∷ rest)
       (omega arith) (omega (arith, h .limit)) (omega arith)
@@ -112,5 +114,6 @@ module _ (n d : ℕ) (domains tables agenda : List ℕ) (s : State) (words : Wor
   -- The blocks written say the search.
   pub saved-says : Says (fileOf (handedContent n d domains tables agenda s)) n d domains (tableOf n d tables) (searchOf n agenda s)
   saved-says =
-      file-says n d domains (tableOf n d tables) (searchOf n agenda s) (h .passed .proper .variables) (h .passed .proper .values) (h .passed .domains-words) stack-few stack-shape
+      file-says n d domains (tableOf n d tables) (searchOf n agenda s) (h .passed .proper .variables) (h .passed .proper .values)
+      (h .passed .domains-words) stack-few stack-shape
       (h .passed .proper) (h .rules) (h .limit)

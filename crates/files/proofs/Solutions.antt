@@ -15,7 +15,8 @@ use Rattle.files.proofs.Triangle.{table-other}
 use Rattle.files.proofs.Tables.{agree-back}
 
 -- Tables that agree have the same solutions.
-pub solution-agree : (n d : ℕ) (whole : ℕ → ℕ) (f g : Table) (q : ℕ → ℕ) → Allow-same n d f g → ((i : ℕ) → i < n → whole i < 2 ^ d) → Solution n f whole q → Solution n g whole q
+pub solution-agree : (n d : ℕ) (whole : ℕ → ℕ) (f g : Table) (q : ℕ → ℕ) → Allow-same n d f g → ((i : ℕ) → i < n → whole i < 2 ^ d)
+    → Solution n f whole q → Solution n g whole q
 solution-agree n d whole f g q agree small h = record {
   possible = h .possible;
   consistent = λ i j l k e. rw (← agree i j (q i) l k e (member-lt d (whole i) (q i) (small i l) (h .possible i l))) (h .consistent i j l k e);
@@ -30,7 +31,8 @@ solutions-cast n n′ d d′ domains domains′ t f q a b c h = rw (a, b, c) h
 pub same-solutions : (n d : ℕ) (domains tables : List ℕ) (s : Search) (file : List ℕ) (f : ℕ → ℕ) → Proper (problemOf n d domains tables)
     → Says file n d domains (tableOf n d tables) s
     → Solution n (tableOf n d tables) (λ i. getD domains i 0) f
-    ↔ Solution (saidN file) (tableOf (saidN file) (saidD file) (tableWords (saidN file) (saidD file) (saidAllowed file))) (λ i. getD (saidDomains file) i 0) f
+    ↔ Solution (saidN file) (tableOf (saidN file) (saidD file) (tableWords (saidN file) (saidD file) (saidAllowed file)))
+    (λ i. getD (saidDomains file) i 0) f
 same-solutions n d domains tables s file f proper says =
     let there : Allow-same n d (tableOf n d tables) (tableOf n d (tableWords n d (saidAllowed file))) =
     λ i j a l k e m. sym (table-other n d (saidAllowed file) i j a l k e m ∙ says .its-allowed i j a l k e m) in

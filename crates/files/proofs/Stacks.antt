@@ -24,7 +24,8 @@ stack-most n [] = omega arith
 stack-most n (P ∷ S) = simp (length-append, length-take) (omega (arith, stack-most n S))
 
 -- One as memory holds it takes so many.
-pub shape-length : (n : ℕ) → n ≤ 32 → (S : List Subproblem) → ((P : Subproblem) → List·Memᴰ P S → Shape n 16 P) → length (stackWords n S) ≡ length S * (n + 2)
+pub shape-length : (n : ℕ) → n ≤ 32 → (S : List Subproblem) → ((P : Subproblem) → List·Memᴰ P S → Shape n 16 P)
+    → length (stackWords n S) ≡ length S * (n + 2)
 shape-length n few S h = length-stack n S (λ P m. omega (arith, h P m .long))
 
 module _ (n : ℕ) (ws : List ℕ) (words : length ws ≡ n + 2) (small : (k : ℕ) → getD ws k 0 < 2 ^ 16) where

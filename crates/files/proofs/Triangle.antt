@@ -61,13 +61,15 @@ module _ (n d : ℕ) (allowed : Table) where
   unfolding triangle row
   triangle-rows =
       each-same (λ i. each (λ j. map (allowed i j) (below d)) (after n i)) row n
-      (λ i l. ap (each (λ j. map (allowed i j) (below d))) (after-is n i) ∙ each-map (λ j. map (allowed i j) (below d)) (λ k. suc i + k) (below (rest n i)))
+      (λ i l. ap (each (λ j. map (allowed i j) (below d))) (after-is n i) ∙ each-map (λ j. map (allowed i j) (below d)) (λ k. suc i + k)
+      (below (rest n i)))
 
   -- A row has so many words.
   pub row-length : (i : ℕ) → length (row i) ≡ rest n i * d
   unfolding row
   row-length i =
-      each-length (λ k. map (allowed i (suc i + k)) (below d)) (λ k. d) (rest n i) (λ k l. map-length (allowed i (suc i + k)) d) ∙ total-const (rest n i) d
+      each-length (λ k. map (allowed i (suc i + k)) (below d)) (λ k. d) (rest n i) (λ k l. map-length (allowed i (suc i + k)) d) ∙ total-const
+      (rest n i) d
 
   -- How many words they are.
   pub triangle-length : length (triangle n d allowed) ≡ triangleWords n d
@@ -118,7 +120,8 @@ module _ (n d : ℕ) (allowed : Table) where
 
       one : (i : ℕ) → i < n → row i ≡ seq g (x + total i (λ h. rest n h * d)) (rest n i * d)
       one i l =
-          each-same (λ k. map (allowed i (suc i + k)) (below d)) (λ k. seq g (x + total i (λ h. rest n h * d) + total k (λ j. d)) d) (rest n i) (masks i l)
+          each-same (λ k. map (allowed i (suc i + k)) (below d)) (λ k. seq g (x + total i (λ h. rest n h * d) + total k (λ j. d)) d) (rest n i)
+          (masks i l)
           ∙ seq-each g (x + total i (λ h. rest n h * d)) (λ j. d) (rest n i)
           ∙ ap (seq g (x + total i (λ h. rest n h * d))) (total-const (rest n i) d)
 
@@ -147,7 +150,8 @@ place-lt n d i j a h l m =
 pub triangle-same : (n d : ℕ) (f g : Table) → ((i j a : ℕ) → i < j → j < n → a < d → f i j a ≡ g i j a) → triangle n d f ≡ triangle n d g
 triangle-same n d f g h =
     triangle-from n d f (λ k. getD (triangle n d g) k 0) 0
-    (λ i j a l k m. h i j a l k m ∙ sym (triangle-at n d g i j a l k m) ∙ ap (λ (x : ℕ). getD (triangle n d g) x 0) (sym (zero-add (trianglePlace n d i j a))))
+    (λ i j a l k m. h i j a l k m ∙ sym (triangle-at n d g i j a l k m) ∙ ap (λ (x : ℕ). getD (triangle n d g) x 0)
+    (sym (zero-add (trianglePlace n d i j a))))
     ∙ seq-is (λ k. getD (triangle n d g) k 0) 0 (triangleWords n d) (triangle n d g) (triangle-length n d g)
     (λ k l. ap (λ (x : ℕ). getD (triangle n d g) x 0) (zero-add k))
 
@@ -175,7 +179,8 @@ module _ (n d : ℕ) (allowed : Table) where
   unfolding tableWords masks mask
   table-at i j a h l m =
       let outer : (i * n + j) * d + a ≡ total i (λ k. n * d) + (total j (λ k. d) + a) =
-      rw (total-const i (n * d), total-const j d, ← mul-assoc i n d) (ap (λ (x : ℕ). x + a) (add-mul (i * n) j d) ∙ add-assoc (i * n * d) (j * d) a) in
+      rw (total-const i (n * d), total-const j d, ← mul-assoc i n d) (ap (λ (x : ℕ). x + a) (add-mul (i * n) j d) ∙ add-assoc (i * n * d) (j * d) a)
+      in
       word-at n d (tableWords n d allowed) i j a m ∙ ap (λ (x : ℕ). getD (each masks (below n)) x 0) outer
       ∙ each-at masks (λ k. n * d) n (λ i l. masks-length i) i (total j (λ k. d) + a) h (rw (total-const j d) (digits-lt l m))
       ∙ each-at (λ j. map (mask i j) (below d)) (λ k. d) n (λ j l. map-length (mask i j) d) j a l m

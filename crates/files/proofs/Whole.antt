@@ -63,7 +63,8 @@ module _ (file : List ℕ) where
   tests-whole e =
       let x = and-left (sized && least && most) all e in
       let y = and-left (sized && least) most x in
-      let good : (b : ℕ) → b < blocksIn file → goodBlock file b ≡ true = λ b h. every-at (goodBlock file) (blocksIn file) b h (and-right (sized && least && most) all e) in
+      let good : (b : ℕ) → b < blocksIn file → goodBlock file b ≡ true = λ b h. every-at (goodBlock file) (blocksIn file) b h
+      (and-right (sized && least && most) all e) in
       let number : ℕ → Bool = λ b. eqb (blockWord file b 0) (b + 1) in
       let count : ℕ → Bool = λ b. eqb (blockWord file b 1) (blocksIn file) in
       let check : ℕ → Bool = λ b. eqb (blockWord file b 255) (checkOf (headOf file b)) in
@@ -72,7 +73,9 @@ module _ (file : List ℕ) where
         some = leb-true 1 (blocksIn file) (and-right sized least y);
         few = leb-true (blocksIn file) 101 (and-right (sized && least) most x);
         number = λ b h. eqb-true (blockWord file b 0) (b + 1) (and-left (number b) (count b) (and-left (number b && count b) (check b) (good b h)));
-        count = λ b h. eqb-true (blockWord file b 1) (blocksIn file) (and-right (number b) (count b) (and-left (number b && count b) (check b) (good b h)));
+        count =
+            λ b h. eqb-true (blockWord file b 1) (blocksIn file)
+            (and-right (number b) (count b) (and-left (number b && count b) (check b) (good b h)));
         check = λ b h. eqb-true (blockWord file b 255) (checkOf (headOf file b)) (and-right (number b && count b) (check b) (good b h));
       }
 
@@ -81,7 +84,8 @@ module _ (file : List ℕ) where
   tests-deserve e =
       ⊎-elim
       (λ x. ⊎-elim
-      (λ y. ⊎-elim (λ z. inl (inl (eqb-false (length file) (blocksIn file * 512) z))) (λ z. inl (inr (inl (leb-false 1 (blocksIn file) z)))) (and-cases sized least y))
+      (λ y. ⊎-elim (λ z. inl (inl (eqb-false (length file) (blocksIn file * 512) z))) (λ z. inl (inr (inl (leb-false 1 (blocksIn file) z))))
+      (and-cases sized least y))
       (λ y. inl (inr (inr (leb-false (blocksIn file) 101 y)))) (and-cases (sized && least) most x))
       (λ x. let (b, l, bad) = every-fails (goodBlock file) (blocksIn file) x in inr (b, l, wrong b bad))
       (and-cases (sized && least && most) all e)

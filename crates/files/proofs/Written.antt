@@ -88,13 +88,16 @@ module _ (n d : ℕ) (t : List ℕ) where
   rows-length i = each-length (row n d (tableOf n d t)) (λ h. rest n h * d) i (λ h l. row-length n d (tableOf n d t) h)
 
   -- The words read are the row.
-  row-read : length t ≡ n * n * d → (i : ℕ) (ys : List ℕ) → i < n → ys ≡ partIn t ((i * n + i + 1) * d) ((n - (i + 1)) * d) → ys ≡ row n d (tableOf n d t) i
+  row-read : length t ≡ n * n * d → (i : ℕ) (ys : List ℕ) → i < n → ys ≡ partIn t ((i * n + i + 1) * d) ((n - (i + 1)) * d)
+      → ys ≡ row n d (tableOf n d t) i
   unfolding partIn
   row-read long i ys h e =
       let from : ℕ = (i * n + i + 1) * d in
       let w : ℕ = (n - (i + 1)) * d in
       let same : w ≡ rest n i * d = rw add-one refl in
-      e ∙ sym (seq-is (λ k. getD t k 0) from w (take ((from + w) - from) (drop from t)) (part-long t from w (rw long (from-within n d i h))) (λ k l. sym (part-at t from w k l)))
+      e ∙ sym
+      (seq-is (λ k. getD t k 0) from w (take ((from + w) - from) (drop from t)) (part-long t from w (rw long (from-within n d i h)))
+      (λ k l. sym (part-at t from w k l)))
       ∙ ap (seq (λ k. getD t k 0) from) same ∙ sym (row-words n d t i)
 
   module _ (long : length t ≡ n * n * d) (l m : List ℕ) (at i end : ℕ) (room : at + triangleWords n d ≤ length l) (inv : Passed (row n d (tableOf n d t)) l at m i end) where
@@ -168,7 +171,8 @@ module _ (n d : ℕ) (domains tables agenda : List ℕ) (s : State) (hands : Sav
         rw (length-stackOf n agenda (s .subproblems), stack-of-words n agenda (s .subproblems) (hands .agenda-words) small) refl
 
     -- Written one after the other where zeros stood, they are the content, and zeros after it.
-    pub content-put : (l l₁ l₂ l₃ l₄ first : List ℕ) (a b c : ℕ) → l ≡ zeros 25553 → first ≡ header n d s → (l₁ ≡ splice l 0 first) × (a ≡ 0 + length first)
+    pub content-put : (l l₁ l₂ l₃ l₄ first : List ℕ) (a b c : ℕ) → l ≡ zeros 25553 → first ≡ header n d s
+        → (l₁ ≡ splice l 0 first) × (a ≡ 0 + length first)
         → (l₂ ≡ splice l₁ a domains) × (b ≡ a + length domains) → (l₃ ≡ splice l₂ b masks) × (c ≡ b + triangleWords n d) → l₄ ≡ splice l₃ c slots
         → l₄ ≡ handedContent n d domains tables agenda s ++ replicate (25553 - wordCount n d (s .subproblems)) 0
     content-put l l₁ l₂ l₃ l₄ first a b c z h (e₁, is-a) (e₂, is-b) (e₃, is-c) e₄ =
@@ -178,7 +182,8 @@ module _ (n d : ℕ) (domains tables agenda : List ℕ) (s : State) (hands : Sav
         let two : l₂ ≡ splice l 0 (first ++ domains) =
         e₂ ∙ rw e₁ (splice-splice l 0 first domains a (omega arith) (omega arith)) in
         let three : l₃ ≡ splice l 0 (first ++ domains ++ masks) =
-        e₃ ∙ rw two (splice-splice l 0 (first ++ domains) masks b (omega (arith, length-append first domains)) (omega (arith, hands .domains-words, few))) in
+        e₃ ∙ rw two
+        (splice-splice l 0 (first ++ domains) masks b (omega (arith, length-append first domains)) (omega (arith, hands .domains-words, few))) in
         let all : l₄ ≡ splice l 0 (first ++ domains ++ masks ++ slots) =
         e₄ ∙ rw three (splice-splice l 0 (first ++ domains ++ masks) slots c
         (omega (arith, length-append first domains, length-append (first ++ domains) masks)) (omega (arith, hands .domains-words, few))) in
@@ -219,7 +224,8 @@ module _ (blocks : ℕ) (content : List ℕ) (b : ℕ) where
   head-count k e = rw e refl
 
   -- Then its content.
-  pub head-content : (k r : ℕ) → (k ≡ 0 → ⊥) → (k ≡ 1 → ⊥) → k < 255 → r ≡ getD content (b * 253 + (k - 2)) 0 → r ≡ getD (headedBlock blocks content b) k 0
+  pub head-content : (k r : ℕ) → (k ≡ 0 → ⊥) → (k ≡ 1 → ⊥) → k < 255 → r ≡ getD content (b * 253 + (k - 2)) 0
+      → r ≡ getD (headedBlock blocks content b) k 0
   unfolding headedBlock
   head-content zero r f g h e = absurd (f refl)
   head-content (suc zero) r f g h e = absurd (g refl)
@@ -247,7 +253,8 @@ module _ (blocks : ℕ) (content : List ℕ) (b : ℕ) where
       let next : take (k + 1) words ≡ take k words ++ (w ∷ []) = rw (add-one, s) (take-suc words k 0 (omega arith)) in
       let seam-2 : length (front ++ ((w / 256) ∷ [])) ≡ 2 * k + 1 = length-append front ((w / 256) ∷ []) ∙ omega arith in
       let place : suc (suc (2 * k)) ≡ 2 * (k + 1) = omega arith in
-      let bytes : fileBytes (take (k + 1) words) ≡ front ++ (w / 256 ∷ w % 256 ∷ []) = ap fileBytes next ∙ bytes-append (take k words) (w ∷ []) ∙ one-word front w in
+      let bytes : fileBytes (take (k + 1) words) ≡ front ++ (w / 256 ∷ w % 256 ∷ []) = ap fileBytes next ∙ bytes-append (take k words) (w ∷ []) ∙
+      one-word front w in
       ap (λ (x : List ℕ). set (set x (2 * k) (w / 256)) (2 * k + 1) (w % 256)) (e ∙ ap (λ (x : List ℕ). front ++ x) two)
       ∙ ap (λ (x : List ℕ). set x (2 * k + 1) (w % 256)) (set-at front (getD l (2 * k) 0) (getD l (suc (2 * k)) 0 ∷ rest) (w / 256) (2 * k) seam
       ∙ sym (append-snoc front (w / 256) (getD l (suc (2 * k)) 0 ∷ rest)))
@@ -292,7 +299,8 @@ module _ (blocks : ℕ) (content : List ℕ) (b : ℕ) where
   head-end l m k e h = e ∙ ap (λ (x : ℕ). blockPart blocks content b x l) h
 
   -- So the check that is worked out of it is right.
-  pub check-written : (l m : List ℕ) (w : ℕ) → m ≡ blockPart blocks content b 255 l → w ≡ checkOf (headOf m 0) → w ≡ getD (blockWords blocks content b) 255 0
+  pub check-written : (l m : List ℕ) (w : ℕ) → m ≡ blockPart blocks content b 255 l → w ≡ checkOf (headOf m 0)
+      → w ≡ getD (blockWords blocks content b) 255 0
   check-written l m w e h = h ∙ ap (λ (x : List ℕ). checkOf (headOf x 0)) e ∙ ap checkOf (head-written l) ∙ sym (block-check blocks content b)
 
   -- All 256 words are written.
@@ -313,7 +321,8 @@ module _ (blocks : ℕ) (content : List ℕ) where
   file-none l = refl
 
   -- One block more.
-  pub file-more : (l m ys : List ℕ) (b : ℕ) → m ≡ filePart blocks content b l → ys ≡ fileBytes (blockWords blocks content b) → 512 * b + 512 ≤ length l
+  pub file-more : (l m ys : List ℕ) (b : ℕ) → m ≡ filePart blocks content b l → ys ≡ fileBytes (blockWords blocks content b)
+      → 512 * b + 512 ≤ length l
       → putMid (512 * b) ((512 * b + 512) - 512 * b) m ys ≡ filePart blocks content (b + 1) l
   unfolding filePart firstBlocks
   file-more l m ys b e y h =
@@ -327,7 +336,8 @@ module _ (blocks : ℕ) (content : List ℕ) where
   pub file-kept : (l m : List ℕ) (b : ℕ) → m ≡ filePart blocks content b l → 512 * b ≤ length l → length m ≡ length l
   unfolding filePart
   file-kept l m b e h =
-      ap length e ∙ length-append (firstBlocks b blocks content) (drop (512 * b) l) ∙ omega (arith, blocks-length b blocks content, length-drop (512 * b) l)
+      ap length e ∙ length-append (firstBlocks b blocks content) (drop (512 * b) l) ∙ omega
+      (arith, blocks-length b blocks content, length-drop (512 * b) l)
 
   -- All blocks are written.
   pub file-end : (l m : List ℕ) (b : ℕ) → m ≡ filePart blocks content b l → b ≡ blocks → m ≡ filePart blocks content blocks l

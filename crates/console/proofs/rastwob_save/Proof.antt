@@ -19,7 +19,14 @@ same-length : tie.Need-same-length
 same-length c = search needs
 
 returns : tie.Need-returns
-returns c = record { outcome = c .before .before .before .save .result; saves = saves-state _ _ _ _ _ _ _ _ _ _ (c .before .before .before .before .before .state-of .ensures .0) (c .before .before .before .save .ensures .0); its-refusal = refl; its-blocks = refl }
+returns c =
+    record {
+      outcome = c .before .before .before .save .result;
+      saves = saves-state _ _ _ _ _ _ _ _ _ _ (c .before .before .before .before .before .state-of .ensures .0)
+          (c .before .before .before .save .ensures .0);
+      its-refusal = refl;
+      its-blocks = refl;
+    }
 
 pub rastwob-save-spec : {M : Type 1} → statement M
 rastwob-save-spec =

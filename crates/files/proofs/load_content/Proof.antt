@@ -21,26 +21,31 @@ slice-aggregate-put-tables c = search needs
 
 put-tables-requires : tie.Need-put-tables-requires
 put-tables-requires c κs =
-    let pre = c .before .before .before .before .before .before .before .before .before .pre in
-    (read-numbers _ _ _ _ pre (c .before .before .n .ensures) (c .before .d .ensures) .0, (pre .long, c .before .before .before .room-for-tables .ensures))
+    let pre = c .before .before .before .before .before .before .before .before .before .pre in (
+      read-numbers _ _ _ _ pre (c .before .before .n .ensures) (c .before .d .ensures) .0,
+      (pre .long, c .before .before .before .room-for-tables .ensures),
+    )
 
 array-share-prefix-room : tie.Need-array-share-prefix-room
 array-share-prefix-room c =
     let made = c .before in
     let pre = made .before .before .before .before .before .before .before .before .before .before .pre in
-    made-fits _ _ _ _ _ _ _ (pre) (made .before .before .before .n .ensures) (made .before .before .d .ensures) (made .before .before .before .before .room-for-tables .ensures) (made .put-tables .ensures .0) (made .put-tables .ensures .1)
+    made-fits _ _ _ _ _ _ _ (pre) (made .before .before .before .n .ensures) (made .before .before .d .ensures)
+    (made .before .before .before .before .room-for-tables .ensures) (made .put-tables .ensures .0) (made .put-tables .ensures .1)
 
 slice-aggregate-masks : tie.Need-slice-aggregate-masks
 slice-aggregate-masks c =
     let made = c .before .before in
     let pre = made .before .before .before .before .before .before .before .before .before .before .pre in
-    made-count _ _ _ _ _ _ _ (pre) (made .before .before .before .n .ensures) (made .before .before .d .ensures) (made .before .before .before .before .room-for-tables .ensures) (made .put-tables .ensures .0) (made .put-tables .ensures .1)
+    made-count _ _ _ _ _ _ _ (pre) (made .before .before .before .n .ensures) (made .before .before .d .ensures)
+    (made .before .before .before .before .room-for-tables .ensures) (made .put-tables .ensures .0) (made .put-tables .ensures .1)
 
 refusal-requires : tie.Need-refusal-requires
 refusal-requires c κs =
     let made = c .before .before in
     let pre = made .before .before .before .before .before .before .before .before .before .before .pre in
-    made-ready _ _ _ _ _ _ _ (pre) (made .before .before .before .n .ensures) (made .before .before .d .ensures) (made .before .before .before .before .room-for-tables .ensures) (made .put-tables .ensures .0) (made .put-tables .ensures .1)
+    made-ready _ _ _ _ _ _ _ (pre) (made .before .before .before .n .ensures) (made .before .before .d .ensures)
+    (made .before .before .before .before .room-for-tables .ensures) (made .put-tables .ensures .0) (made .put-tables .ensures .1)
 
 refuse-requires : tie.Need-refuse-requires
 refuse-requires c κs = search needs
@@ -52,7 +57,8 @@ put-search-requires : tie.Need-put-search-requires
 put-search-requires c κs =
     let made = c .before .before .before .before .before .before .before in
     let pre = made .before .before .before .before .before .before .before .before .before .before .pre in
-    let ready = made-ready _ _ _ _ _ _ _ (pre) (made .before .before .before .n .ensures) (made .before .before .d .ensures) (made .before .before .before .before .room-for-tables .ensures) (made .put-tables .ensures .0) (made .put-tables .ensures .1) in
+    let ready = made-ready _ _ _ _ _ _ _ (pre) (made .before .before .before .n .ensures) (made .before .before .d .ensures)
+    (made .before .before .before .before .room-for-tables .ensures) (made .put-tables .ensures .0) (made .put-tables .ensures .1) in
     load-lent _ _ _ _ _ (c .before .before .before .before .refusal .ensures) (c .before .before .before .if1 .left) _ _ ready
 
 accept-requires : tie.Need-accept-requires
@@ -74,8 +80,10 @@ returns-2 c =
     let made = passed .before .before .before .before in
     let pre = made .before .before .before .before .before .before .before .before .before .before .pre in
     let small = made .before .before .before .before .before .before .before .before .before .shared-slice-known .given in
-    let ready = made-ready _ _ _ _ _ _ _ (pre) (made .before .before .before .n .ensures) (made .before .before .d .ensures) (made .before .before .before .before .room-for-tables .ensures) (made .put-tables .ensures .0) (made .put-tables .ensures .1) in
-    load-accepted _ _ _ _ _ (passed .before .refusal .ensures) (passed .if1 .left) _ _ ready (λ i. omega (arith, small i)) _ _ _ _ (c .accept .ensures)
+    let ready = made-ready _ _ _ _ _ _ _ (pre) (made .before .before .before .n .ensures) (made .before .before .d .ensures)
+    (made .before .before .before .before .room-for-tables .ensures) (made .put-tables .ensures .0) (made .put-tables .ensures .1) in
+    load-accepted _ _ _ _ _ (passed .before .refusal .ensures) (passed .if1 .left) _ _ ready (λ i. omega (arith, small i)) _ _ _ _
+    (c .accept .ensures)
     (put .put-search .ensures .0) (put .put-search .ensures .1 .0) (put .put-search .ensures .1 .1)
 
 pub load-content-spec : {M : Type 1} → statement M

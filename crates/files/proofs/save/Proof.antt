@@ -60,7 +60,8 @@ returns-3 c =
     let counted = fits .before in
     let passed = counted .before in
     let small = passed .before .before .before .shared-slice-known3 .given in
-    save-written _ _ _ _ _ _ _ (λ i. omega (arith, small i)) _ _ (passed .before .search-refusal .ensures) (passed .if1 .left) (counted .words .ensures .0) _ _
+    save-written _ _ _ _ _ _ _ (λ i. omega (arith, small i)) _ _ (passed .before .search-refusal .ensures) (passed .if1 .left)
+    (counted .words .ensures .0) _ _
     (fits .if2 .left) refl refl _ (put .put .ensures) (c .before .before .put-blocks .ensures)
 
 pub save-spec : {M : Type 1} → statement M

@@ -12,7 +12,8 @@ use Rattle.console.proofs.bytes.bytes_of.Statement.{statement}
 use Rattle.console.proofs.bytes.bytes_of.Tie as tie
 
 abbrev Inv-loop : tie.InvT-loop
-Inv-loop words bytes₀ count i₀ bytes i = (i ≤ length bytes₀ / 2) × ((length bytes ≡ length bytes₀) × (bytes ≡ take (2 * i) (bytesOf words) ++ drop (2 * i) bytes₀))
+Inv-loop words bytes₀ count i₀ bytes i =
+    (i ≤ length bytes₀ / 2) × ((length bytes ≡ length bytes₀) × (bytes ≡ take (2 * i) (bytesOf words) ++ drop (2 * i) bytes₀))
 
 abbrev μ-loop : tie.MeasureT-loop
 μ-loop words bytes₀ count i₀ bytes i = length bytes₀ / 2 - i

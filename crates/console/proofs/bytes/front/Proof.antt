@@ -14,7 +14,9 @@ add-used : tie.Need-add-used
 add-used c = search needs
 
 mul-used : tie.Need-mul-used
-mul-used c = let few = front-few _ _ _ _ (c .before .pre .0) (c .before .pre .1 .0) (c .before .pre .1 .1) (c .larger .ensures .1 .1) in omega (arith, few)
+mul-used c =
+    let few = front-few _ _ _ _ (c .before .pre .0) (c .before .pre .1 .0) (c .before .pre .1 .1) (c .larger .ensures .1 .1) in
+    omega (arith, few)
 
 returns : tie.Need-returns
 returns c = front-used _ _ _ _ _ _ (c .before .larger .ensures .0) (c .before .larger .ensures .1 .0) refl (c .if1 .taken)

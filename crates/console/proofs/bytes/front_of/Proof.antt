@@ -21,7 +21,9 @@ zeros-requires : tie.Need-zeros-requires
 zeros-requires c κs = search needs
 
 returns : tie.Need-returns
-returns c = front-zeros _ _ _ (c .before .before .before .before .before .args .agenda .now) _ _ (c .before .before .before .reach .ensures) (c .before .zeros .ensures) (c .if1 .taken)
+returns c =
+    front-zeros _ _ _ (c .before .before .before .before .before .args .agenda .now) _ _ (c .before .before .before .reach .ensures)
+    (c .before .zeros .ensures) (c .if1 .taken)
 
 returns-2 : tie.Need-returns-2
 returns-2 c = front-whole _ _ _ _

@@ -46,7 +46,8 @@ same-length c = search needs
 
 returns : tie.Need-returns
 returns c =
-    written-back _ _ _ _ _ _ _ _ _ (c .before .before .before .before .before .lower .ensures) (c .before .before .before .before .before .before .front .ensures)
+    written-back _ _ _ _ _ _ _ _ _ (c .before .before .before .before .before .lower .ensures)
+    (c .before .before .before .before .before .before .front .ensures)
     (c .before .before .before .before .before .before .before .before .before .pre .1 .1 .1) (c .before .before .bytes-of .ensures)
 
 pub write-back-spec : {M : Type 1} → statement M

@@ -48,13 +48,15 @@ choose-requires c κs = tt
 slice-aggregate-bytes-of : tie.Need-slice-aggregate-bytes-of
 slice-aggregate-bytes-of c =
     let called = c .before .before in
-    left-long (called .choose .last .1 .1 .1 .1 .0) (called .before .before .before .before .before .before .before .before .words-of2 .ensures) (called .choose .kept .1 .1 .1 .1 .0)
+    left-long (called .choose .last .1 .1 .1 .1 .0) (called .before .before .before .before .before .before .before .before .words-of2 .ensures)
+    (called .choose .kept .1 .1 .1 .1 .0)
 
 bytes-of-requires : tie.Need-bytes-of-requires
 bytes-of-requires c κs =
     let called = c .before .before .before in
     let agenda = called .before .before .before .before .before .before .before .before in
-    left-asks (called .choose .last .1 .1 .1 .1 .0) (agenda .words-of2 .ensures) (called .choose .kept .1 .1 .1 .1 .0) (agenda .before .before .before .before .before .before .before .before .before .pre .0 .of-agenda .even)
+    left-asks (called .choose .last .1 .1 .1 .1 .0) (agenda .words-of2 .ensures) (called .choose .kept .1 .1 .1 .1 .0)
+    (agenda .before .before .before .before .before .before .before .before .before .pre .0 .of-agenda .even)
 
 same-length : tie.Need-same-length
 same-length c = c .before .before .bytes-of .kept .1 .0
@@ -69,7 +71,8 @@ returns c =
     let ran = called .choose in
     let domains = agenda .before .before .before .before .words-of .ensures in
     let after = c .before .before .bytes-of .ensures in
-    let chosen = chooses-words (ran .last .1 .1 .1 .1 .0) domains (tables .words-of3 .ensures) (agenda .words-of2 .ensures) (ran .kept .1 .1 .1 .1 .0) after (ran .ensures) in
+    let chosen = chooses-words (ran .last .1 .1 .1 .1 .0) domains (tables .words-of3 .ensures) (agenda .words-of2 .ensures) (ran .kept .1 .1 .1 .1 .0)
+    after (ran .ensures) in
     (chosen, choose-fits (λ i. omega (arith, known .slice-known .given i)) (omega (arith, start .good .1 .1 .1 .1 .1 .1 .0)) (start .pre .1) chosen)
 
 pub choose-words-spec : {M : Type 1} → statement M

@@ -36,9 +36,12 @@ load-none-requires c κs = search needs
 returns-2 : tie.Need-returns-2
 returns-2 c =
     let known = c .before .before .before in
-    let domains : (i : ℕ) → getD (known .before .before .before .before .args .domains .now) i 0 < 256 = λ i. omega (arith, known .before .before .slice-known .given i) in
-    let tables : (i : ℕ) → getD (known .before .before .before .before .args .tables .now) i 0 < 256 = λ i. omega (arith, known .before .slice-known2 .given i) in
-    let agenda : (i : ℕ) → getD (known .before .before .before .before .args .agenda .now) i 0 < 256 = λ i. omega (arith, known .slice-known3 .given i) in
+    let domains : (i : ℕ) → getD (known .before .before .before .before .args .domains .now) i 0 < 256 = λ i. omega
+    (arith, known .before .before .slice-known .given i) in
+    let tables : (i : ℕ) → getD (known .before .before .before .before .args .tables .now) i 0 < 256 = λ i. omega
+    (arith, known .before .slice-known2 .given i) in
+    let agenda : (i : ℕ) → getD (known .before .before .before .before .args .agenda .now) i 0 < 256 = λ i. omega
+    (arith, known .slice-known3 .given i) in
     loads-refused _ _ _ _ _ (c .before .before .room-for .ensures) _ (c .before .if1 .left) domains tables agenda (c .load-none .ensures)
 
 pub load-spec : {M : Type 1} → statement M

@@ -21,7 +21,8 @@ slice-aggregate-words-of-3 : tie.Need-slice-aggregate-words-of-3
 slice-aggregate-words-of-3 c = refl
 
 words-of-requires-3 : tie.Need-words-of-requires-3
-words-of-requires-3 c κs = c .before .before .before .before .before .before .before .before .before .before .before .before .before .before .pre .of-tables
+words-of-requires-3 c κs =
+    c .before .before .before .before .before .before .before .before .before .before .before .before .before .before .pre .of-tables
 
 array-borrow-prefix-domain-words : tie.Need-array-borrow-prefix-domain-words
 array-borrow-prefix-domain-words c = c .before .before .before .before .before .before .before .before .before .words-of .ensures .room
@@ -47,13 +48,18 @@ load-requires c κs = tt
 slice-aggregate-bytes-of : tie.Need-slice-aggregate-bytes-of
 slice-aggregate-bytes-of c =
     let called = c .before .before .before .before in
-    left-long (called .load .last .1 .0) (called .before .before .before .before .before .before .before .before .before .before .before .before .before .words-of .ensures) (called .load .kept .1 .0)
+    left-long (called .load .last .1 .0)
+    (called .before .before .before .before .before .before .before .before .before .before .before .before .before .words-of .ensures)
+    (called .load .kept .1 .0)
 
 bytes-of-requires : tie.Need-bytes-of-requires
 bytes-of-requires c κs =
     let called = c .before .before .before .before .before in
-    let pre = called .before .before .before .before .before .before .before .before .before .before .before .before .before .before .before .before .before .before .before .before .pre in
-    left-asks (called .load .last .1 .0) (called .before .before .before .before .before .before .before .before .before .before .before .before .before .words-of .ensures) (called .load .kept .1 .0) (pre .of-domains .even)
+    let pre = called .before .before .before .before .before .before .before .before .before .before .before .before .before .before .before .before
+    .before .before .before .before .pre in
+    left-asks (called .load .last .1 .0)
+    (called .before .before .before .before .before .before .before .before .before .before .before .before .before .words-of .ensures)
+    (called .load .kept .1 .0) (pre .of-domains .even)
 
 slice-aggregate-bytes-of-2 : tie.Need-slice-aggregate-bytes-of-2
 slice-aggregate-bytes-of-2 c =
@@ -63,19 +69,24 @@ slice-aggregate-bytes-of-2 c =
 bytes-of-requires-2 : tie.Need-bytes-of-requires-2
 bytes-of-requires-2 c κs =
     let called = c .before .before .before .before .before .before .before .before .before .before in
-    let pre = called .before .before .before .before .before .before .before .before .before .before .before .before .before .before .before .before .before .before .before .before .pre in
-    left-asks (called .load .last .1 .1 .0) (called .before .before .before .before .before .words-of3 .ensures) (called .load .kept .1 .1 .0) (pre .of-tables .even)
+    let pre = called .before .before .before .before .before .before .before .before .before .before .before .before .before .before .before .before
+    .before .before .before .before .pre in
+    left-asks (called .load .last .1 .1 .0) (called .before .before .before .before .before .words-of3 .ensures) (called .load .kept .1 .1 .0)
+    (pre .of-tables .even)
 
 slice-aggregate-bytes-of-3 : tie.Need-slice-aggregate-bytes-of-3
 slice-aggregate-bytes-of-3 c =
     let called = c .before .before .before .before .before .before .before .before .before .before .before .before .before .before in
-    left-long (called .load .last .1 .1 .1 .0) (called .before .before .before .before .before .before .before .before .before .words-of2 .ensures) (called .load .kept .1 .1 .1 .0)
+    left-long (called .load .last .1 .1 .1 .0) (called .before .before .before .before .before .before .before .before .before .words-of2 .ensures)
+    (called .load .kept .1 .1 .1 .0)
 
 bytes-of-requires-3 : tie.Need-bytes-of-requires-3
 bytes-of-requires-3 c κs =
     let called = c .before .before .before .before .before .before .before .before .before .before .before .before .before .before .before in
-    let pre = called .before .before .before .before .before .before .before .before .before .before .before .before .before .before .before .before .before .before .before .before .pre in
-    left-asks (called .load .last .1 .1 .1 .0) (called .before .before .before .before .before .before .before .before .before .words-of2 .ensures) (called .load .kept .1 .1 .1 .0) (pre .of-agenda .even)
+    let pre = called .before .before .before .before .before .before .before .before .before .before .before .before .before .before .before .before
+    .before .before .before .before .pre in
+    left-asks (called .load .last .1 .1 .1 .0) (called .before .before .before .before .before .before .before .before .before .words-of2 .ensures)
+    (called .load .kept .1 .1 .1 .0) (pre .of-agenda .even)
 
 same-length : tie.Need-same-length
 same-length c = c .before .before .before .before .before .before .before .before .before .before .before .before .bytes-of .kept .1 .0
@@ -94,8 +105,11 @@ returns c =
     let called = domains .before .before .before .before .before .before in
     let last = called .load .last in
     let kept = called .load .kept in
-    loads-words (last .1 .0) (last .1 .1 .0) (last .1 .1 .1 .0) (called .before .before .before .before .before .before .before .before .before .before .before .before .before .words-of .ensures) (called .before .before .before .before .before .words-of3 .ensures)
-    (called .before .before .before .before .before .before .before .before .before .words-of2 .ensures) (kept .1 .0) (kept .1 .1 .0) (kept .1 .1 .1 .0) (called .load .ensures) (domains .bytes-of .ensures)
+    loads-words (last .1 .0) (last .1 .1 .0) (last .1 .1 .1 .0)
+    (called .before .before .before .before .before .before .before .before .before .before .before .before .before .words-of .ensures)
+    (called .before .before .before .before .before .words-of3 .ensures)
+    (called .before .before .before .before .before .before .before .before .before .words-of2 .ensures) (kept .1 .0) (kept .1 .1 .0)
+    (kept .1 .1 .1 .0) (called .load .ensures) (domains .bytes-of .ensures)
     (tables .bytes-of2 .ensures) (agenda .bytes-of3 .ensures)
 
 pub load-words-spec : {M : Type 1} → statement M

@@ -17,13 +17,17 @@ same-length : tie.Need-same-length
 same-length c = search needs
 
 returns : tie.Need-returns
-returns c = opens-turned _ _ _ _ _ _ (c .before .before .before .before .before .room-for .ensures) _ _ (c .before .before .before .before .if1 .taken) (c .before .before .open-words .ensures)
+returns c =
+    opens-turned _ _ _ _ _ _ (c .before .before .before .before .before .room-for .ensures) _ _ (c .before .before .before .before .if1 .taken)
+    (c .before .before .open-words .ensures)
 
 unopened-requires : tie.Need-unopened-requires
 unopened-requires c κs = search needs
 
 returns-2 : tie.Need-returns-2
-returns-2 c = opens-refused _ _ _ _ _ _ (c .before .before .room-for .ensures) _ (c .before .if1 .left) (λ i. omega (arith, c .before .before .before .slice-known .given i)) (c .unopened .ensures)
+returns-2 c =
+    opens-refused _ _ _ _ _ _ (c .before .before .room-for .ensures) _ (c .before .if1 .left)
+    (λ i. omega (arith, c .before .before .before .slice-known .given i)) (c .unopened .ensures)
 
 pub open-spec : {M : Type 1} → statement M
 open-spec =

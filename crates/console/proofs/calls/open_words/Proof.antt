@@ -47,13 +47,15 @@ open-requires c κs = tt
 slice-aggregate-bytes-of : tie.Need-slice-aggregate-bytes-of
 slice-aggregate-bytes-of c =
     let called = c .before .before in
-    left-long (called .«open» .last .1 .1 .1 .1 .0) (called .before .before .before .before .before .before .before .before .words-of2 .ensures) (called .«open» .kept .1 .1 .1 .1 .0)
+    left-long (called .«open» .last .1 .1 .1 .1 .0) (called .before .before .before .before .before .before .before .before .words-of2 .ensures)
+    (called .«open» .kept .1 .1 .1 .1 .0)
 
 bytes-of-requires : tie.Need-bytes-of-requires
 bytes-of-requires c κs =
     let called = c .before .before .before in
     let agenda = called .before .before .before .before .before .before .before .before in
-    left-asks (called .«open» .last .1 .1 .1 .1 .0) (agenda .words-of2 .ensures) (called .«open» .kept .1 .1 .1 .1 .0) (agenda .before .before .before .before .before .before .before .before .before .pre .of-agenda .even)
+    left-asks (called .«open» .last .1 .1 .1 .1 .0) (agenda .words-of2 .ensures) (called .«open» .kept .1 .1 .1 .1 .0)
+    (agenda .before .before .before .before .before .before .before .before .before .pre .of-agenda .even)
 
 same-length : tie.Need-same-length
 same-length c = c .before .before .bytes-of .kept .1 .0
@@ -66,7 +68,8 @@ returns c =
     let ran = called .«open» in
     let domains = agenda .before .before .before .before .words-of .ensures in
     let after = c .before .before .bytes-of .ensures in
-    opens-words (ran .last .1 .1 .1 .1 .0) domains (tables .words-of3 .ensures) (agenda .words-of2 .ensures) (ran .kept .1 .1 .1 .1 .0) after (ran .ensures)
+    opens-words (ran .last .1 .1 .1 .1 .0) domains (tables .words-of3 .ensures) (agenda .words-of2 .ensures) (ran .kept .1 .1 .1 .1 .0) after
+    (ran .ensures)
 
 pub open-words-spec : {M : Type 1} → statement M
 open-words-spec =

@@ -19,15 +19,18 @@ refused-requires c κs = search needs
 
 returns : tie.Need-returns
 returns c =
-    runs-long _ _ _ _ _ _ _ (c .before .before .room-for .ensures) _ _ (c .before .before .before .before .before .before .before .pre) (λ i. omega (arith, c .before .before .before .before .slice-known .given i))
+    runs-long _ _ _ _ _ _ _ (c .before .before .room-for .ensures) _ _ (c .before .before .before .before .before .before .before .pre)
+    (λ i. omega (arith, c .before .before .before .before .slice-known .given i))
     (c .refused .ensures) (c .before .if1 .taken)
 
 whole-list-requires : tie.Need-whole-list-requires
 whole-list-requires c κs = search needs
 
 front-of-requires : tie.Need-front-of-requires
-front-of-requires c κs =
-    (listed-then _ _ _ (c .before .before .whole-list .ensures) (c .before .if2 .taken) .few, c .before .before .before .before .before .before .before .before .before .pre)
+front-of-requires c κs = (
+  listed-then _ _ _ (c .before .before .whole-list .ensures) (c .before .if2 .taken) .few,
+  c .before .before .before .before .before .before .before .before .before .pre,
+)
 
 slice-relend-prefix-run-words : tie.Need-slice-relend-prefix-run-words
 slice-relend-prefix-run-words c = c .front-of .ensures .reach .inside
@@ -37,8 +40,14 @@ slice-aggregate-run-words c = sym (length-take-le _ _ (c .before .front-of .ensu
 
 run-words-requires : tie.Need-run-words-requires
 run-words-requires c κs =
-    let room = room-true _ _ _ _ (c .before .before .before .before .before .before .room-for .ensures) (not-false _ (c .before .before .before .before .before .if1 .left)) in
-    (front-room (c .before .front-of .ensures) room, (listed-then _ _ _ (c .before .before .before .before .whole-list .ensures) (c .before .before .before .if2 .taken), c .before .before .before .before .before .before .before .before .before .before .before .pre))
+    let room = room-true _ _ _ _ (c .before .before .before .before .before .before .room-for .ensures)
+    (not-false _ (c .before .before .before .before .before .if1 .left)) in (
+      front-room (c .before .front-of .ensures) room,
+      (
+        listed-then _ _ _ (c .before .before .before .before .whole-list .ensures) (c .before .before .before .if2 .taken),
+        c .before .before .before .before .before .before .before .before .before .before .before .pre,
+      ),
+    )
 
 same-length : tie.Need-same-length
 same-length c = search needs
@@ -50,15 +59,20 @@ returns-2 c =
     let list = c .before .before .before .before .before .before .before .whole-list .ensures in
     let listed = listed-then _ _ _ list (c .before .before .before .before .before .before .if2 .taken) in
     let runs = front-runs front listed (ran .kept .1 .1 .1 .1 .0) (ran .ensures .0) in
-    let room = c .before .before .before .before .before .before .before .before .before .room-for .ensures in
-    (runs-turned _ _ _ _ _ _ _ room _ _ _ _ (c .before .before .before .before .before .before .before .before .if1 .left) list (c .before .before .before .before .before .before .if2 .taken) runs, ran .ensures .1)
+    let room = c .before .before .before .before .before .before .before .before .before .room-for .ensures in (
+      runs-turned _ _ _ _ _ _ _ room _ _ _ _ (c .before .before .before .before .before .before .before .before .if1 .left) list
+          (c .before .before .before .before .before .before .if2 .taken) runs,
+      ran .ensures .1,
+    )
 
 refused-requires-2 : tie.Need-refused-requires-2
 refused-requires-2 c κs = search needs
 
 returns-3 : tie.Need-returns-3
 returns-3 c =
-    runs-cut _ _ _ _ _ _ _ (c .before .before .before .before .room-for .ensures) _ _ (c .before .before .before .before .before .before .before .before .before .pre) (λ i. omega (arith, c .before .before .before .before .before .before .slice-known .given i))
+    runs-cut _ _ _ _ _ _ _ (c .before .before .before .before .room-for .ensures) _ _
+    (c .before .before .before .before .before .before .before .before .before .pre)
+    (λ i. omega (arith, c .before .before .before .before .before .before .slice-known .given i))
     (c .refused2 .ensures) _ (c .before .before .whole-list .ensures) (c .before .if2 .left)
 
 pub run-spec : {M : Type 1} → statement M

@@ -23,16 +23,21 @@ run-parts-requires : tie.Need-run-parts-requires
 run-parts-requires c κs = c .before .before .before .before .before .before .before .before .before .pre .1
 
 array-share-prefix-words : tie.Need-array-share-prefix-words
-array-share-prefix-words c = let ran = c .before .run-parts in left-fits (ran .last .1 .1 .1 .1 .0) (c .before .before .before .before .words-of .ensures) (ran .kept .1 .1 .1 .1 .0)
+array-share-prefix-words c =
+    let ran = c .before .run-parts in
+    left-fits (ran .last .1 .1 .1 .1 .0) (c .before .before .before .before .words-of .ensures) (ran .kept .1 .1 .1 .1 .0)
 
 slice-aggregate-write-back : tie.Need-slice-aggregate-write-back
-slice-aggregate-write-back c = let ran = c .before .before .run-parts in left-count (ran .last .1 .1 .1 .1 .0) (c .before .before .before .before .before .words-of .ensures) (ran .kept .1 .1 .1 .1 .0)
+slice-aggregate-write-back c =
+    let ran = c .before .before .run-parts in
+    left-count (ran .last .1 .1 .1 .1 .0) (c .before .before .before .before .before .words-of .ensures) (ran .kept .1 .1 .1 .1 .0)
 
 write-back-requires : tie.Need-write-back-requires
 write-back-requires c κs =
     let pre = c .before .before .before .before .before .before .before .before .before .before .before .before .before .pre in
     let ran = c .before .before .before .run-parts in
-    let bytes = left-bytes (ran .last .1 .1 .1 .1 .0) (c .before .before .before .before .before .before .words-of .ensures) (ran .kept .1 .1 .1 .1 .0) (pre .0 .even) in
+    let bytes = left-bytes (ran .last .1 .1 .1 .1 .0) (c .before .before .before .before .before .before .words-of .ensures)
+    (ran .kept .1 .1 .1 .1 .0) (pre .0 .even) in
     (pre .1 .0 .few, (pre .1 .1, (ran .ensures .1 .subproblems, bytes)))
 
 same-length : tie.Need-same-length
@@ -45,7 +50,8 @@ returns c =
     let known = turned .before .before .before .before in
     let start = known .before .before .before in
     let ran = called .run-parts in (
-      runs-at (ran .last .1 .1 .1 .1 .0) (turned .words-of .ensures) (start .pre .0 .even) (ran .kept .1 .1 .1 .1 .0) (λ i. omega (arith, known .slice-known .given i))
+      runs-at (ran .last .1 .1 .1 .1 .0) (turned .words-of .ensures) (start .pre .0 .even) (ran .kept .1 .1 .1 .1 .0)
+          (λ i. omega (arith, known .slice-known .given i))
           (omega (arith, start .good .1 .1 .1 .1 .1 .1 .0)) (start .pre .1 .0) (ran .ensures .0) (c .before .before .write-back .ensures),
       ran .ensures .1,
     )

@@ -37,10 +37,16 @@ run-requires : tie.Need-run-requires
 run-requires c κs = tt
 
 array-share-prefix-words : tie.Need-array-share-prefix-words
-array-share-prefix-words c = let ran = c .before .run in left-fits (ran .last .1 .1 .1 .1 .0) (c .before .before .before .before .before .before .before .before .words-of .ensures) (ran .kept .1 .1 .1 .1 .0)
+array-share-prefix-words c =
+    let ran = c .before .run in
+    left-fits (ran .last .1 .1 .1 .1 .0) (c .before .before .before .before .before .before .before .before .words-of .ensures)
+    (ran .kept .1 .1 .1 .1 .0)
 
 slice-aggregate-write-back : tie.Need-slice-aggregate-write-back
-slice-aggregate-write-back c = let ran = c .before .before .run in left-count (ran .last .1 .1 .1 .1 .0) (c .before .before .before .before .before .before .before .before .before .words-of .ensures) (ran .kept .1 .1 .1 .1 .0)
+slice-aggregate-write-back c =
+    let ran = c .before .before .run in
+    left-count (ran .last .1 .1 .1 .1 .0) (c .before .before .before .before .before .before .before .before .before .words-of .ensures)
+    (ran .kept .1 .1 .1 .1 .0)
 
 write-back-requires : tie.Need-write-back-requires
 write-back-requires c κs =
@@ -48,9 +54,11 @@ write-back-requires c κs =
     let turned = called .before .before .before .before .before .before .before in
     let known = turned .before .before .before .before in
     let start = known .before .before .before in
-    let runs = few-runs _ _ _ _ (called .run .last .1 .1 .1 .1 .0) _ _ (turned .words-of .ensures) (called .before .before .before .before .any-words-of .ensures) (λ i. omega (arith, known .slice-known .given i))
+    let runs = few-runs _ _ _ _ (called .run .last .1 .1 .1 .1 .0) _ _ (turned .words-of .ensures)
+    (called .before .before .before .before .any-words-of .ensures) (λ i. omega (arith, known .slice-known .given i))
     (omega (arith, start .good .1 .1 .1 .1 .1 .1 .0)) (start .pre .1 .1) (start .pre .1 .0) (called .run .ensures) in
-    let bytes = left-bytes (called .run .last .1 .1 .1 .1 .0) (turned .words-of .ensures) (called .run .kept .1 .1 .1 .1 .0) (start .pre .0 .of-agenda .even) in
+    let bytes = left-bytes (called .run .last .1 .1 .1 .1 .0) (turned .words-of .ensures) (called .run .kept .1 .1 .1 .1 .0)
+    (start .pre .0 .of-agenda .even) in
     (start .pre .1 .0 .few, (start .pre .1 .1, (runs .1 .subproblems, bytes)))
 
 same-length : tie.Need-same-length
@@ -64,9 +72,11 @@ returns c =
     let start = known .before .before .before in
     let small : (i : ℕ) → getD (start .args .agenda .now) i 0 < 256 = λ i. omega (arith, known .slice-known .given i) in
     let stepped : start .args .state .counts .steps .0 < 2 ^ 32 = omega (arith, start .good .1 .1 .1 .1 .1 .1 .0) in
-    let runs = few-runs _ _ _ _ (called .run .last .1 .1 .1 .1 .0) _ _ (turned .words-of .ensures) (called .before .before .before .before .any-words-of .ensures) small stepped (start .pre .1 .1)
+    let runs = few-runs _ _ _ _ (called .run .last .1 .1 .1 .1 .0) _ _ (turned .words-of .ensures)
+    (called .before .before .before .before .any-words-of .ensures) small stepped (start .pre .1 .1)
     (start .pre .1 .0) (called .run .ensures) in (
-      runs-at (called .run .last .1 .1 .1 .1 .0) (turned .words-of .ensures) (start .pre .0 .of-agenda .even) (called .run .kept .1 .1 .1 .1 .0) small stepped (start .pre .1 .0) (runs .0)
+      runs-at (called .run .last .1 .1 .1 .1 .0) (turned .words-of .ensures) (start .pre .0 .of-agenda .even) (called .run .kept .1 .1 .1 .1 .0) small
+          stepped (start .pre .1 .0) (runs .0)
           (c .before .before .write-back .ensures),
       runs .1,
     )

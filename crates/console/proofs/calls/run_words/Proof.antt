@@ -35,22 +35,30 @@ few-requires : tie.Need-few-requires
 few-requires c κs = search needs
 
 run-short-requires : tie.Need-run-short-requires
-run-short-requires c κs = let pre = c .before .before .before .before .before .before .before .before .before .before .before .before .before .before .before .pre in (few-short (c .before .before .few .ensures) (c .before .if1 .taken) (pre .0 .of-agenda), pre .1)
+run-short-requires c κs =
+    let pre = c .before .before .before .before .before .before .before .before .before .before .before .before .before .before .before .pre in
+    (few-short (c .before .before .few .ensures) (c .before .if1 .taken) (pre .0 .of-agenda), pre .1)
 
 same-length : tie.Need-same-length
 same-length c = search needs
 
 returns : tie.Need-returns
-returns c = runs-words (c .before .before .before .before .before .before .before .before .before .before .before .before .words-of .ensures) (c .before .before .before .before .before .before .before .before .before .words-of2 .ensures) (c .before .before .run-short .ensures)
+returns c =
+    runs-words (c .before .before .before .before .before .before .before .before .before .before .before .before .words-of .ensures)
+    (c .before .before .before .before .before .before .before .before .before .words-of2 .ensures) (c .before .before .run-short .ensures)
 
 run-long-requires : tie.Need-run-long-requires
-run-long-requires c κs = let pre = c .before .before .before .before .before .before .before .before .before .before .before .before .before .before .before .pre in (pre .0 .of-agenda, pre .1)
+run-long-requires c κs =
+    let pre = c .before .before .before .before .before .before .before .before .before .before .before .before .before .before .before .pre in
+    (pre .0 .of-agenda, pre .1)
 
 same-length-2 : tie.Need-same-length-2
 same-length-2 c = search needs
 
 returns-2 : tie.Need-returns-2
-returns-2 c = runs-words (c .before .before .before .before .before .before .before .before .before .before .before .before .words-of .ensures) (c .before .before .before .before .before .before .before .before .before .words-of2 .ensures) (c .before .before .run-long .ensures)
+returns-2 c =
+    runs-words (c .before .before .before .before .before .before .before .before .before .before .before .before .words-of .ensures)
+    (c .before .before .before .before .before .before .before .before .before .words-of2 .ensures) (c .before .before .run-long .ensures)
 
 pub run-words-spec : {M : Type 1} → statement M
 run-words-spec =

@@ -16,7 +16,9 @@ same-length : tie.Need-same-length
 same-length c = search needs
 
 returns : tie.Need-returns
-returns c = saves-turned _ _ _ _ _ _ _ (c .before .before .before .before .before .room-for .ensures) _ _ _ (c .before .before .before .before .if1 .taken) (c .before .before .save-words .ensures)
+returns c =
+    saves-turned _ _ _ _ _ _ _ (c .before .before .before .before .before .room-for .ensures) _ _ _ (c .before .before .before .before .if1 .taken)
+    (c .before .before .save-words .ensures)
 
 unsaved-requires : tie.Need-unsaved-requires
 unsaved-requires c κs = search needs

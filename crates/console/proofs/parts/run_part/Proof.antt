@@ -26,7 +26,8 @@ same-length : tie.Need-same-length
 same-length c = search needs
 
 returns : tie.Need-returns
-returns c = runs-list _ _ _ _ _ _ _ _ _ _ (c .before .before .before .before .before .before .any-words-of .ensures .said) (c .before .before .run .ensures)
+returns c =
+    runs-list _ _ _ _ _ _ _ _ _ _ (c .before .before .before .before .before .before .any-words-of .ensures .said) (c .before .before .run .ensures)
 
 pub run-part-spec : {M : Type 1} → statement M
 run-part-spec =

@@ -10,7 +10,8 @@ use Rattle.console.proofs.parts.run_parts.Statement.{statement}
 use Rattle.console.proofs.parts.run_parts.Tie as tie
 
 abbrev Inv-loop : tie.InvT-loop
-Inv-loop n d domains tables agenda₀ requests state₀ at₀ taken₀ agenda state at taken = Going n d domains tables agenda₀ requests state₀ agenda state at taken
+Inv-loop n d domains tables agenda₀ requests state₀ at₀ taken₀ agenda state at taken =
+    Going n d domains tables agenda₀ requests state₀ agenda state at taken
 
 abbrev μ-loop : tie.MeasureT-loop
 μ-loop n d domains tables agenda₀ requests state₀ at₀ taken₀ agenda state at taken = length requests - at
@@ -55,7 +56,8 @@ returns c =
     let part = c .before .before .before .before .before .before .before .end-of .ensures in
     let known = c .before .before .before .before .before .before .before .before .before .before in
     let pre = known .before .before .before .pre in
-    returns-end (c .before .before .before .before .before .before .before .before .loop .inv) part ran (pre .0) (λ i. omega (arith, known .slice-known .given i)) (pre .1) (c .if1 .taken)
+    returns-end (c .before .before .before .before .before .before .before .before .loop .inv) part ran (pre .0)
+    (λ i. omega (arith, known .slice-known .given i)) (pre .1) (c .if1 .taken)
 
 goes-on-requires : tie.Need-goes-on-requires Inv-loop μ-loop
 goes-on-requires c κs = search needs
@@ -69,10 +71,13 @@ returns-2 c =
     let part = c .before .before .before .before .before .before .before .before .before .end-of .ensures in
     let known = c .before .before .before .before .before .before .before .before .before .before .before .before in
     let pre = known .before .before .before .pre in
-    returns-stop (c .before .before .before .before .before .before .before .before .before .before .loop .inv) part ran (pre .0) (λ i. omega (arith, known .slice-known .given i)) (pre .1) _ (c .before .goes-on .ensures) (c .if2 .taken)
+    returns-stop (c .before .before .before .before .before .before .before .before .before .before .loop .inv) part ran (pre .0)
+    (λ i. omega (arith, known .slice-known .given i)) (pre .1) _ (c .before .goes-on .ensures) (c .if2 .taken)
 
 loop-less : tie.Need-loop-less Inv-loop μ-loop
-loop-less c = let part = c .before .before .before .before .before .before .before .before .before .before .end-of .ensures in omega (arith, part .more (c .before .before .before .if1 .left), part .within)
+loop-less c =
+    let part = c .before .before .before .before .before .before .before .before .before .before .end-of .ensures in
+    omega (arith, part .more (c .before .before .before .if1 .left), part .within)
 
 loop-again : tie.Need-loop-again Inv-loop μ-loop
 loop-again c =

@@ -34,7 +34,9 @@ add-result : tie.Need-add-result
 add-result c = search needs
 
 returns : tie.Need-returns
-returns c = word-made _ _ _ _ (c .before .before .wide .ensures .0 ∙ c .before .before .before .byte .ensures) (c .wide2 .ensures .0 ∙ c .before .byte2 .ensures)
+returns c =
+    word-made _ _ _ _ (c .before .before .wide .ensures .0 ∙ c .before .before .before .byte .ensures)
+    (c .wide2 .ensures .0 ∙ c .before .byte2 .ensures)
 
 returns-2 : tie.Need-returns-2
 returns-2 c = word-past _ _ (c .if1 .left)

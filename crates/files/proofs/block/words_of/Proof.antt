@@ -49,7 +49,8 @@ loop-less c = search needs
 loop-again : tie.Need-loop-again Inv-loop μ-loop
 loop-again c =
     let long : length {A = ℕ} (replicate 256 0) ≡ 256 = length-replicate {A = ℕ} 256 0 in
-    let word = low-exchanged _ (λ i. omega (arith, c .before .before .before .before .shared-slice-known .given i)) _ (c .before .before .before .low-words .ensures) _ _ (c .before .loop-test .taken) (c .exchanged .ensures) in
+    let word = low-exchanged _ (λ i. omega (arith, c .before .before .before .before .shared-slice-known .given i)) _
+    (c .before .before .before .low-words .ensures) _ _ (c .before .loop-test .taken) (c .exchanged .ensures) in
     (omega arith, front-more _ _ _ _ _ (c .before .before .loop .inv .1) word (omega arith))
 
 returns : tie.Need-returns Inv-loop μ-loop

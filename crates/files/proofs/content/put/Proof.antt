@@ -34,17 +34,20 @@ put-at-requires-2 c κs =
 
 put-masks-requires : tie.Need-put-masks-requires
 put-masks-requires c κs =
-    let pre = c .before .before .before .before .before .before .before .before .before .before .before .before .before .before .before .before .pre in
+    let pre = c .before .before .before .before .before .before .before .before .before .before .before .before .before .before .before .before .pre
+    in
     (pre .0 .numbers, (pre .0 .tables-words, omega (arith, zeros-long _ _ (pre .1), few _ _ _ _ _ _ (pre .0))))
 
 slice-aggregate-put-at-2 : tie.Need-slice-aggregate-put-at-2
 slice-aggregate-put-at-2 c =
-    let pre = c .before .before .before .before .before .before .before .before .before .before .before .before .before .before .before .before .before .before .before .before .pre in
+    let pre = c .before .before .before .before .before .before .before .before .before .before .before .before .before .before .before .before
+    .before .before .before .before .pre in
     sym (used-length _ _ _ _ _ _ (pre .0))
 
 put-at-requires-3 : tie.Need-put-at-requires-3
 put-at-requires-3 c κs =
-    let pre = c .before .before .before .before .before .before .before .before .before .before .before .before .before .before .before .before .before .before .before .before .before .pre in
+    let pre = c .before .before .before .before .before .before .before .before .before .before .before .before .before .before .before .before
+    .before .before .before .before .before .pre in
     omega (arith, zeros-long _ _ (pre .1), few _ _ _ _ _ _ (pre .0), used-length _ _ _ _ _ _ (pre .0))
 
 same-length : tie.Need-same-length
@@ -61,7 +64,8 @@ returns c =
     let one = two .before .before .before .before in
     let first = one .before .before .before .before in
     let pre = first .before .before .before .before .before .pre in
-    content-put _ _ _ _ _ _ (pre .0) (λ i. omega (arith, first .before .before .shared-slice-known3 .given i)) _ _ _ _ _ _ _ _ _ (pre .1) (first .header .ensures)
+    content-put _ _ _ _ _ _ (pre .0) (λ i. omega (arith, first .before .before .shared-slice-known3 .given i)) _ _ _ _ _ _ _ _ _ (pre .1)
+    (first .header .ensures)
     (one .put-at .ensures) (two .put-at2 .ensures) (three .put-masks .ensures) (c .before .before .put-at3 .ensures .0)
 
 pub put-spec : {M : Type 1} → statement M

@@ -30,7 +30,8 @@ part-requires c κs =
 returns : tie.Need-returns
 returns c =
     let pre = c .before .before .before .before .before .before .pre in
-    slots-found _ _ _ (pre .0) (pre .1 .0) _ _ _ (c .before .before .before .n .ensures) (c .before .before .d .ensures) (c .before .agenda-from .ensures) _ _ (c .part .ensures)
+    slots-found _ _ _ (pre .0) (pre .1 .0) _ _ _ (c .before .before .before .n .ensures) (c .before .before .d .ensures)
+    (c .before .agenda-from .ensures) _ _ (c .part .ensures)
 
 pub slots-spec : {M : Type 1} → statement M
 slots-spec =

@@ -21,8 +21,10 @@ add-result-2 : tie.Need-add-result-2
 add-result-2 c = omega (arith, slots-few (c .before .args .n) (c .before .args .subproblems) 512 (omega arith) (omega arith) (omega arith))
 
 returns : tie.Need-returns
-returns c =
-    (ap (λ (x : ℕ). x + c .before .args .subproblems * (c .before .args .n + 2)) (c .agenda-from .ensures .0), omega (arith, slots-few (c .before .args .n) (c .before .args .subproblems) 512 (omega arith) (omega arith) (omega arith)))
+returns c = (
+  ap (λ (x : ℕ). x + c .before .args .subproblems * (c .before .args .n + 2)) (c .agenda-from .ensures .0),
+  omega (arith, slots-few (c .before .args .n) (c .before .args .subproblems) 512 (omega arith) (omega arith) (omega arith)),
+)
 
 pub words-spec : {M : Type 1} → statement M
 words-spec = tie.close (tie.spec agenda-from-requires add-result mul-result add-result-2 returns)

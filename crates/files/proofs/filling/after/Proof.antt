@@ -28,7 +28,8 @@ mul-part-2 : tie.Need-mul-part-2
 mul-part-2 c = after-fits _ _ _ _ (c .before .before .pre .0) (c .before .before .pre .1 .0) (c .pairs-before .ensures .0) .row
 
 part-requires : tie.Need-part-requires
-part-requires c κs = omega (arith, after-fits _ _ _ _ (c .before .before .pre .0) (c .before .before .pre .1 .0) (c .pairs-before .ensures .0) .within)
+part-requires c κs =
+    omega (arith, after-fits _ _ _ _ (c .before .before .pre .0) (c .before .before .pre .1 .0) (c .pairs-before .ensures .0) .within)
 
 returns : tie.Need-returns
 returns c = (after-read _ _ _ _ _ _ (c .before .pairs-before .ensures .0) (c .part .ensures .0), c .part .ensures .1)

@@ -26,7 +26,8 @@ part-requires c κs = search needs
 put-turned-requires : tie.Need-put-turned-requires Inv-loop μ-loop
 put-turned-requires c κs =
     let pre = c .before .before .before .before .before .before .before .pre in
-    let room = pair-room _ _ _ _ _ _ _ _ _ (c .before .before .before .loop-test .taken) (pre .1 .1 .1) (c .before .before .before .before .loop .inv .1) in
+    let room = pair-room _ _ _ _ _ _ _ _ _ (c .before .before .before .loop-test .taken) (pre .1 .1 .1)
+    (c .before .before .before .before .loop .inv .1) in
     (omega (arith, c .before .part .ensures .1, pre .0 .values), omega (arith, c .before .part .ensures .1, room))
 
 add-j : tie.Need-add-j Inv-loop μ-loop

@@ -30,7 +30,8 @@ loop-again : tie.Need-loop-again Inv-loop μ-loop
 loop-again c =
     let pre = c .before .before .before .before .before .before .before .before .pre in
     let put = c .before .before .put-block in
-    blocks-more _ _ _ _ _ (pre .1 .1) (c .before .before .before .before .before .loop .inv) (omega arith) (pre .1 .0) (put .ensures) (put .kept .1 .1 .0)
+    blocks-more _ _ _ _ _ (pre .1 .1) (c .before .before .before .before .before .loop .inv) (omega arith) (pre .1 .0) (put .ensures)
+    (put .kept .1 .1 .0)
 
 same-length : tie.Need-same-length Inv-loop μ-loop
 same-length c = c .before .loop .inv .long ∙ sym (zeros-long _ _ (c .before .before .before .before .pre .1 .1))

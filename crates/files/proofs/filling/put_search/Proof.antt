@@ -25,19 +25,23 @@ slots-requires c κs = search needs
 
 put-at-requires : tie.Need-put-at-requires
 put-at-requires c κs =
-    let pre = c .before .before .before .before .before .before .before .before .before .before .before .before .before .before .before .before .before .before .pre in
+    let pre = c .before .before .before .before .before .before .before .before .before .before .before .before .before .before .before .before
+    .before .before .pre in
     omega (arith, slots-room _ _ _ _ _ _ _ (c .before .before .subproblems .ensures) (c .before .slots .ensures) (pre .agenda-words))
 
 put-zeros-requires : tie.Need-put-zeros-requires
 put-zeros-requires c κs =
     let put = c .before .before .before .put-at in
     let slots = c .before .before .before .before .before in
-    let pre = slots .before .before .before .before .before .before .before .before .before .before .before .before .before .before .before .before .before .pre in
+    let pre = slots .before .before .before .before .before .before .before .before .before .before .before .before .before .before .before .before
+    .before .pre in
     let room = slots-room _ _ _ _ _ _ _ (slots .before .subproblems .ensures) (slots .slots .ensures) (pre .agenda-words) in
     omega (arith, put .ensures .1, put .kept .1 .0, room)
 
 same-length : tie.Need-same-length
-same-length c = c .before .before .before .before .before .before .before .before .before .before .before .before .before .before .before .before .put-words .kept .1 .0
+same-length c =
+    c .before .before .before .before .before .before .before .before .before .before .before .before .before .before .before .before .put-words .kept
+    .1 .0
 
 same-length-2 : tie.Need-same-length-2
 same-length-2 c = c .before .before .before .before .before .before .before .before .before .before .before .before .put-words2 .kept .1 .0

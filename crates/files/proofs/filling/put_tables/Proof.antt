@@ -56,7 +56,8 @@ loop-again c =
     let pre = b9 .before .before .before .before .pre in (
       omega arith,
       rows-more _ _ _ _ _ _ _ (pre .1 .1) (pre .0) (b9 .loop-test .taken) (b9 .before .loop .inv .1) _ (first .ensures .1) _ _ _ _
-          (first .ensures .0) (b4 .after .ensures .0) (b4 .after .ensures .1) (last .ensures .0) (last .ensures .1) (first .kept .1 .1 .1 .1 .0) (last .kept .1 .0),
+          (first .ensures .0) (b4 .after .ensures .0) (b4 .after .ensures .1) (last .ensures .0) (last .ensures .1) (first .kept .1 .1 .1 .1 .0)
+          (last .kept .1 .0),
     )
 
 same-length : tie.Need-same-length Inv-loop μ-loop

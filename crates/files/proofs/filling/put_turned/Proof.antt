@@ -34,7 +34,8 @@ returns : tie.Need-returns
 returns c =
     let put = c .before .before .put-at2 .ensures in
     let turned = c .before .before .before .before .before in
-    columns-put _ _ _ _ _ _ _ (turned .before .before .before .before .before .before .pre .0) (turned .before .before .put-at .ensures .0) (turned .turned .ensures)
+    columns-put _ _ _ _ _ _ _ (turned .before .before .before .before .before .before .pre .0) (turned .before .before .put-at .ensures .0)
+    (turned .turned .ensures)
     (put .0) (put .1)
 
 pub put-turned-spec : {M : Type 1} → statement M

@@ -34,7 +34,8 @@ returns-3 : tie.Need-returns-3
 returns-3 c =
     let second = c .before .before .before in
     let first = second .before .before in
-    good-check _ _ _ _ _ _ _ (word-here _ _ _ (first .word .ensures)) (second .before .if1 .left) (word-here _ _ _ (second .word2 .ensures)) (c .before .before .if2 .left)
+    good-check _ _ _ _ _ _ _ (word-here _ _ _ (first .word .ensures)) (second .before .if1 .left) (word-here _ _ _ (second .word2 .ensures))
+    (c .before .before .if2 .left)
     (word-here _ _ _ (c .before .word3 .ensures)) (c .check .ensures)
 
 pub is-good-spec : {M : Type 1} → statement M

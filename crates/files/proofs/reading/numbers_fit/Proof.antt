@@ -30,7 +30,8 @@ returns-5 : tie.Need-returns-5
 returns-5 c =
     let second = c .before .before .before in
     let first = second .before .before .before in
-    numbers-5 _ _ _ _ (first .n .ensures) (second .before .before .if1 .left) (second .before .if2 .left) (second .d .ensures) (c .before .before .if3 .left)
+    numbers-5 _ _ _ _ (first .n .ensures) (second .before .before .if1 .left) (second .before .if2 .left) (second .d .ensures)
+    (c .before .before .if3 .left)
     (c .before .if4 .left) (c .subproblems .ensures)
 
 pub numbers-fit-spec : {M : Type 1} → statement M

@@ -28,7 +28,8 @@ returns-2 c =
     let passed = n .before in
     let rules = sym (passed .before .refusal-of-rules .ensures) ∙ passed .if1 .left in
     let pre = passed .before .before .before .before .before .pre in
-    refused-3 _ _ _ _ _ _ _ (n .n .ensures) (c .before .before .d .ensures) refl _ (pre .read .whole) rules (c .before .sizes-refusal .ensures) (c .if2 .taken)
+    refused-3 _ _ _ _ _ _ _ (n .n .ensures) (c .before .before .d .ensures) refl _ (pre .read .whole) rules (c .before .sizes-refusal .ensures)
+    (c .if2 .taken)
 
 add-if3 : tie.Need-add-if3
 add-if3 c =
@@ -47,7 +48,8 @@ returns-3 c =
     let passed = n .before in
     let rules = sym (passed .before .refusal-of-rules .ensures) ∙ passed .if1 .left in
     let pre = passed .before .before .before .before .before .pre in
-    slots-last _ _ _ _ _ _ _ (n .n .ensures) (c .before .before .before .before .d .ensures) (c .before .subproblems .ensures) _ _ (pre .read .whole) rules
+    slots-last _ _ _ _ _ _ _ (n .n .ensures) (c .before .before .before .before .d .ensures) (c .before .subproblems .ensures) _ _ (pre .read .whole)
+    rules
     (c .before .before .before .sizes-refusal .ensures) (c .before .before .if2 .left) (twelve _ _ _ (c .if3 .taken))
 
 returns-4 : tie.Need-returns-4
@@ -56,7 +58,8 @@ returns-4 c =
     let passed = n .before in
     let rules = sym (passed .before .refusal-of-rules .ensures) ∙ passed .if1 .left in
     let pre = passed .before .before .before .before .before .pre in
-    slots-last _ _ _ _ _ _ _ (n .n .ensures) (c .before .before .before .before .d .ensures) (c .before .subproblems .ensures) _ _ (pre .read .whole) rules
+    slots-last _ _ _ _ _ _ _ (n .n .ensures) (c .before .before .before .before .d .ensures) (c .before .subproblems .ensures) _ _ (pre .read .whole)
+    rules
     (c .before .before .before .sizes-refusal .ensures) (c .before .before .if2 .left) (none-left _ _ _ (c .if3 .left))
 
 pub refusal-spec : {M : Type 1} → statement M

@@ -21,7 +21,9 @@ all-good-requires : tie.Need-all-good-requires
 all-good-requires c κs = search needs
 
 returns-4 : tie.Need-returns-4
-returns-4 c = file-good (c .before .before .before .before .before .before .args .file .now) _ (c .before .before .before .before .if1 .left) (c .before .before .before .if2 .left) (c .before .before .if3 .left) (c .before .all-good .ensures) (c .if4 .taken)
+returns-4 c =
+    file-good (c .before .before .before .before .before .before .args .file .now) _ (c .before .before .before .before .if1 .left)
+    (c .before .before .before .if2 .left) (c .before .before .if3 .left) (c .before .all-good .ensures) (c .if4 .taken)
 
 returns-5 : tie.Need-returns-5
 returns-5 c = file-bad _ _ (c .before .all-good .ensures) (c .if4 .left)

@@ -21,7 +21,9 @@ subproblems-requires : tie.Need-subproblems-requires
 subproblems-requires c κs = search needs
 
 words-requires : tie.Need-words-requires
-words-requires c κs = numbers-found _ _ _ _ (c .before .before .n .ensures) (c .before .d .ensures) (c .subproblems .ensures) _ (c .before .before .before .before .numbers-fit .ensures) (c .before .before .before .if1 .left)
+words-requires c κs =
+    numbers-found _ _ _ _ (c .before .before .n .ensures) (c .before .d .ensures) (c .subproblems .ensures) _
+    (c .before .before .before .before .numbers-fit .ensures) (c .before .before .before .if1 .left)
 
 fills-requires : tie.Need-fills-requires
 fills-requires c κs = search needs
@@ -29,14 +31,16 @@ fills-requires c κs = search needs
 returns-2 : tie.Need-returns-2
 returns-2 c =
     let n = c .before .before .before .before .before in
-    let said = words-said _ _ _ _ (n .n .ensures) (c .before .before .before .before .d .ensures) (c .before .before .before .subproblems .ensures) _ (c .before .before .words .ensures .0) in
+    let said = words-said _ _ _ _ (n .n .ensures) (c .before .before .before .before .d .ensures) (c .before .before .before .subproblems .ensures) _
+    (c .before .before .words .ensures .0) in
     let sized = sized-blocks _ _ _ _ (n .before .before .numbers-fit .ensures) (n .before .if1 .left) said (c .before .fills .ensures) in
     sized-given _ _ sized (c .if2 .taken)
 
 returns-3 : tie.Need-returns-3
 returns-3 c =
     let n = c .before .before .before .before .before in
-    let said = words-said _ _ _ _ (n .n .ensures) (c .before .before .before .before .d .ensures) (c .before .before .before .subproblems .ensures) _ (c .before .before .words .ensures .0) in
+    let said = words-said _ _ _ _ (n .n .ensures) (c .before .before .before .before .d .ensures) (c .before .before .before .subproblems .ensures) _
+    (c .before .before .words .ensures .0) in
     let sized = sized-blocks _ _ _ _ (n .before .before .numbers-fit .ensures) (n .before .if1 .left) said (c .before .fills .ensures) in
     sized-not-given _ _ sized (c .if2 .left)
 

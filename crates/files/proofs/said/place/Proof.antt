@@ -24,17 +24,28 @@ add-result-3 c = search needs
 mul-result : tie.Need-mul-result
 mul-result c =
     let a = c .before .args in
-    omega (arith, place-within (a .n) (a .d) (a .i) (a .j) _ (c .before .pre .0) (c .before .pre .1 .0) (c .before .pre .1 .1) (c .pairs-before .ensures .0))
+    omega (
+      arith,
+      place-within (a .n) (a .d) (a .i) (a .j) _ (c .before .pre .0) (c .before .pre .1 .0) (c .before .pre .1 .1) (c .pairs-before .ensures .0),
+    )
 
 add-result-4 : tie.Need-add-result-4
 add-result-4 c =
     let a = c .before .args in
-    omega (arith, place-within (a .n) (a .d) (a .i) (a .j) _ (c .before .pre .0) (c .before .pre .1 .0) (c .before .pre .1 .1) (c .pairs-before .ensures .0))
+    omega (
+      arith,
+      place-within (a .n) (a .d) (a .i) (a .j) _ (c .before .pre .0) (c .before .pre .1 .0) (c .before .pre .1 .1) (c .pairs-before .ensures .0),
+    )
 
 returns : tie.Need-returns
 returns c =
-    let a = c .before .args in
-    (place-made _ _ _ _ _ (c .pairs-before .ensures .0), omega (arith, place-within (a .n) (a .d) (a .i) (a .j) _ (c .before .pre .0) (c .before .pre .1 .0) (c .before .pre .1 .1) (c .pairs-before .ensures .0)))
+    let a = c .before .args in (
+      place-made _ _ _ _ _ (c .pairs-before .ensures .0),
+      omega (
+        arith,
+        place-within (a .n) (a .d) (a .i) (a .j) _ (c .before .pre .0) (c .before .pre .1 .0) (c .before .pre .1 .1) (c .pairs-before .ensures .0),
+      ),
+    )
 
 pub place-spec : {M : Type 1} → statement M
 place-spec =

@@ -58,7 +58,9 @@ same-length : tie.Need-same-length Inv-loop μ-loop
 same-length c = search needs
 
 returns : tie.Need-returns Inv-loop μ-loop
-returns c = let end : c .before .loop .b ≡ c .before .before .before .before .args .blocks = omega arith in file-end _ _ _ _ _ (c .before .loop .inv .1 .1) end
+returns c =
+    let end : c .before .loop .b ≡ c .before .before .before .before .args .blocks = omega arith in
+    file-end _ _ _ _ _ (c .before .loop .inv .1 .1) end
 
 pub put-blocks-spec : {M : Type 1} → statement M
 put-blocks-spec =

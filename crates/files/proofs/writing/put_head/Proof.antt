@@ -34,8 +34,10 @@ loop-less c = search needs
 loop-again : tie.Need-loop-again Inv-loop μ-loop
 loop-again c =
     let long = c .before .before .before .before .before .before .before .before .before .pre .1 .1 .1 in
-    let word = head-word _ _ _ _ _ (c .before .before .before .before .before .loop-test .taken) (c .before .before .before .before .head-word .ensures) in
-    let next = block-more _ _ _ _ _ _ _ _ (c .before .before .before .before .before .before .loop .inv .1 .1) word (omega arith) long (c .before .before .put-word .ensures) in
+    let word = head-word _ _ _ _ _ (c .before .before .before .before .before .loop-test .taken)
+    (c .before .before .before .before .head-word .ensures) in
+    let next = block-more _ _ _ _ _ _ _ _ (c .before .before .before .before .before .before .loop .inv .1 .1) word (omega arith) long
+    (c .before .before .put-word .ensures) in
     (omega arith, (part-length _ _ _ _ _ _ next (omega arith) long, next))
 
 same-length : tie.Need-same-length Inv-loop μ-loop
