@@ -10,7 +10,7 @@ use native.Mathlib.Nat.{mul-assoc, mul-le-mul, mul-le-mul-right, zero-add, add-z
 use native.Mathlib.Numerals.{add-one}
 use native.Mathlib.Decide.{decLt}
 use lib.ListN.{length, getD, take, drop, set, replicate, length-set, length-append, length-drop, length-replicate, replicate-append-replicate, take-append-drop, List·getD-eq-default}
-use lib.Seq.{getD-take, getD-drop, drop-cons, append-snoc, set-at, take-at, take-all, drop-drop, drop-length, length-take-le}
+use lib.Seq.{getD-take, getD-drop, drop-cons, append-snoc, set-at, take-all, drop-drop, drop-length, length-take-le}
 use borrow.Rule.Slice.PartMut.{putMid}
 use Rattle.splits.specs.Problem.{total}
 use Rattle.splits.specs.Splits.{below}
