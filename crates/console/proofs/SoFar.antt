@@ -9,8 +9,8 @@ use native.Mathlib.Nat.{zero-add, add-mul, add-assoc, mul-le-mul-right, div-le-s
 use native.Mathlib.Decide.{decLt}
 use lib.ListN.{length, getD, take, drop, length-drop, take-append-drop}
 use lib.Seq.{length-take-le, take-add, take-length}
-use lib.Dec.{eqb, leb}
-use borrow.Author.Tests.{not-true, not-false, eqb-true, eq-eqb, leb-true, leb-false}
+use lib.Dec.{eqb}
+use borrow.Author.Tests.{not-true, not-false, eqb-true, eq-eqb}
 use Rattle.splits.proofs.Tests.{and-left, and-right, true-false}
 use Rattle.search.specs.FirstChecks.{WholeRequests}
 use Rattle.search.specs.Verdicts.{numberOf}
@@ -24,9 +24,9 @@ use Rattle.search.specs.declared.state.Ran.{Ran}
 use Rattle.search.specs.declared.state.Verdict.the-variants.{Running}
 use Rattle.files.proofs.Requests.{cut-length, whole-append}
 use Rattle.console.specs.Bytes.{Whole, wordsOf}
-use Rattle.console.specs.Work.Parts.{goesOn, joined, WholeAt, Listed, Part, Narrow}
+use Rattle.console.specs.Work.Parts.{goesOn, WholeAt, Listed, Part, Narrow}
 use Rattle.console.proofs.Words.{words-length, words-append}
-use Rattle.console.proofs.Runs.{run-joined, run-ended, took-all, run-narrow, run-stepped}
+use Rattle.console.proofs.Runs.{joined, run-joined, run-ended, took-all, run-narrow, run-stepped}
 
 -- ---- whole requests in bytes
 
