@@ -35,7 +35,7 @@ use Rattle.search.proofs.Promises.{steps-count}
 use Rattle.files.proofs.Stacks.{slots-in}
 use Rattle.files.proofs.Requests.{whole-append, requests-append}
 use Rattle.files.proofs.LoadOutcomes.{given, not-given}
-use Rattle.console.specs.Work.Parts.{joined, Narrow}
+use Rattle.console.specs.Work.Parts.{Narrow}
 
 -- ---- of a stack
 
@@ -110,6 +110,10 @@ module _ (p : Problem) (room : ℕ) where
       ⊎-elim (λ f. absurd (f .verdict (ap numberOf v))) (λ k. ⊎-elim (λ f. absurd (f .refused e)) (λ f. f .taken) k) (stops p room rs s .1)
 
 -- ---- in lent words
+
+-- The end of a part, with what the parts before it took.
+abbrev pub joined : ℕ → Ran → Ran
+joined taken r = record { verdict = r .verdict; refusal = r .refusal; taken = taken + r .taken; state = r .state }
 
 -- What stands under the top slots.
 drop-stack : (n : ℕ) (agenda : List ℕ) (t m : ℕ) → drop t (stackOf n agenda m) ≡ stackOf n agenda (m - t)

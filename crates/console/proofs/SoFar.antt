@@ -24,9 +24,9 @@ use Rattle.search.specs.declared.state.Ran.{Ran}
 use Rattle.search.specs.declared.state.Verdict.the-variants.{Running}
 use Rattle.files.proofs.Requests.{cut-length, whole-append}
 use Rattle.console.specs.Bytes.{Whole, wordsOf}
-use Rattle.console.specs.Work.Parts.{goesOn, joined, WholeAt, Listed, Part, Narrow}
+use Rattle.console.specs.Work.Parts.{goesOn, WholeAt, Listed, Part, Narrow}
 use Rattle.console.proofs.Words.{words-length, words-append}
-use Rattle.console.proofs.Runs.{run-joined, run-ended, took-all, run-narrow, run-stepped}
+use Rattle.console.proofs.Runs.{joined, run-joined, run-ended, took-all, run-narrow, run-stepped}
 
 -- ---- whole requests in bytes
 

@@ -195,10 +195,11 @@ fn reach(n: usize, subproblems: usize, requests: usize, agenda: usize) -> usize
         return agenda;
     }
     let slots = subproblems + (n + 1) * (requests / (2 * (n + 3))) + 1;
-    if agenda <= slots * slot {
+    let reached = slots * slot;
+    if agenda <= reached {
         return agenda;
     }
-    slots * slot
+    reached
 }
 
 // The same if all bytes after them are 0, else all: as much of an agenda as tells how a run ends.

@@ -4,7 +4,7 @@ use crate::numbers;
 use search::state::Ran;
 use search::state::State;
 ghost use mathlib.Core.Path.{_≡_};
-ghost use Prim.Native.Nat.{_+_, _*_, _%_, _≤_, _<_};
+ghost use Prim.Native.Nat.{_%_, _≤_, _<_};
 ghost use lib.ListN.{length};
 ghost use Rattle.search.specs.Calls.{Runs};
 ghost use Rattle.console.specs.Bytes.{wordsOf};

@@ -15,10 +15,6 @@ use Rattle.console.specs.Bytes.{wordsOf, bytesOf}
 unfoldable pub goesOn : Ran → Bool
 goesOn r = eqb (r .refusal) 0 && eqb (numberOf (r .verdict)) 1
 
--- The end of a part, with what the parts before it took.
-abbrev pub joined : ℕ → Ran → Ran
-joined taken r = record { verdict = r .verdict; refusal = r .refusal; taken = taken + r .taken; state = r .state }
-
 -- So many bytes are whole requests of n variables, two bytes a word.
 abbrev pub WholeAt : ℕ → ℕ → Type 0
 WholeAt n bytes = (k : ℕ) × (bytes ≡ k * (2 * (n + 3)))

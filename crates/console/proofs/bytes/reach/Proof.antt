@@ -44,26 +44,16 @@ mul-slots-2 : tie.Need-mul-slots-2
 mul-slots-2 c = omega (arith, reach-few _ _ _ (c .before .before .before .pre .0) (c .before .before .before .pre .1) (c .if3 .left))
 
 add-slots-3 : tie.Need-add-slots-3
-add-slots-3 c =
-    omega
-    (arith, reach-few _ _ _ (c .before .before .before .pre .0) (c .before .before .before .pre .1) (c .if3 .left), c .before .before .before .pre .1)
+add-slots-3 c = omega (arith, reach-few _ _ _ (c .before .before .before .pre .0) (c .before .before .before .pre .1) (c .if3 .left), c .before .before .before .pre .1)
 
 add-slots-4 : tie.Need-add-slots-4
-add-slots-4 c =
-    omega
-    (arith, reach-few _ _ _ (c .before .before .before .pre .0) (c .before .before .before .pre .1) (c .if3 .left), c .before .before .before .pre .1)
+add-slots-4 c = omega (arith, reach-few _ _ _ (c .before .before .before .pre .0) (c .before .before .before .pre .1) (c .if3 .left), c .before .before .before .pre .1)
 
-mul-if4 : tie.Need-mul-if4
-mul-if4 c = let pre = c .before .before .before .pre in let few = reach-bytes _ _ _ (pre .0) (pre .1) (c .if3 .left) in omega (arith, few)
+mul-reached : tie.Need-mul-reached
+mul-reached c = let pre = c .before .before .before .pre in let few = reach-bytes _ _ _ (pre .0) (pre .1) (c .if3 .left) in omega (arith, few)
 
 returns-4 : tie.Need-returns-4
 returns-4 c = reach-all _ _ _ _
-
-mul-result : tie.Need-mul-result
-mul-result c =
-    let pre = c .before .before .before .before .pre in
-    let few = reach-bytes _ _ _ (pre .0) (pre .1) (c .before .if3 .left) in
-    omega (arith, few)
 
 returns-5 : tie.Need-returns-5
 returns-5 c = reach-shorter _ _ _ _ _ (c .before .before .before .if1 .left) (c .before .before .if2 .left) refl (c .if4 .left)
@@ -86,7 +76,6 @@ reach-spec =
     mul-slots-2
     add-slots-3
     add-slots-4
-    mul-if4
+    mul-reached
     returns-4
-    mul-result
     returns-5)
