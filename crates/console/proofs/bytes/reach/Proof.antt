@@ -44,10 +44,14 @@ mul-slots-2 : tie.Need-mul-slots-2
 mul-slots-2 c = omega (arith, reach-few _ _ _ (c .before .before .before .pre .0) (c .before .before .before .pre .1) (c .if3 .left))
 
 add-slots-3 : tie.Need-add-slots-3
-add-slots-3 c = omega (arith, reach-few _ _ _ (c .before .before .before .pre .0) (c .before .before .before .pre .1) (c .if3 .left), c .before .before .before .pre .1)
+add-slots-3 c =
+    omega
+    (arith, reach-few _ _ _ (c .before .before .before .pre .0) (c .before .before .before .pre .1) (c .if3 .left), c .before .before .before .pre .1)
 
 add-slots-4 : tie.Need-add-slots-4
-add-slots-4 c = omega (arith, reach-few _ _ _ (c .before .before .before .pre .0) (c .before .before .before .pre .1) (c .if3 .left), c .before .before .before .pre .1)
+add-slots-4 c =
+    omega
+    (arith, reach-few _ _ _ (c .before .before .before .pre .0) (c .before .before .before .pre .1) (c .if3 .left), c .before .before .before .pre .1)
 
 mul-reached : tie.Need-mul-reached
 mul-reached c = let pre = c .before .before .before .pre in let few = reach-bytes _ _ _ (pre .0) (pre .1) (c .if3 .left) in omega (arith, few)
