@@ -156,9 +156,7 @@ lived {n} {d} {domains} {opened-tables} (chose {tables} {before} {after} {s} {r}
     (chooser-leaves n d domains tables before after limit s r (life .handed) chooses)
     (Reached.chose (life .reached) limit)
 lived {n} {d} {domains} {opened-tables}
-    (loaded {tables} {agenda} {before} {after} {domains₀} {domains′} {tables₀} {tables′} {agenda₀} {agenda′} {s} {saved} {r} h saves none loads
-    accepted)
-    =
+    (loaded {tables} {agenda} {before} {after} {domains₀} {domains′} {tables₀} {tables′} {agenda₀} {agenda′} {s} {saved} {r} h saves none loads accepted) =
     loaded-on n d domains opened-tables tables agenda s (lived h) before after saved saves none domains₀ domains′ tables₀ tables′ agenda₀ agenda′ r
     loads accepted
 lived {n} {d} {domains} {opened-tables} (moved {tables} {agenda} {s} h words slots takes) =
