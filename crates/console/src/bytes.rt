@@ -91,7 +91,7 @@ pub(crate) fn room_for(domains: usize, tables: usize, agenda: usize) -> bool
     none_empty(domains, tables, agenda)
 }
 
-// Whether so many bytes of an agenda and of requests are few: 256 slots and 16 requests of 32 variables.
+// Whether so many bytes of an agenda and of requests are few: at most 256 slots and 16 requests of 32 variables.
 pub(crate) fn few(agenda: usize, requests: usize) -> bool
     ensures { λ r. ⌜ r ≡ few agenda requests ⌝ }
 {

@@ -61,7 +61,7 @@ fn put_before(words: &[u16], n: usize, d: usize, i: usize, masks: &mut [u16], at
     end
 }
 
-// Its masks with those after it, which stand together.
+// The masks of `i` with the variables after it, which stand together.
 fn after(words: &[u16], n: usize, d: usize, i: usize) -> &[u16]
     requires { ⌜ Numbers n d × ((i < n) × (length (now words) ≡ 25553)) ⌝ }
     ensures { λ r. ⌜ (now r ≡ partIn (now (words .entry)) (9 + n + total i (λ h. n - suc h) * d) ((n - (i + 1)) * d)) × (length (now r) ≡ (n - (i + 1)) * d) ⌝ }

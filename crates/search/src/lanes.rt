@@ -1,5 +1,5 @@
 // Loops over all 32 masks of a subproblem; those of a step have a fixed number of turns and no way out, so that the machine takes eight masks at once.
-// A lane is the place of one variable among 32; `lanes` have all bits or none in each.
+// A lane is the place of one mask, of one variable among 32 but in `sides`; `lanes` have all bits or none in each.
 ghost use mathlib.Core.Path.{_≡_};
 ghost use mathlib.Core.Bool.{cond};
 ghost use Prim.Native.Nat.{_+_, _*_, _<_, _≤_, min};

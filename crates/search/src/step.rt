@@ -76,7 +76,7 @@ fn piece_count(top: Subproblem, n: usize, d: usize, tables: &[u16], request: &[u
     count
 }
 
-// Whether they exceed the free slots. They are counted only where the candidates of the kind do.
+// Whether the pieces of a request exceed the free slots. They are counted only where the candidates of the kind do.
 fn exceed(top: Subproblem, n: usize, d: usize, tables: &[u16], request: &[u16], free: usize) -> bool
     requires { ⌜ readable n d (now tables) (now request) ≡ true ⌝ }
     ensures { λ r. ⌜ r ≡ ltb free (length (pieces n (tableOf n d (now (tables .entry))) top (now (request .entry)))) ⌝ }

@@ -4,7 +4,7 @@ use mathlib.Core.Logic.{_⊎_, _↔_}
 use mathlib.Core.List.{List, [], _∷_, map, List·Memᴰ}
 use Prim.Native.Nat.{ℕ, _+_, _-_, _/_, _^_, _≤_, _<_}
 use lib.ListN.{length, getD}
-use Rattle.splits.specs.Masks.{_∈_, Part, single, size, lowest, smallerHalf, LowestIn}
+use Rattle.splits.specs.Masks.{_∈_, Part, single, size, lowest, smallerHalf, LowestIn, allValues}
 use Rattle.splits.specs.Problem.{Table, Allow-same, Problem, Proper, Possibility, tableOf}
 use Rattle.splits.specs.Subproblems.{domain, Instantiated, Rules, SolutionOf, sizeOf}
 use Rattle.splits.specs.Requests.{kindOf, variableOf, valueOf, targetOf}
@@ -104,7 +104,7 @@ Solved = (p : Problem) (P : Subproblem) → Proper p → Rules p P → ((i : ℕ
 -- Where every mask has all d bits set, all values are allowed.
 abbrev pub No-constraint : Type 0
 No-constraint =
-    (p : Problem) (i j : ℕ) → ((a : ℕ) → a < p .d → p .allowed i j a ≡ 2 ^ p .d - 1)
+    (p : Problem) (i j : ℕ) → ((a : ℕ) → a < p .d → p .allowed i j a ≡ allValues (p .d))
     → (a b : ℕ) → a < p .d → b < p .d → b ∈ p .allowed i j a
 
 -- The lowest value of a mask that is not empty is a member, and no member is below it.

@@ -25,7 +25,8 @@ pub record Listed (n bytes : ℕ) : Type 0 where
   pub requests : ℕ
   pub whole : bytes ≡ requests * (2 * (n + 3))
 
--- A part of a list, from `at` to `end`: whole requests, 200 at most, and some unless the list ends there.
+-- A part of a list, from `at` to `end`: whole requests, 14,000 bytes at most (200 of 32 variables), and some unless the
+-- list ends there.
 pub record Part (n at bytes end : ℕ) : Type 0 where
   pub after : at ≤ end
   pub within : end ≤ bytes

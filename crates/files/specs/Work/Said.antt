@@ -109,7 +109,7 @@ unfoldable pub slotsPart : List ℕ → ℕ → ℕ → ℕ → ℕ → List ℕ
 slotsPart words n d subproblems all =
     partIn words (agendaFrom n d) (subproblems * (n + 2)) ++ replicate (all - subproblems * (n + 2)) 0
 
--- A file that passed 14 and whose numbers fit, and the words of its content.
+-- A file that passed 14, whose numbers and number of words fit, and the words of its content.
 pub record Read (file words : List ℕ) : Type 0 where
   pub whole : refusalOfFile file ≡ 0
   pub sized : sizedIn file ≡ true
