@@ -17,7 +17,7 @@ use Rattle.search.specs.FirstChecks.{wholeSlots, refusalOfLengths}
 use Rattle.search.specs.Verdicts.{ascii, wordOf, verdictOf, finished}
 use Rattle.search.specs.Runs.{Search, splitTop, step, refusalOfTop, refusalOfRequest}
 use Rattle.search.specs.Chooser.{fewestOf, chosen, chooseFrom, choose}
-use Rattle.search.specs.Calls.{opening}
+use Rattle.search.specs.Calls.{opening, begun}
 use Rattle.search.proofs.Promises.{open-leaves}
 use Rattle.files.specs.Content.{each}
 use Rattle.files.specs.Reading.{saidN, saidD, saidAllowed, tableWords}
@@ -31,7 +31,7 @@ use Rattle.answer.specs.Promises.{printed-domains, printed-tables, Print
 
 -- The search that opening begins.
 abbrev fresh : Search
-fresh = record { stack = opening 2 printed-domains; steps = 0; checks = 0 }
+fresh = begun 2 printed-domains
 
 -- What the chooser makes of it, of any limit that is enough, and its text.
 run-text : (more : ℕ)

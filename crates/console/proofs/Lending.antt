@@ -23,7 +23,7 @@ use Rattle.files.proofs.Refusals.{save-none}
 use Rattle.files.proofs.Saving.{saved-few}
 use Rattle.console.specs.Bytes.{Whole, wordsOf, bytesOf}
 use Rattle.console.specs.Calls.{OpensWords, RunsWords, ChoosesWords, LoadsWords}
-use Rattle.console.specs.Work.Rooms.{Turned, WritesBack, Shorter, FrontOf}
+use Rattle.console.specs.Work.Rooms.{MadeWords, WritesBack, Shorter, FrontOf}
 use Rattle.console.specs.Work.Parts.{Listed, RunsAt, Narrow}
 use Rattle.console.proofs.Words.{words-length, bytes-length, word-at, words-small, words-append, bytes-append, bytes-again, middle-said}
 use Rattle.console.proofs.Runs.{choose-narrow, run-narrow, run-past, run-lower}
@@ -31,7 +31,7 @@ use Rattle.console.proofs.SoFar.{whole-words, requests-count}
 use Rattle.console.proofs.Reaching.{Zeros, runs-front}
 
 -- How many words are lent.
-pub count-is : {b words : List ℕ} {k most : ℕ} → Turned b k most words → k ≡ length (take k words)
+pub count-is : {b words : List ℕ} {k most : ℕ} → MadeWords b k most words → k ≡ length (take k words)
 count-is {words = words} {k = k} t = sym (length-take-le k words (t .room))
 
 -- Lists of one length that agree from k on.
@@ -42,7 +42,7 @@ drop-same k a b e h =
     (getD-drop k b i 0))
 
 -- A callee left y in the part that was lent to it.
-module _ {b words : List ℕ} {k most : ℕ} (y : List ℕ) (t : Turned b k most words) (kept : length y ≡ length (take k words)) where
+module _ {b words : List ℕ} {k most : ℕ} (y : List ℕ) (t : MadeWords b k most words) (kept : length y ≡ length (take k words)) where
   left-length : length y ≡ k
   left-length = kept ∙ sym (count-is t)
 
@@ -67,12 +67,12 @@ module _ {b words : List ℕ} {k most : ℕ} (y : List ℕ) (t : Turned b k most
   pub left-bytes : Whole b → length b ≡ 2 * length (take k (y ++ drop k words))
   left-bytes w = omega (arith, left-count, t .count)
 
-  -- Turned back.
+  -- MadeWords back.
   pub left-said : {after : List ℕ} → after ≡ bytesOf (take (length b / 2) (y ++ drop k words)) → after ≡ bytesOf y
   left-said s = s ∙ ap (λ (j : ℕ). bytesOf (take j (y ++ drop k words))) (sym (t .count)) ∙ ap bytesOf left-again
 
-module _ {n d i j k v m x : ℕ} {domains tables agenda ds ts xs after : List ℕ} (y : List ℕ) (e : Turned domains i v ds) (f : Turned tables j m ts)
-    (g : Turned agenda k x xs) (kept : length y ≡ length (take k xs)) (said : after ≡ bytesOf (take (length agenda / 2) (y ++ drop k xs))) where
+module _ {n d i j k v m x : ℕ} {domains tables agenda ds ts xs after : List ℕ} (y : List ℕ) (e : MadeWords domains i v ds) (f : MadeWords tables j m ts)
+    (g : MadeWords agenda k x xs) (kept : length y ≡ length (take k xs)) (said : after ≡ bytesOf (take (length agenda / 2) (y ++ drop k xs))) where
   pub opens-words : {r : Opened} → Opens n d (take i ds) (take j ts) (take k xs) y r → OpensWords n d domains tables agenda after r
   opens-words h = record { left = y; opens = rw (← (e .said), ← (f .said), ← (g .said)) h; said = left-said y g kept said }
 
@@ -81,7 +81,7 @@ module _ {n d i j k v m x : ℕ} {domains tables agenda ds ts xs after : List �
   chooses-words h = record { left = y; chooses = rw (← (e .said), ← (f .said), ← (g .said)) h; said = left-said y g kept said }
 
 -- A run that left y in the part of the words that was lent to it, of which what can have changed is written back.
-pub runs-at : {n d k most : ℕ} {domains tables agenda xs requests after : List ℕ} {s : State} {r : Ran} (y : List ℕ) → Turned agenda k most xs
+pub runs-at : {n d k most : ℕ} {domains tables agenda xs requests after : List ℕ} {s : State} {r : Ran} (y : List ℕ) → MadeWords agenda k most xs
     → Whole agenda
     → length y ≡ length (take k xs) → ((i : ℕ) → getD agenda i 0 < 256) → s .counts .steps .0 < 2 ^ 32 → Listed n (length requests)
     → Runs n d domains tables (take k xs) y (wordsOf requests) s r
@@ -106,8 +106,8 @@ runs-at {n} {d} {domains = domains} {tables = tables} {agenda = agenda} {request
 
 -- A run of a list that was turned into words whole: what it returns fits 32 bits.
 pub few-runs : (n d : ℕ) {j k l most : ℕ} (domains tables : List ℕ) {agenda xs requests words : List ℕ} (y : List ℕ) (s : State) (r : Ran)
-    → Turned agenda k most xs
-    → Turned requests j l words → ((i : ℕ) → getD agenda i 0 < 256) → s .counts .steps .0 < 2 ^ 32 → s .subproblems < 4294967296
+    → MadeWords agenda k most xs
+    → MadeWords requests j l words → ((i : ℕ) → getD agenda i 0 < 256) → s .counts .steps .0 < 2 ^ 32 → s .subproblems < 4294967296
     → Listed n (length requests) → Runs n d domains tables (take k xs) y (take j words) s r
     → Runs n d domains tables (take k xs) y (wordsOf requests) s r × Narrow r
 few-runs n d {k = k} domains tables {agenda} {xs} {requests} y s r t e small stepped few listed h =
@@ -117,8 +117,8 @@ few-runs n d {k = k} domains tables {agenda} {xs} {requests} y s r t e small ste
     (list, run-narrow n d domains tables (wordsOf agenda) s (words-small agenda small) (omega arith) y (wordsOf requests) r whole few runs)
 
 -- A run at the words that the bytes of the problem say.
-pub runs-words : {n d i j v m : ℕ} {domains tables agenda ds ts requests after : List ℕ} {s : State} {r : Ran} → Turned domains i v ds
-    → Turned tables j m ts
+pub runs-words : {n d i j v m : ℕ} {domains tables agenda ds ts requests after : List ℕ} {s : State} {r : Ran} → MadeWords domains i v ds
+    → MadeWords tables j m ts
     → RunsAt n d (take i ds) (take j ts) agenda after requests s r × Narrow r
     → RunsWords n d domains tables agenda after requests s r × Narrow r
 runs-words e f (h, narrow) = (record { left = h .left; runs = rw (← (e .said), ← (f .said)) (h .runs); said = h .said }, narrow)
@@ -173,7 +173,7 @@ front-runs {n} {d} {domains} {tables} {agenda} {requests} {front} {f} {s} {r} fr
 
 -- The callee left x, y and z, which are turned back.
 pub loads-words : {file domains tables agenda ds ts xs domains′ tables′ agenda′ : List ℕ} {r : Loaded} {h i j l m o : ℕ} (x y z : List ℕ)
-    → Turned domains h l ds → Turned tables i m ts → Turned agenda j o xs
+    → MadeWords domains h l ds → MadeWords tables i m ts → MadeWords agenda j o xs
     → length x ≡ length (take h ds) → length y ≡ length (take i ts) → length z ≡ length (take j xs)
     → Loads file (take h ds) x (take i ts) y (take j xs) z r
     → domains′ ≡ bytesOf (take (length domains / 2) (x ++ drop h ds))
@@ -214,8 +214,8 @@ save-fits n d domains tables bytes s before after r small h = elim (ℕ-discrete
 
 -- Save at the words that the bytes say.
 pub saves-words : (n d : ℕ) {i j k v m x : ℕ} {domains tables agenda ds ts xs : List ℕ} (s : State) (before after : List ℕ) (r : Saved)
-    → Turned domains i v ds
-    → Turned tables j m ts → Turned agenda k x xs → ((i : ℕ) → getD agenda i 0 < 256) → Saves n d (take i ds) (take j ts) (take k xs) s before after r
+    → MadeWords domains i v ds
+    → MadeWords tables j m ts → MadeWords agenda k x xs → ((i : ℕ) → getD agenda i 0 < 256) → Saves n d (take i ds) (take j ts) (take k xs) s before after r
     → Saves n d (wordsOf domains) (wordsOf tables) (wordsOf agenda) s before after r × (r .blocks < 4294967296)
 saves-words n d {domains = domains} {tables = tables} {agenda = agenda} s before after r e f g small h =
     let saves : Saves n d (wordsOf domains) (wordsOf tables) (wordsOf agenda) s before after r = rw (← (e .said), ← (f .said), ← (g .said)) h in

@@ -37,7 +37,7 @@ room-whole : (domains tables agenda : List ℕ) → Room domains tables agenda �
 room-whole domains tables agenda h = record { of-domains = h .of-domains .even; of-tables = h .of-tables .even; of-agenda = h .of-agenda .even }
 
 module _ (domains tables agenda : List ℕ) (b : Bool) (is : b ≡ roomFor (length domains) (length tables) (length agenda)) where
-  -- Turned into words, it is whole.
+  -- MadeWords into words, it is whole.
   pub whole-then : b ≡ true → WholeProblem domains tables agenda
   whole-then y = room-whole domains tables agenda (room-true domains tables agenda b is y)
 

@@ -29,7 +29,7 @@ use Rattle.search.specs.declared.state.State.{State}
 use Rattle.files.proofs.Accepted.{Accepts, words-accept}
 use Rattle.console.specs.Bytes.{Whole, wordsOf, bytesOf}
 use Rattle.console.specs.Calls.{WholeProblem, unwhole, unwholeFile}
-use Rattle.console.specs.Work.Rooms.{fits, roomFor, few, wholeList, Fits, Short, Room, Turned, Front, WritesBack, Shorter, Reach, FrontOf}
+use Rattle.console.specs.Work.Rooms.{fits, roomFor, few, wholeList, Fits, Short, Room, MadeWords, Front, WritesBack, Shorter, Reach, FrontOf}
 use Rattle.console.proofs.Words.{words-length, none-said}
 use Rattle.console.proofs.Reaching.{zeros-each}
 
@@ -57,7 +57,7 @@ unfolding fits
 fits-few bytes most b is y = leb-true bytes (2 * most) (and-right (eqb (bytes % 2) 0) (leb bytes (2 * most)) (sym is ∙ y))
 
 -- No bytes are no words.
-pub none-turned : (b words : List ℕ) → length b ≡ 0 → Turned b 0 (length words) words
+pub none-turned : (b words : List ℕ) → length b ≡ 0 → MadeWords b 0 (length words) words
 none-turned b words e = record { count = omega arith; long = refl; room = omega arith; said = none-said b e }
 
 -- The product of three that are not 0 is not 0, and of no others.

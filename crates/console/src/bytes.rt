@@ -5,7 +5,7 @@ ghost use lib.ListN.{length, take};
 ghost use lib.Dec.{ltb};
 ghost use Rattle.search.specs.FirstChecks.{zerosFrom};
 ghost use Rattle.console.specs.Bytes.{bytesOf};
-ghost use Rattle.console.specs.Work.Rooms.{fits, roomFor, few, wholeList, Fits, Turned, Front, WritesBack, Reach, FrontOf};
+ghost use Rattle.console.specs.Work.Rooms.{fits, roomFor, few, wholeList, Fits, MadeWords, Front, WritesBack, Reach, FrontOf};
 
 // The word of two bytes.
 fn word(low: u8, high: u8) -> u16
@@ -17,7 +17,7 @@ fn word(low: u8, high: u8) -> u16
 // The words that the bytes say, at the front of `words`, and how many: one at least, so that no test stands before the first turn (see `none_empty`).
 pub(crate) fn words_of(bytes: &[u8], words: &mut [u16]) -> usize
     requires { ⌜ Fits (length (now bytes)) (length (now words)) ⌝ }
-    ensures { λ r. ⌜ Turned (now (bytes .entry)) r (length (now (words .entry))) (now (words .exit)) ⌝ }
+    ensures { λ r. ⌜ MadeWords (now (bytes .entry)) r (length (now (words .entry))) (now (words .exit)) ⌝ }
 {
     let count = bytes.len() / 2;
     let mut i = 0;
@@ -33,7 +33,7 @@ pub(crate) fn words_of(bytes: &[u8], words: &mut [u16]) -> usize
 // The same of bytes that may be none.
 pub(crate) fn any_words_of(bytes: &[u8], words: &mut [u16]) -> usize
     requires { ⌜ (length (now bytes) % 2 ≡ 0) × (length (now bytes) ≤ 2 * length (now words)) ⌝ }
-    ensures { λ r. ⌜ Turned (now (bytes .entry)) r (length (now (words .entry))) (now (words .exit)) ⌝ }
+    ensures { λ r. ⌜ MadeWords (now (bytes .entry)) r (length (now (words .entry))) (now (words .exit)) ⌝ }
 {
     if bytes.len() == 0 {
         return 0;

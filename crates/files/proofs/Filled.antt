@@ -6,7 +6,7 @@ use mir.Syntax.{w64}
 use mir.Val.{Fits}
 use Prim.Native.Nat.{ℕ, suc, _+_, _-_, _*_, _/_, _%_, _≤_, _<_}
 use native.Mathlib.Omega.{arith}
-use native.Mathlib.Nat.{mul-assoc, mul-le-mul, mul-le-mul-right, zero-add, add-zero, add-mul}
+use native.Mathlib.Nat.{mul-assoc, mul-le-mul, mul-le-mul-right, zero-add, add-mul}
 use native.Mathlib.Numerals.{add-one}
 use native.Mathlib.Decide.{decLt}
 use lib.ListN.{length, getD, take, drop, set, replicate, length-set, length-append, length-drop, length-replicate, replicate-append-replicate, take-append-drop, List·getD-eq-default}
@@ -15,7 +15,7 @@ use borrow.Rule.Slice.PartMut.{putMid}
 use Rattle.splits.specs.Problem.{total}
 use Rattle.splits.specs.Splits.{below}
 use Rattle.search.specs.Parts.{splice}
-use Rattle.search.proofs.Copies.{zeros-at, drop-zeros, put-part, splice-between, splice-splice}
+use Rattle.search.proofs.Copies.{zeros-at, drop-zeros, put-part, splice-between, splice-splice, splice-none}
 use Rattle.files.specs.Blocks.{wordAt}
 use Rattle.files.specs.Content.{each}
 use Rattle.files.specs.Reading.{blockWord, contentWord, contentFrom, trianglePlace}
@@ -65,11 +65,6 @@ pub front-of-zeros : (p : List ℕ) (k : ℕ) → splice (zeros k) 0 p ≡ p ++ 
 unfolding splice zeros
 front-of-zeros p k = ap (λ (x : List ℕ). p ++ x) (ap (λ (j : ℕ). drop j (replicate k 0)) (zero-add (length p)) ∙ drop-zeros k (length p))
 
--- No word is written.
-pub splice-none : (l : List ℕ) (a : ℕ) → splice l a [] ≡ l
-unfolding splice
-splice-none l a = ap (λ (j : ℕ). take a l ++ drop j l) (add-zero a) ∙ take-append-drop a l
-
 -- All words are written anew.
 splice-all : (l p : List ℕ) → length p ≡ length l → splice l 0 p ≡ p
 unfolding splice
@@ -102,7 +97,7 @@ pub record Zeroed (l : List ℕ) (at : ℕ) (m : List ℕ) (i : ℕ) : Type 0 wh
 pub zeroed-none : (l : List ℕ) (at : ℕ) → at ≤ length l → Zeroed l at l at
 zeroed-none l at h =
     let none : at - at ≡ 0 = omega arith in
-    record { passed = (omega arith, h); kept = refl; made = rw none (sym (splice-none l at)) }
+    record { passed = (omega arith, h); kept = refl; made = rw none (splice-none l at) }
 
 -- One more.
 pub zeroed-more : (l : List ℕ) (at : ℕ) (m : List ℕ) (i : ℕ) → Zeroed l at m i → i < length m → Zeroed l at (set m i 0) (i + 1)
@@ -145,7 +140,7 @@ module _ (f : ℕ → List ℕ) (l : List ℕ) (at : ℕ) where
   -- None is written yet.
   pub passed-none : Passed f l at l 0 at
   unfolding each below
-  passed-none = record { ends = omega arith; kept = refl; made = sym (splice-none l at) }
+  passed-none = record { ends = omega arith; kept = refl; made = splice-none l at }
 
   -- One part more.
   pub passed-more : (m m′ ys : List ℕ) (i end end′ : ℕ) → Passed f l at m i end → end ≤ length l → ys ≡ f i → m′ ≡ splice m end ys
@@ -250,7 +245,7 @@ pub record Blocks (file l m : List ℕ) (b : ℕ) : Type 0 where
 -- None is read yet.
 pub blocks-none : (file l : List ℕ) → l ≡ zeros 25553 → Blocks file l l 0
 unfolding contentFrom below
-blocks-none file l z = record { passed = omega arith; long = zeros-long l 25553 z; made = sym (splice-none l 0) }
+blocks-none file l z = record { passed = omega arith; long = zeros-long l 25553 z; made = splice-none l 0 }
 
 -- One block more.
 pub blocks-more : (file l m m′ : List ℕ) (b : ℕ) → l ≡ zeros 25553 → Blocks file l m b → b < length file / 512 → length file / 512 ≤ 101

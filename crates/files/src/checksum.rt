@@ -1,13 +1,13 @@
 // The check of a block: the ones' complement checksum of RFC 1071 over the 255 words before it.
 use crate::block;
 ghost use mathlib.Core.Path.{_≡_};
-ghost use Prim.Native.Nat.{_+_, _/_, _%_, _<_};
+ghost use Prim.Native.Nat.{_+_, _-_, _/_, _%_, _<_};
 ghost use lib.ListN.{length};
 ghost use Rattle.splits.specs.Problem.{total};
 ghost use Rattle.files.specs.Blocks.{checkOf};
 ghost use Rattle.files.specs.Reading.{blockWord, headOf};
 ghost use Rattle.files.specs.Calls.{Check-of};
-ghost use Rattle.files.specs.Work.Said.{valueAt};
+ghost use Rattle.files.specs.Work.Said.{valueAt, foldedTwice};
 
 // The sum of the words of a block before its check.
 fn sum(words: &[u16]) -> u32
@@ -30,14 +30,20 @@ fn folded(sum: u32) -> u32
     sum % 65536 + sum / 65536
 }
 
+// The check of words of such a sum: the carries added in, and those of that, and the complement.
+fn closed(sum: u32) -> u16
+    ensures { λ r. ⌜ r ≡ 65535 - foldedTwice sum ⌝ }
+{
+    65535 - (folded(folded(sum)) as u16)
+}
+
 // The check that a block is to have.
 pub(crate) fn check(block: &[u8]) -> u16
     requires { ⌜ length (now block) ≡ 512 ⌝ }
     ensures { λ r. ⌜ r ≡ checkOf (headOf (now (block .entry)) 0) ⌝ }
 {
     let words = block::words_of(block);
-    let sum = folded(folded(sum(&words[..256])));
-    65535 - (sum as u16)
+    closed(sum(&words[..256]))
 }
 
 // The sum of the first 255 words of bytes; those past the end are 0, and add nothing.
@@ -57,6 +63,5 @@ fn sum_of(bytes: &[u8]) -> u32
 pub fn check_of(block: &[u8]) -> u16
     ensures { λ r. ⌜ Check-of (now (block .entry)) r ⌝ }
 {
-    let sum = folded(folded(sum_of(block)));
-    65535 - (sum as u16)
+    closed(sum_of(block))
 }

@@ -1,12 +1,12 @@
 -- Memory that a loop writes from the front, and memory of which a part is written anew.
 -- Assumes nothing.
 use mathlib.Core.Path.{_≡_, refl, sym, ap, _∙_}
-use mathlib.Core.List.{List, _++_, append-assoc, append-nil}
+use mathlib.Core.List.{List, [], _++_, append-assoc, append-nil}
 use Prim.Native.Nat.{ℕ, zero, suc, _+_, _-_, _*_, _≤_, _<_}
 use native.Mathlib.Omega.{arith}
 use native.Mathlib.Nat.{mul-le-mul-left, mul-le-mul-right}
 use native.Mathlib.Numerals.{add-one}
-use lib.ListN.{length, getD, take, drop, set, replicate, length-append, length-take, length-replicate}
+use lib.ListN.{length, getD, take, drop, set, replicate, length-append, length-take, length-replicate, take-append-drop}
 use lib.Seq.{length-take-le, take-suc, drop-cons, append-snoc, set-at, take-at, drop-at, drop-drop, drop-length}
 use borrow.Rule.Slice.PartMut.{putMid, midOf, post-is, mid-len}
 use borrow.Author.Fill.{fill-more}
@@ -43,6 +43,11 @@ pub zeros-more : (d m : List ℕ) (i : ℕ) → m ≡ replicate i 0 ++ drop i d 
 zeros-more d m i e h = rw e (fill-more i 0 d h)
 
 -- ---- a part written anew
+
+-- Nothing spliced in leaves the words as they are.
+pub splice-none : (l : List ℕ) (a : ℕ) → l ≡ splice l a []
+unfolding splice
+splice-none l a = let e : a + 0 ≡ a = omega arith in rw e (sym (take-append-drop a l))
 
 -- A part that lies between two others.
 pub splice-between : (p q r ws : List ℕ) (a : ℕ) → length p ≡ a → length ws ≡ length q → splice (p ++ (q ++ r)) a ws ≡ p ++ (ws ++ r)

@@ -6,7 +6,7 @@ use mathlib.Core.List.{List, [], _∷_, _++_, append-assoc, append-nil}
 use Prim.Native.Nat.{ℕ, _+_, _-_, _*_, _≤_, _<_}
 use native.Mathlib.Omega.{arith}
 use native.Mathlib.Nat.{le-antisymm, zero-mul, mul-le-mul-right}
-use lib.ListN.{length, replicate, length-append, length-replicate, take-append-drop}
+use lib.ListN.{length, replicate, length-append, length-replicate}
 use lib.Dec.{ltb}
 use borrow.Author.Tests.{le-leb, lt-ltb, le-ltb, not-true, not-false}
 use Rattle.splits.specs.Problem.{tableOf}
@@ -19,14 +19,9 @@ use Rattle.search.specs.Agenda.{slotWords, stackWords}
 use Rattle.search.specs.Parts.{splice}
 use Rattle.search.specs.Work.Slots.{SlotIn}
 use Rattle.search.specs.Work.Steps.{Placed, Replaced}
-use Rattle.search.proofs.Copies.{splice-splice, splice-cover, slot-below}
+use Rattle.search.proofs.Copies.{splice-none, splice-splice, splice-cover, slot-below}
 use Rattle.search.proofs.Encoding.{length-slot}
 use Rattle.search.proofs.Candidates.{firsts, firsts-le, firsts-drop, firsts-keep, pieces-are}
-
--- Nothing spliced in leaves the words as they are.
-pub splice-none : (l : List ℕ) (a : ℕ) → l ≡ splice l a []
-unfolding splice
-splice-none l a = let e : a + 0 ≡ a = omega arith in rw e (sym (take-append-drop a l))
 
 -- What is placed when the candidates from k on were seen.
 pub record Gathered (n d : ℕ) (t : List ℕ) (P : Subproblem) (r before : List ℕ) (from : ℕ) (agenda : List ℕ) (at k : ℕ) : Type 0 where

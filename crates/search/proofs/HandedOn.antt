@@ -23,7 +23,7 @@ use Rattle.search.specs.Agenda.{problemOf, holding, Shape, stackOf, slot
 use Rattle.search.specs.Runs.{Search, Stopped, step, refusalOfRequest, run, requestsIn}
 use Rattle.search.specs.Chooser.{choose}
 use Rattle.search.specs.FirstChecks.{openRefusal, WholeSlots, WholeRequests, refusalOfRequests}
-use Rattle.search.specs.Calls.{searchOf, opening, Opens, Ends, Runs, Chooses}
+use Rattle.search.specs.Calls.{searchOf, opening, Opens, Ends, Runs, Chooses, begun}
 use Rattle.search.specs.declared.state.Ran.{Ran}
 use Rattle.search.specs.declared.state.Opened.{Opened}
 use Rattle.search.specs.Promises.{Passes, Handed, Leaves, Verdict-says, Reached, picks}
@@ -323,13 +323,13 @@ opening-shaped n d domains few long small = go (some n (λ i. eqb (getD domains 
     go false P m = rw (List·Memᴰ·eq-of-singleton m) (holding-shape n d domains few long small)
 
 pub open-leaves-so : (n d : ℕ) (domains tables before after : List ℕ) (r : Opened) → Opens n d domains tables before after r → r .refusal ≡ 0
-    → Leaves n d domains tables before after (r .state) (record { stack = opening n domains; steps = 0; checks = 0 })
+    → Leaves n d domains tables before after (r .state) (begun n domains)
 open-leaves-so n d domains tables before after r opens none =
     let zero : openRefusal n d domains tables before ≡ 0 = sym (opens .refusal) ∙ none in
     let test : eqb (openRefusal n d domains tables before) 0 ≡ true = eq-eqb _ 0 zero in
     let passed = open-is-passed n d domains tables before .0 zero in
     let reached = reached-holds n d domains tables (passed .proper) (Reached.opened (some-slots n (length before) (passed .slots))) .passes in
-    leaves n d domains tables before after (r .state) (record { stack = opening n domains; steps = 0; checks = 0 }) passed reached
+    leaves n d domains tables before after (r .state) (begun n domains) passed reached
     (opening-shaped n d domains (passed .proper .variables) (passed .domains-words) (passed .proper .domains))
     (rw test at (opens .agenda)) (opens .steps) (opens .checks) (rw test at (opens .subproblems))
 

@@ -25,7 +25,7 @@ use Rattle.splits.proofs.Promises.{sound, cover, falls}
 use Rattle.search.specs.Agenda.{problemOf, holding}
 use Rattle.search.specs.Runs.{Search, step, refusalOfRequest, run}
 use Rattle.search.specs.Chooser.{choose}
-use Rattle.search.specs.Calls.{opening}
+use Rattle.search.specs.Calls.{opening, begun}
 use Rattle.search.specs.Promises.{Passes, Reached, opened, ran, chose, moved, Has-solution, picks}
 use Rattle.search.proofs.Copies.{zeros-at}
 use Rattle.search.proofs.Verdicts.{running-top}
@@ -171,7 +171,7 @@ module _ (n d : ℕ) (domains tables : List ℕ) where
           (f, record { possible = λ i k. rw (first-domain i k) at (t .possible i k); consistent = t .consistent })
 
   module _ (proper : Proper the) where
-    opening-holds : (room : ℕ) → 1 ≤ room → Holds the (whole-size * (n + 1) - 1) room (record { stack = opening n domains; steps = 0; checks = 0 })
+    opening-holds : (room : ℕ) → 1 ≤ room → Holds the (whole-size * (n + 1) - 1) room (begun n domains)
     unfolding opening first sum
     opening-holds room l = go (some n (λ i. eqb (getD domains i 0) 0)) refl
       where

@@ -36,7 +36,7 @@ use Rattle.search.specs.Work.Found.{Found, AtTop, Puts, requestBy, leftB
 use Rattle.search.specs.declared.state.State.{State}
 use Rattle.search.specs.declared.choice.Choice.{Choice}
 use Rattle.search.specs.declared.choice.Left.{Left}
-use Rattle.search.proofs.Copies.{splice-cover, slot-below}
+use Rattle.search.proofs.Copies.{splice-cover, slot-below, splice-none}
 use Rattle.search.proofs.Encoding.{length-slot}
 use Rattle.search.proofs.Accepting.{refused-at-11}
 use Rattle.search.proofs.Stepping.{in-slots, take-refused, take-steps, take-taken}
@@ -44,7 +44,6 @@ use Rattle.search.proofs.Picking.{accepted, fewest-is}
 use Rattle.search.proofs.AtOnce.{word, least-is, values-are}
 use Rattle.search.proofs.Lone.{lost-is, rest-full, two-none, two-rest, three-one}
 use Rattle.search.proofs.Running.{top-regular}
-use Rattle.search.proofs.Gathering.{splice-none}
 use Rattle.search.proofs.Choosing.{variable-below, value-below}
 
 -- ---- the tests

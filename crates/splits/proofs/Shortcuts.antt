@@ -1,13 +1,13 @@
 -- The small cases of the shortcuts: they are proper, and what their solutions are.
 -- Assumes nothing.
-use mathlib.Core.Path.{_≡_, refl, sym, ap, _∙_}
+use mathlib.Core.Path.{_≡_, refl, sym, _∙_}
 use mathlib.Core.Logic.{inl, inr}
 use mathlib.Core.Bool.{cond}
 use mathlib.Core.List.{List, [], _∷_}
-use Prim.Native.Nat.{ℕ, zero, suc, _-_, _/_, _^_, _≤_, _<_}
+use Prim.Native.Nat.{ℕ, zero, suc, _-_, _^_, _≤_, _<_}
 use native.Mathlib.Omega.{arith}
 use native.Mathlib.Nat.{le-refl}
-use lib.Pow.{pow-pos, ones-lt}
+use lib.Pow.{ones-lt}
 use native.Mathlib.Decide.{ℕ-discrete}
 use lib.ListN.{getD}
 use lib.Dec.{eqb}
@@ -19,21 +19,11 @@ use Rattle.splits.specs.Requests.{kindOf, variableOf, valueOf, targetOf}
 use Rattle.splits.specs.Promises.{Splits, Solvable}
 use Rattle.splits.specs.Shortcuts.{unequal, two, two-top, three, three-top, pair, pair-top}
 use Rattle.splits.specs.declared.subproblem.Subproblem.{Subproblem}
-use Rattle.splits.proofs.Masks.{bit-le, bit-zero, bit-suc, bit-minus, bit-none, bit-single-same, bit-single-other, single-member, size-single, part-single, part-lt, minus-part}
-
--- Half of the full mask is the full mask of one value less.
-full-half : (d : ℕ) → (2 ^ suc d - 1) / 2 ≡ 2 ^ d - 1
-full-half d = omega (arith, pow-pos d)
-
--- All d values are members of the full mask.
-bit-full : (d v : ℕ) → v < d → bit (2 ^ d - 1) v ≡ 1
-bit-full zero v k = absurd (omega arith)
-bit-full (suc d) zero k = bit-zero (2 ^ suc d - 1) ∙ omega (arith, pow-pos d)
-bit-full (suc d) (suc v) k = bit-suc (2 ^ suc d - 1) v ∙ ap (λ (m : ℕ). bit m v) (full-half d) ∙ bit-full d v (omega arith)
+use Rattle.splits.proofs.Masks.{bit-le, bit-zero, bit-minus, bit-none, bit-single-same, bit-single-other, single-member, size-single, part-single, part-lt, minus-part, all-set}
 
 -- The values other than a are allowed beside it.
 bit-unequal : (d a b : ℕ) → b < d → (b ≡ a → ⊥) → bit (minus (2 ^ d - 1) (single a)) b ≡ 1
-bit-unequal d a b k h = bit-minus (2 ^ d - 1) (single a) b ∙ omega (arith, bit-full d b k, bit-single-other a b h)
+bit-unequal d a b k h = bit-minus (2 ^ d - 1) (single a) b ∙ omega (arith, all-set d b k, bit-single-other a b h)
 
 -- A value is not allowed beside itself.
 bit-equal : (d a : ℕ) → bit (minus (2 ^ d - 1) (single a)) a ≡ 0
@@ -172,7 +162,7 @@ two-extraction = record {
   where
     targets : (i : ℕ) → i < 2 → (targetOf (5 ∷ 0 ∷ 0 ∷ 1 ∷ 2 ∷ []) i ≡ 0 → ⊥) × Part (targetOf (5 ∷ 0 ∷ 0 ∷ 1 ∷ 2 ∷ []) i) (domain two-top i)
     targets zero k = (λ z. omega arith, λ v m. m)
-    targets (suc zero) k = (λ z. omega arith, part-single 3 1 (bit-full 2 1 k))
+    targets (suc zero) k = (λ z. omega arith, part-single 3 1 (all-set 2 1 k))
     targets (suc (suc i)) k = absurd (omega arith)
 
 pub three-idc : Splits three three-top (3 ∷ 0 ∷ 0 ∷ [])
@@ -194,5 +184,5 @@ two-solvable = ((λ i. i), record { possible = possible; consistent = rising 2 2
   where
     possible : (i : ℕ) → i < 2 → i ∈ domain two-top i
     possible zero k = bit-zero 1
-    possible (suc zero) k = bit-full 2 1 k
+    possible (suc zero) k = all-set 2 1 k
     possible (suc (suc i)) k = absurd (omega arith)

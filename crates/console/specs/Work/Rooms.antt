@@ -41,7 +41,7 @@ pub record Room (domains tables agenda : List ℕ) : Type 0 where
   pub of-agenda : Fits (length agenda) 17408
 
 -- So many words, the first k of them those that the bytes say.
-pub record Turned (bytes : List ℕ) (k most : ℕ) (words : List ℕ) : Type 0 where
+pub record MadeWords (bytes : List ℕ) (k most : ℕ) (words : List ℕ) : Type 0 where
   pub count : k ≡ length bytes / 2
   pub long : length words ≡ most
   pub room : k ≤ length words

@@ -2,7 +2,7 @@
 use mathlib.Core.Path.{_≡_}
 use mathlib.Core.Bool.{Bool, true, cond, _&&_}
 use mathlib.Core.List.{List, _++_, map}
-use Prim.Native.Nat.{ℕ, _+_, _-_, _*_, _≤_}
+use Prim.Native.Nat.{ℕ, _+_, _-_, _*_, _/_, _%_, _≤_}
 use lib.ListN.{length, getD, take, drop, replicate}
 use lib.Dec.{eqb, leb, ltb}
 use Rattle.splits.specs.Masks.{bit}
@@ -145,3 +145,7 @@ pub record Told (file : List ℕ) (r : Loaded) : Type 0 where
   pub its-n : r .n ≡ saidN file
   pub its-d : r .d ≡ saidD file
   pub state : StateSaid file (r .state)
+
+-- A sum of words, the carries past 16 bits added in, and those of that.
+abbrev pub foldedTwice : ℕ → ℕ
+foldedTwice t = (t % 65536 + t / 65536) % 65536 + (t % 65536 + t / 65536) / 65536
