@@ -11,16 +11,16 @@ use Prim.Native.Nat.{ℕ, _+_, _-_, _*_, _/_, _^_, _≤_, _<_}
 use lib.ListN.{length, replicate, length-append}
 use lib.Dec.{eqb}
 use borrow.Author.Tests.{eq-eqb, ne-eqb}
-use Rattle.splits.specs.Problem.{Problem}
-use Rattle.search.specs.Agenda.{problemOf, stackOf, slotsIn}
-use Rattle.search.specs.FirstChecks.{searchRefusal}
+use Rattle.problem.specs.Problem.{Problem, problemOf}
+use Rattle.search.specs.Agenda.{stackOf, slotsIn}
+use Rattle.search.specs.Tests.FirstChecks.{searchRefusal}
 use Rattle.search.specs.Runs.{Search, Stopped, run}
 use Rattle.search.specs.Verdicts.{numberOf, verdictOf}
 use Rattle.search.specs.Chooser.{choose}
 use Rattle.search.specs.Calls.{searchOf, Chooses}
 use Rattle.search.specs.Promises.{Leaves, picks}
 use Rattle.search.specs.declared.state.Ran.{Ran}
-use Rattle.search.proofs.FirstPassing.{search-is-passed}
+use Rattle.search.proofs.first_checks.FirstPassing.{search-is-passed}
 use Rattle.search.specs.declared.state.Verdict.the-variants.{Solved}
 use Rattle.search.proofs.Promises.{chooser-leaves, chooser-refusals, handed-passes, stops, picks as picks-run}
 use Rattle.files.specs.Reading.{saidN, saidSearch, refusalOfFile, refusalOfWords}

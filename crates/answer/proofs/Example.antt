@@ -6,14 +6,15 @@ use mathlib.Core.List.{List}
 use Prim.Native.Nat.{ℕ, suc, _<_}
 use borrow.Author.Tests.{eq-eqb}
 use lib.Count.{ones, onesIn, trailingZeros}
-use Rattle.splits.specs.Masks.{bit, minus, smallest, smallerHalf}
-use Rattle.splits.specs.Problem.{tableOf, total}
-use Rattle.splits.specs.Subproblems.{empty, allInstantiated, some, every}
-use Rattle.splits.specs.Splits.{below, keep, changed, instantiate, without, cutBeside, forbids, instantiatedOther, forbidden, precluded, disjunct, forwardChecking, idc, named, pieces, filled}
+use Rattle.problem.specs.Masks.{bit, minus, smallest, smallerHalf}
+use Rattle.problem.specs.Problem.{tableOf, problemOf}
+use Rattle.problem.specs.Lists.{total, some, every, below, keep, changed}
+use Rattle.splits.specs.Subproblems.{empty, allInstantiated}
+use Rattle.splits.specs.Splits.{instantiate, without, cutBeside, forbids, instantiatedOther, forbidden, precluded, disjunct, forwardChecking, idc, named, pieces, filled}
 use Rattle.splits.specs.Checks.{lookedAt, others, tried, valuesIn, checks}
-use Rattle.splits.specs.Refusals.{refused-7, refused-8, refused-9, bad, someBad, allSame, refused-10, refusalOf}
-use Rattle.search.specs.Agenda.{problemOf, holding}
-use Rattle.search.specs.FirstChecks.{wholeSlots, refusalOfLengths}
+use Rattle.splits.specs.Tests.Refusals.{refused-7, refused-8, refused-9, bad, someBad, allSame, refused-10, refusalOf}
+use Rattle.search.specs.Agenda.{holding}
+use Rattle.search.specs.Tests.FirstChecks.{wholeSlots, refusalOfLengths}
 use Rattle.search.specs.Verdicts.{ascii, wordOf, verdictOf, finished}
 use Rattle.search.specs.Runs.{Search, splitTop, step, refusalOfTop, refusalOfRequest}
 use Rattle.search.specs.Chooser.{fewestOf, chosen, chooseFrom, choose}

@@ -9,9 +9,9 @@ use lib.ListN.{length, getD, take, drop, replicate, length-drop, List·getD-appe
 use lib.Dec.{eqb}
 use borrow.Author.Tests.{eqb-true}
 use lib.Seq.{getD-take, length-take-le}
-use Rattle.splits.specs.Masks.{lowest}
+use Rattle.problem.specs.Masks.{lowest}
 use Rattle.splits.specs.Subproblems.{domain}
-use Rattle.splits.specs.Splits.{below}
+use Rattle.problem.specs.Lists.{below}
 use Rattle.search.specs.Agenda.{holding, subproblemOf, slotAt, stackOf}
 use Rattle.search.specs.Verdicts.{numberOf, verdictOf}
 use Rattle.search.specs.declared.state.Verdict.{Verdict}

@@ -11,12 +11,12 @@ use native.Mathlib.Nat.{mul-div-cancel}
 use lib.ListN.{length, getD, take, replicate, length-replicate}
 use lib.Dec.{eqb}
 use borrow.Author.Tests.{eq-eqb, ne-eqb}
-use Rattle.splits.specs.Masks.{lowest}
-use Rattle.splits.specs.Problem.{Solution, tableOf}
+use Rattle.problem.specs.Masks.{lowest}
+use Rattle.problem.specs.Problem.{Solution, tableOf, problemOf}
 use Rattle.splits.specs.Subproblems.{domain}
 use Rattle.splits.specs.declared.subproblem.Subproblem.{Subproblem}
-use Rattle.search.specs.Agenda.{problemOf, stackOf, slotsIn, agendaOf}
-use Rattle.search.specs.FirstChecks.{searchRefusal}
+use Rattle.search.specs.Agenda.{stackOf, slotsIn, agendaOf}
+use Rattle.search.specs.Tests.FirstChecks.{searchRefusal}
 use Rattle.search.specs.Runs.{Stopped}
 use Rattle.search.specs.Verdicts.{ascii, wordOf, numberOf, verdictOf}
 use Rattle.search.specs.Chooser.{choose}
@@ -25,7 +25,7 @@ use Rattle.search.specs.Promises.{Verdict-says}
 use Rattle.search.specs.declared.state.Ran.{Ran}
 use Rattle.search.specs.declared.state.Verdict.{Verdict}
 use Rattle.search.specs.declared.state.Verdict.the-variants.{None, Running, Solved, Unsolvable}
-use Rattle.search.proofs.FirstPassing.{search-is-passed}
+use Rattle.search.proofs.first_checks.FirstPassing.{search-is-passed}
 use Rattle.search.proofs.Promises.{chooser-says}
 use Rattle.files.specs.Reading.{saidN, saidD, saidSteps, saidChecks, saidSubproblems, saidDomains, saidAllowed, saidSearch, tableWords, Deserves-14, Deserves-15}
 use Rattle.files.specs.Calls.{loadRefusal}

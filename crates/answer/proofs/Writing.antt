@@ -6,7 +6,7 @@ use mathlib.Core.List.{List, [], _∷_, _++_, append-assoc, append-nil}
 use Prim.Native.Nat.{ℕ, suc, _+_, _-_, _≤_, _<_}
 use lib.ListN.{length, replicate, set, getD, take, length-append}
 use lib.Seq.{set-at, append-snoc, take-suc, take-length}
-use Rattle.splits.specs.Masks.{lowest}
+use Rattle.problem.specs.Masks.{lowest}
 use Rattle.answer.specs.Text.{planLine}
 use Rattle.answer.specs.Work.Writing.{Holds, Adds, valueLines}
 use Rattle.answer.specs.declared.text.Text.{Text}

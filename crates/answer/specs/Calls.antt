@@ -5,8 +5,7 @@ use mathlib.Core.List.{List, _++_}
 use Prim.Native.Nat.{ℕ, _+_, _-_, _*_}
 use lib.ListN.{length, replicate}
 use lib.Dec.{eqb}
-use Rattle.splits.specs.Problem.{Problem}
-use Rattle.search.specs.Agenda.{problemOf}
+use Rattle.problem.specs.Problem.{Problem, problemOf}
 use Rattle.search.specs.Runs.{Stopped}
 use Rattle.search.specs.Chooser.{choose}
 use Rattle.files.specs.Reading.{saidN, saidD, saidDomains, saidAllowed, saidSearch, tableWords}

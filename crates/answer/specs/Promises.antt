@@ -3,9 +3,8 @@ use mathlib.Core.Path.{_≡_}
 use mathlib.Core.List.{List, [], _∷_, _++_}
 use Prim.Native.Nat.{ℕ, _*_, _+_, _/_, _%_, _≤_, _<_}
 use lib.ListN.{length, getD, take}
-use Rattle.splits.specs.Problem.{Solution}
-use Rattle.splits.specs.Promises.{One}
-use Rattle.search.specs.Agenda.{problemOf}
+use Rattle.problem.specs.Problem.{Solution, problemOf}
+use Rattle.problem.specs.Answers.{One}
 use Rattle.search.specs.Verdicts.{ascii}
 use Rattle.search.specs.Calls.{Opens, Chooses}
 use Rattle.search.specs.Promises.{Has-solution}

@@ -3,9 +3,9 @@ use mathlib.Core.Bool.{cond}
 use mathlib.Core.List.{List, [], _∷_, _++_}
 use Prim.Native.Nat.{ℕ, zero, suc, _+_, _/_, _%_}
 use lib.Dec.{eqb, ltb}
-use Rattle.splits.specs.Masks.{lowest}
+use Rattle.problem.specs.Masks.{lowest}
 use Rattle.splits.specs.Subproblems.{domain}
-use Rattle.splits.specs.Splits.{below}
+use Rattle.problem.specs.Lists.{below}
 use Rattle.splits.specs.declared.subproblem.Subproblem.{Subproblem}
 use Rattle.search.specs.Agenda.{stackOf}
 use Rattle.search.specs.Verdicts.{numberOf, ascii, wordOf, verdictOf}

@@ -8,7 +8,7 @@ ghost use mathlib.Core.Path.{_≡_};
 ghost use Prim.Native.Nat.{_+_, _-_, _*_, _≤_};
 ghost use lib.ListN.{length};
 ghost use lib.Dec.{eqb};
-ghost use Rattle.splits.specs.Masks.{lowest};
+ghost use Rattle.problem.specs.Masks.{lowest};
 ghost use Rattle.splits.specs.Subproblems.{domain};
 ghost use Rattle.search.specs.Agenda.{subproblemOf, slotAt};
 ghost use Rattle.search.specs.Verdicts.{numberOf};

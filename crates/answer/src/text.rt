@@ -1,11 +1,11 @@
 // The text of an answer, written from the front.
 use search::state::Verdict;
-use splits::mask;
+use problem::mask;
 ghost use mathlib.Core.Path.{_≡_};
 ghost use mathlib.Core.List.{[], _∷_};
 ghost use Prim.Native.Nat.{_+_, _-_, _<_, _≤_};
 ghost use lib.ListN.{length};
-ghost use Rattle.splits.specs.Masks.{lowest};
+ghost use Rattle.problem.specs.Masks.{lowest};
 ghost use Rattle.answer.specs.Text.{decimal, verdictLine, countsLine, planLine, refusedLine};
 ghost use Rattle.answer.specs.Work.Writing.{Holds, Adds, valueLines};
 

@@ -12,22 +12,23 @@ use lib.ListN.{length, getD, take, drop, replicate, length-append, length-drop, 
 use lib.Seq.{take-append-le, drop-append-le, ext-getD}
 use lib.Dec.{eqb}
 use borrow.Author.Tests.{le-leb, le-ltb, eqb-true, eq-eqb}
-use Rattle.splits.specs.Problem.{Problem, Table}
-use Rattle.splits.specs.Subproblems.{domain, every, empty}
+use Rattle.problem.specs.Problem.{Problem, Table, problemOf}
+use Rattle.splits.specs.Subproblems.{domain, empty}
+use Rattle.problem.specs.Lists.{every, below, keep}
 use Rattle.splits.specs.Requests.{kindOf, variableOf, valueOf, targetOf}
-use Rattle.splits.specs.Splits.{below, keep, forbidden, instantiate, disjunct, extract, backtracking, forwardChecking, idc, halving, extraction, named, filled, pieces}
+use Rattle.splits.specs.Splits.{forbidden, instantiate, disjunct, extract, backtracking, forwardChecking, idc, halving, extraction, named, filled, pieces}
 use Rattle.splits.specs.declared.subproblem.Subproblem.{Subproblem}
-use Rattle.splits.proofs.Tests.{every-at, every-all, same-test}
-use Rattle.search.specs.Agenda.{problemOf, subproblemOf, slotAt, stackOf, slotsIn, stackWords, agendaOf}
+use Rattle.problem.proofs.Tests.{every-at, every-all, same-test}
+use Rattle.search.specs.Agenda.{subproblemOf, slotAt, stackOf, slotsIn, stackWords, agendaOf}
 use Rattle.search.specs.Runs.{Search, Stopped, splitTop, step, refusalOfTop, refusalOfRequest, runFrom, run, requestsIn}
-use Rattle.search.specs.FirstChecks.{refusalOfLengths, zerosFrom, refusalOfSearch, runRefusal}
+use Rattle.search.specs.Tests.FirstChecks.{refusalOfLengths, zerosFrom, refusalOfSearch, runRefusal}
 use Rattle.search.specs.Calls.{searchOf, Ends, Runs}
 use Rattle.search.specs.declared.state.State.{State}
 use Rattle.search.specs.declared.state.Ran.{Ran}
 use Rattle.search.proofs.Runs.{after, stop, run-finished, run-taken, run-refused, run-ind}
-use Rattle.search.proofs.Encoding.{length-stackOf}
-use Rattle.search.proofs.Deserved.{slots-is}
-use Rattle.search.proofs.Copies.{zeros-at}
+use Rattle.search.proofs.agenda.Encoding.{length-stackOf}
+use Rattle.search.proofs.first_checks.Deserved.{slots-is}
+use Rattle.problem.proofs.Copies.{zeros-at}
 use Rattle.files.proofs.Lists.{below-length, padded-at}
 use Rattle.files.proofs.Stacks.{slots-in}
 

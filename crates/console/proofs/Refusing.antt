@@ -10,9 +10,9 @@ use native.Mathlib.Decide.{ℕ-discrete}
 use lib.ListN.{length, getD}
 use lib.Dec.{eqb}
 use borrow.Author.Tests.{not-true, not-false, eq-eqb, ne-eqb, le-leb}
-use Rattle.splits.specs.Subproblems.{some}
-use Rattle.splits.proofs.Tests.{true-false}
-use Rattle.search.specs.FirstChecks.{refusalOfRequests, openRefusal, runRefusal}
+use Rattle.problem.specs.Lists.{some}
+use Rattle.problem.proofs.Tests.{true-false}
+use Rattle.search.specs.Tests.FirstChecks.{refusalOfRequests, openRefusal, runRefusal}
 use Rattle.search.specs.Agenda.{holding}
 use Rattle.search.specs.Runs.{Stopped}
 use Rattle.search.specs.Calls.{opening, Opens, Ends}
@@ -23,7 +23,7 @@ use Rattle.files.specs.Reading.{saidN, saidD, saidSubproblems}
 use Rattle.files.specs.Calls.{saveRefusal, Saves, loadRefusal, Loads}
 use Rattle.files.specs.declared.saved.Saved.{Saved}
 use Rattle.files.specs.declared.saved.Loaded.{Loaded}
-use Rattle.search.proofs.Deserved.{requests-true}
+use Rattle.search.proofs.first_checks.Deserved.{requests-true}
 use Rattle.files.proofs.LoadOutcomes.{not-given, load-passed}
 use Rattle.console.specs.Bytes.{Whole, wordsOf}
 use Rattle.console.specs.Calls.{unwhole, unwholeFile, WholeProblem, unopened, OpensWords, OpensBytes, refused, RunsWords, RunsBytes, ChoosesWords, ChoosesBytes, unsaved, SavesBytes, unloaded, LoadsWords, LoadsBytes}

@@ -15,13 +15,13 @@ use lib.Bits.{bitOr, or-zero-l, or-add-and, and-le-l, and-le-r}
 use lib.Dec.{eqb, leb, ltb}
 use borrow.Rule.Slice.PartMut.{putMid, post-is}
 use borrow.Author.Tests.{leb-true, leb-false, ltb-true, ltb-false, eqb-true, eqb-false, eq-eqb, ne-eqb}
-use Rattle.splits.specs.Subproblems.{every}
-use Rattle.splits.proofs.Tests.{and-left, and-right, same-test}
-use Rattle.splits.proofs.Refusals.{every-same}
-use Rattle.search.specs.Agenda.{problemOf}
-use Rattle.search.specs.FirstChecks.{orElse, refusalOfNumbers, wholeSlots, refusalOfLengths, refusalOfRequests, refusalOfProblem, refusalOfSearch, zerosFrom, openRefusal, searchRefusal, runRefusal}
-use Rattle.search.proofs.Deserved.{slots-true}
-use Rattle.search.proofs.FirstPassing.{numbers-none}
+use Rattle.problem.specs.Lists.{every}
+use Rattle.problem.proofs.Tests.{and-left, and-right, same-test, every-same}
+use Rattle.problem.specs.Problem.{problemOf}
+use Rattle.problem.specs.Tests.FirstChecks.{orElse, refusalOfNumbers, refusalOfProblem}
+use Rattle.search.specs.Tests.FirstChecks.{wholeSlots, refusalOfLengths, refusalOfRequests, refusalOfSearch, zerosFrom, openRefusal, searchRefusal, runRefusal}
+use Rattle.search.proofs.first_checks.Deserved.{slots-true}
+use Rattle.problem.proofs.first_checks.Passing.{numbers-none}
 use Rattle.files.proofs.Tests.{and-cases}
 use Rattle.files.specs.Reading.{saidN, saidD, refusalOfFile, refusalOfWords}
 use Rattle.files.specs.Calls.{saveRefusal, loadRefusal}

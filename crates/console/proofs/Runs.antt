@@ -13,13 +13,14 @@ use lib.ListN.{length, getD, take, drop, length-append}
 use lib.Seq.{drop-nil, drop-append-seam}
 use lib.Dec.{eqb}
 use borrow.Author.Tests.{ne-eqb}
-use Rattle.splits.specs.Problem.{Problem}
+use Rattle.problem.specs.Problem.{Problem, problemOf}
 use Rattle.splits.specs.Splits.{pieces}
 use Rattle.splits.specs.declared.subproblem.Subproblem.{Subproblem}
-use Rattle.search.specs.Agenda.{problemOf, stackOf, stackWords, slotsIn, agendaOf}
+use Rattle.search.specs.Agenda.{stackOf, stackWords, slotsIn, agendaOf}
 use Rattle.search.specs.Verdicts.{numberOf, finished, verdictOf}
 use Rattle.search.specs.Runs.{Search, Stopped, splitTop, step, run, requestsIn}
-use Rattle.search.specs.FirstChecks.{WholeRequests, runRefusal}
+use Rattle.search.specs.FirstChecks.{WholeRequests}
+use Rattle.search.specs.Tests.FirstChecks.{runRefusal}
 use Rattle.search.specs.Calls.{searchOf, Ends, Runs, Chooses}
 use Rattle.search.specs.Promises.{Handed, Leaves, picks}
 use Rattle.search.specs.declared.state.State.{State}
@@ -27,8 +28,8 @@ use Rattle.search.specs.declared.state.Ran.{Ran}
 use Rattle.search.specs.declared.state.Verdict.the-variants.{Running}
 use Rattle.search.proofs.Verdicts.{running}
 use Rattle.search.proofs.Runs.{after, after-none, run-finished, run-taken, run-refused, run-ind, stops}
-use Rattle.search.proofs.Encoding.{length-stackOf, stack-of-words}
-use Rattle.search.proofs.FirstPassing.{requests-none, search-is-passed, run-is-passed}
+use Rattle.search.proofs.agenda.Encoding.{length-stackOf, stack-of-words}
+use Rattle.search.proofs.first_checks.FirstPassing.{requests-none, search-is-passed, run-is-passed}
 use Rattle.search.proofs.Picking.{picked}
 use Rattle.search.proofs.HandedOn.{known, run-leaves-so, chooser-leaves-so}
 use Rattle.search.proofs.Promises.{steps-count}

@@ -11,11 +11,12 @@ use lib.ListN.{length, getD, take, drop, length-drop, take-append-drop}
 use lib.Seq.{length-take-le, take-add, take-length}
 use lib.Dec.{eqb}
 use borrow.Author.Tests.{not-true, not-false, eqb-true, eq-eqb}
-use Rattle.splits.proofs.Tests.{and-left, and-right, true-false}
+use Rattle.problem.proofs.Tests.{and-left, and-right, true-false}
 use Rattle.search.specs.FirstChecks.{WholeRequests}
 use Rattle.search.specs.Verdicts.{numberOf}
 use Rattle.search.specs.Runs.{Stopped, run, requestsIn}
-use Rattle.search.specs.Agenda.{problemOf, slotsIn}
+use Rattle.problem.specs.Problem.{problemOf}
+use Rattle.search.specs.Agenda.{slotsIn}
 use Rattle.search.specs.Calls.{searchOf, Ends, Runs}
 use Rattle.search.proofs.Verdicts.{is-run-on}
 use Rattle.search.proofs.Runs.{stops}

@@ -6,7 +6,7 @@ use Prim.Native.Nat.{ℕ, zero, suc, _+_, _-_, _*_, _/_, _%_, _^_, _≤_, _<_}
 use native.Mathlib.Omega.{arith}
 use lib.ListN.{length, getD, take, drop, set, take-append-drop}
 use lib.Seq.{take-at, take-length, drop-length, drop-drop}
-use Rattle.search.proofs.Copies.{copy-more}
+use Rattle.problem.proofs.Copies.{copy-more}
 use Rattle.console.specs.Bytes.{Whole, wordsOf, bytesOf}
 
 -- ---- how many

@@ -4,7 +4,7 @@ use mathlib.Core.Path.{_≡_}
 use mathlib.Core.List.{List}
 use Prim.Native.Nat.{ℕ}
 use Rattle.search.specs.Verdicts.{numberOf}
-use Rattle.search.specs.FirstChecks.{orElse, refusalOfNumbers}
+use Rattle.problem.specs.Tests.FirstChecks.{orElse, refusalOfNumbers}
 use Rattle.search.specs.Calls.{Opens, Runs, Chooses}
 use Rattle.search.specs.declared.state.State.{State}
 use Rattle.search.specs.declared.state.Opened.{Opened}

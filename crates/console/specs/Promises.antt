@@ -6,13 +6,14 @@ use Prim.Native.Nat.{ℕ, _+_, _≤_}
 use lib.ListN.{length}
 use Rattle.search.specs.Verdicts.{numberOf}
 use Rattle.search.specs.Runs.{requestsIn}
-use Rattle.search.specs.FirstChecks.{Deserves-1, Deserves-2, WholeRequests}
+use Rattle.problem.specs.FirstChecks.{Deserves-1, Deserves-2}
+use Rattle.search.specs.FirstChecks.{WholeRequests}
 use Rattle.search.specs.Calls.{Opens, Runs, Chooses}
 use Rattle.search.specs.declared.state.State.{State}
 use Rattle.search.specs.declared.state.Opened.{Opened}
 use Rattle.search.specs.declared.state.Ran.{Ran}
 use Rattle.files.specs.Reading.{Deserves-14, Deserves-15}
-use Rattle.search.specs.Agenda.{Words}
+use Rattle.problem.specs.Problem.{Words}
 use Rattle.files.specs.Promises.{Bytes}
 use Rattle.files.specs.Calls.{Loads}
 use Rattle.files.specs.declared.saved.Loaded.{Loaded}

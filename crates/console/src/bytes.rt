@@ -3,7 +3,7 @@ ghost use mathlib.Core.Path.{_≡_};
 ghost use Prim.Native.Nat.{_+_, _-_, _*_, _/_, _%_, _≤_, _<_};
 ghost use lib.ListN.{length, take};
 ghost use lib.Dec.{ltb};
-ghost use Rattle.search.specs.FirstChecks.{zerosFrom};
+ghost use Rattle.search.specs.Tests.FirstChecks.{zerosFrom};
 ghost use Rattle.console.specs.Bytes.{bytesOf};
 ghost use Rattle.console.specs.Work.Rooms.{fits, roomFor, few, wholeList, Fits, MadeWords, Front, WritesBack, Reach, FrontOf};
 

@@ -43,7 +43,7 @@ fn unwhole(n: usize, d: usize) -> u32
 {
     let word = [0u16; 1];
     let none = &word[..0];
-    search::first::open_refusal(n, d, none, none, none)
+    search::first_checks::open_refusal(n, d, none, none, none)
 }
 
 // Opening that is refused so returns zeros.

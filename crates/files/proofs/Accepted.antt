@@ -11,18 +11,21 @@ use lib.Arith.{lt-of-le-ne}
 use lib.ListN.{length}
 use lib.Dec.{eqb, leb, ltb}
 use borrow.Author.Tests.{eq-eqb, le-leb, lt-ltb, le-ltb, eqb-true, eqb-false, leb-true, leb-false, ltb-true, ltb-false, not-false}
-use Rattle.splits.specs.Masks.{bit}
-use Rattle.splits.specs.Problem.{Proper}
-use Rattle.splits.specs.Subproblems.{Rules, every}
+use Rattle.problem.specs.Masks.{bit}
+use Rattle.problem.specs.Problem.{Proper}
+use Rattle.splits.specs.Subproblems.{Rules}
+use Rattle.problem.specs.Lists.{every}
 use Rattle.splits.specs.declared.subproblem.Subproblem.{Subproblem}
-use Rattle.splits.proofs.Masks.{bit-le}
-use Rattle.splits.proofs.Tests.{true-false, and-left, and-right, or-left, or-right, every-at, every-all}
+use Rattle.problem.proofs.mask.Masks.{bit-le}
+use Rattle.problem.proofs.Tests.{true-false, and-left, and-right, or-left, or-right, every-at, every-all}
 use Rattle.search.specs.Agenda.{slotsIn}
-use Rattle.search.specs.FirstChecks.{Deserves-4, allObey}
-use Rattle.search.proofs.Decisions.{Refutes, every-fails}
-use Rattle.search.proofs.FirstParts.{given-if}
-use Rattle.search.proofs.Deserved.{over-of, over-not, refutes-rules, all-rules, all-obey}
-use Rattle.search.proofs.FirstPassing.{gives-none}
+use Rattle.problem.specs.FirstChecks.{Deserves-4}
+use Rattle.search.specs.Tests.FirstChecks.{allObey}
+use Rattle.problem.proofs.Decisions.{Refutes, every-fails}
+use Rattle.problem.proofs.first_checks.Parts.{given-if}
+use Rattle.problem.proofs.first_checks.Deserved.{over-of, over-not}
+use Rattle.search.proofs.first_checks.Deserved.{refutes-rules, all-rules, all-obey}
+use Rattle.problem.proofs.first_checks.Passing.{gives-none}
 use Rattle.files.specs.Blocks.{blocksFor}
 use Rattle.files.specs.Reading.{blocksIn, contentWord, saidN, saidD, saidSteps, saidChecks, saidSubproblems, saidAllowed, saidProblem, saidAgenda, saidSearch, saidWords, agendaFrom, gathered, Deserves-15, masksBelowTriangle, refusalOfWords}
 use Rattle.files.proofs.Tests.{either, one-of, given-exactly}

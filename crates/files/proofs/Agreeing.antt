@@ -8,17 +8,18 @@ use Prim.Native.Nat.{ℕ, _≤_, _<_}
 use native.Mathlib.Omega.{arith}
 use lib.Dec.{eqb}
 use borrow.Author.Tests.{eqb-false, not-true}
-use Rattle.splits.specs.Masks.{lowest}
-use Rattle.splits.specs.Problem.{Problem, Table, Allow-same}
+use Rattle.problem.specs.Masks.{lowest}
+use Rattle.problem.specs.Problem.{Problem, Table, Allow-same}
 use Rattle.splits.specs.Subproblems.{domain, empty}
 use Rattle.splits.specs.Requests.{kindOf, variableOf, valueOf}
-use Rattle.splits.specs.Splits.{below, keep, forbids, precluded, disjunct, backtracking, forwardChecking, idc, named, pieces}
+use Rattle.problem.specs.Lists.{below, keep}
+use Rattle.splits.specs.Splits.{forbids, precluded, disjunct, backtracking, forwardChecking, idc, named, pieces}
 use Rattle.splits.specs.Checks.{checks}
-use Rattle.splits.specs.Promises.{Splits}
+use Rattle.splitting.specs.Promises.{Splits}
 use Rattle.splits.specs.declared.subproblem.Subproblem.{Subproblem}
-use Rattle.splits.proofs.Masks.{member-lt}
-use Rattle.splits.proofs.Pieces.{Held}
-use Rattle.splits.proofs.Splitting.{lowest-in}
+use Rattle.problem.proofs.mask.Masks.{member-lt}
+use Rattle.splitting.proofs.Pieces.{Held}
+use Rattle.splitting.proofs.Splitting.{lowest-in}
 use Rattle.splits.proofs.Apart.{kind-same, kept-lt, precluded-same, disjunct-same, forbidden-same, tried-same}
 
 -- Members of a list, mapped alike.

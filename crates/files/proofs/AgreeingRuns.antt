@@ -10,17 +10,18 @@ use native.Mathlib.Nat.{le-refl}
 use native.Mathlib.Decide.{ℕ-discrete}
 use lib.Dec.{eqb, ltb}
 use borrow.Author.Tests.{eq-eqb, ne-eqb, eqb-true, eqb-false}
-use Rattle.splits.specs.Masks.{bit, _∈_, size, lowest}
-use Rattle.splits.specs.Problem.{Problem, Table, Allow-same}
+use Rattle.problem.specs.Masks.{bit, _∈_, size, lowest}
+use Rattle.problem.specs.Problem.{Problem, Table, Allow-same}
 use Rattle.splits.specs.Subproblems.{domain, Instantiated, allInstantiated}
-use Rattle.splits.specs.Refusals.{Accepted, refusalOf}
-use Rattle.splits.specs.Promises.{Splits}
+use Rattle.splits.specs.Refusals.{Accepted}
+use Rattle.splits.specs.Tests.Refusals.{refusalOf}
+use Rattle.splitting.specs.Promises.{Splits}
 use Rattle.splits.specs.declared.subproblem.Subproblem.{Subproblem}
-use Rattle.splits.proofs.Masks.{bit-le, member-lt}
-use Rattle.splits.proofs.Tests.{true-false}
-use Rattle.splits.proofs.Products.{last}
-use Rattle.splits.proofs.Pieces.{Held}
-use Rattle.splits.proofs.Splitting.{lowest-in}
+use Rattle.problem.proofs.mask.Masks.{bit-le, member-lt}
+use Rattle.problem.proofs.Tests.{true-false}
+use Rattle.problem.proofs.Products.{last}
+use Rattle.splitting.proofs.Pieces.{Held}
+use Rattle.splitting.proofs.Splitting.{lowest-in}
 use Rattle.splits.proofs.Apart.{precluded-same}
 use Rattle.search.specs.Verdicts.{finished}
 use Rattle.search.specs.Runs.{Search, Stopped, splitTop, step, refusalOfTop, refusalOfRequest, runFrom, run}

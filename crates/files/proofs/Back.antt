@@ -7,15 +7,16 @@ use native.Mathlib.Omega.{arith}
 use lib.ListN.{length, take, drop}
 use lib.Seq.{take-at}
 use borrow.Author.Tests.{le-ltb}
-use Rattle.splits.specs.Problem.{Table, Allow-same, tableOf}
+use Rattle.problem.specs.Problem.{Table, Allow-same, tableOf, Words}
 use Rattle.splits.specs.declared.subproblem.Subproblem.{Subproblem}
-use Rattle.search.specs.Agenda.{Words, Shape, slotsIn, agendaOf}
-use Rattle.search.specs.FirstChecks.{WholeSlots, refusalOfLengths, searchRefusal}
+use Rattle.search.specs.Agenda.{Shape, slotsIn, agendaOf}
+use Rattle.search.specs.FirstChecks.{WholeSlots}
+use Rattle.search.specs.Tests.FirstChecks.{refusalOfLengths, searchRefusal}
 use Rattle.search.specs.Runs.{Search}
 use Rattle.search.specs.Calls.{searchOf}
 use Rattle.search.specs.declared.state.State.{State}
-use Rattle.search.proofs.Encoding.{length-stackOf, agenda-back}
-use Rattle.search.proofs.FirstPassing.{PassedSearch, search-is-passed}
+use Rattle.search.proofs.agenda.Encoding.{length-stackOf, agenda-back}
+use Rattle.search.proofs.first_checks.FirstPassing.{PassedSearch, search-is-passed}
 use Rattle.files.specs.Blocks.{blocksFor, fileOf}
 use Rattle.files.specs.Content.{contentOf}
 use Rattle.files.specs.Reading.{saidN, saidD, saidSteps, saidChecks, saidSubproblems, saidDomains, saidAllowed, saidSearch, tableWords}

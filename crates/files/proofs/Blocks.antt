@@ -10,10 +10,8 @@ use native.Mathlib.Decide.{decLt}
 use lib.ListN.{length, getD, take, drop, replicate, length-append, length-take, length-replicate, List·getD-append, List·getD-eq-default}
 use lib.Seq.{getD-take, getD-drop, getD-at}
 use borrow.Author.Tests.{eq-eqb, le-leb}
-use Rattle.splits.specs.Problem.{total}
-use Rattle.splits.specs.Subproblems.{every}
-use Rattle.splits.specs.Splits.{below}
-use Rattle.splits.proofs.Tests.{every-all}
+use Rattle.problem.specs.Lists.{total, every, below}
+use Rattle.problem.proofs.Tests.{every-all}
 use Rattle.search.proofs.HandedOn.{append-small}
 use Rattle.files.specs.Blocks.{fileBytes, wordAt, checkOf, blocksFor, contentOfBlock, headedBlock, blockWords, firstBlocks, fileOf}
 use Rattle.files.specs.Content.{each}

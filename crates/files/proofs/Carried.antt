@@ -6,15 +6,15 @@ use Prim.Native.Nat.{ℕ, _≤_}
 use native.Mathlib.Omega.{arith}
 use native.Mathlib.Decide.{decLt}
 use lib.ListN.{length, List·getD-eq-default}
-use Rattle.splits.specs.Promises.{AgreeApart}
+use Rattle.problem.specs.Problem.{AgreeApart}
 use Rattle.search.specs.Agenda.{stackOf, slotsIn, agendaOf}
 use Rattle.search.specs.FirstChecks.{WholeSlots}
 use Rattle.search.specs.Calls.{Runs, Chooses}
 use Rattle.search.specs.Promises.{Handed}
 use Rattle.search.specs.declared.state.State.{State}
 use Rattle.search.specs.declared.state.Ran.{Ran}
-use Rattle.search.proofs.Encoding.{length-stackOf, agenda-of-words}
-use Rattle.search.proofs.FirstPassing.{PassedSearch, search-is-passed}
+use Rattle.search.proofs.agenda.Encoding.{length-stackOf, agenda-of-words}
+use Rattle.search.proofs.first_checks.FirstPassing.{PassedSearch, search-is-passed}
 use Rattle.files.specs.Blocks.{fileOf}
 use Rattle.files.specs.Reading.{saidAllowed}
 use Rattle.files.specs.Calls.{handedContent, saveRefusal}

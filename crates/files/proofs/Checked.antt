@@ -12,15 +12,16 @@ use lib.ListN.{length, getD, take, drop, replicate, length-replicate}
 use lib.Seq.{take-all}
 use lib.Dec.{eqb}
 use borrow.Author.Tests.{eqb-true}
-use Rattle.splits.specs.Problem.{tableOf}
-use Rattle.splits.specs.Subproblems.{every}
-use Rattle.splits.proofs.Tests.{and-left, and-right, every-at}
+use Rattle.problem.specs.Problem.{tableOf}
+use Rattle.problem.specs.Lists.{every}
+use Rattle.problem.proofs.Tests.{and-left, and-right, every-at}
 use Rattle.search.specs.Agenda.{slotsIn, stackOf, stackWords, agendaOf}
-use Rattle.search.specs.FirstChecks.{WholeSlots, searchRefusal}
+use Rattle.search.specs.FirstChecks.{WholeSlots}
+use Rattle.search.specs.Tests.FirstChecks.{searchRefusal}
 use Rattle.search.specs.declared.state.State.{State}
-use Rattle.search.proofs.Copies.{zeros-at}
-use Rattle.search.proofs.Encoding.{stack-of-words, agenda-back}
-use Rattle.search.proofs.FirstPassing.{search-is-passed}
+use Rattle.problem.proofs.Copies.{zeros-at}
+use Rattle.search.proofs.agenda.Encoding.{stack-of-words, agenda-back}
+use Rattle.search.proofs.first_checks.FirstPassing.{search-is-passed}
 use Rattle.files.specs.Blocks.{blocksFor}
 use Rattle.files.specs.Reading.{blocksIn, contentWord, contentFrom, saidN, saidD, saidSteps, saidChecks, saidSubproblems, saidDomains, saidAllowed, saidAgenda, saidSearch, saidWords, agendaFrom, tableWords, refusalOfWords}
 use Rattle.files.specs.Promises.{Bytes}

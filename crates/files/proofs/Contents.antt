@@ -8,12 +8,12 @@ use native.Mathlib.Nat.{div-div-eq-div-mul}
 use lib.ListN.{length, getD, length-append, List·getD-append}
 use lib.Seq.{getD-append-add}
 use borrow.Author.Tests.{lt-ltb, le-ltb}
-use Rattle.splits.specs.Masks.{bit}
-use Rattle.splits.specs.Problem.{Table}
+use Rattle.problem.specs.Masks.{bit}
+use Rattle.problem.specs.Problem.{Table}
 use Rattle.splits.specs.declared.subproblem.Subproblem.{Subproblem}
 use Rattle.search.specs.Agenda.{Shape, stackOf, stackWords}
 use Rattle.search.specs.Runs.{Search}
-use Rattle.search.proofs.Encoding.{stack-back}
+use Rattle.search.proofs.agenda.Encoding.{stack-back}
 use Rattle.files.specs.Content.{triangle, contentOf}
 use Rattle.files.specs.Reading.{contentWord, contentFrom, saidN, saidD, saidSteps, saidChecks, saidSubproblems, saidDomains, saidAllowed, saidAgenda, saidSearch, saidWords, triangleWords, trianglePlace, gathered}
 use Rattle.files.proofs.Lists.{map-is}

@@ -8,9 +8,10 @@ use Prim.Native.Nat.{ℕ, zero, suc, _+_, _-_, _*_, _≤_, _<_}
 use native.Mathlib.Omega.{arith}
 use lib.ListN.{length, drop, length-append}
 use lib.Dec.{eqb}
-use Rattle.splits.specs.Problem.{Problem}
-use Rattle.search.specs.Agenda.{problemOf, slotsIn, agendaOf}
-use Rattle.search.specs.FirstChecks.{WholeRequests, runRefusal, searchRefusal}
+use Rattle.problem.specs.Problem.{Problem, problemOf}
+use Rattle.search.specs.Agenda.{slotsIn, agendaOf}
+use Rattle.search.specs.FirstChecks.{WholeRequests}
+use Rattle.search.specs.Tests.FirstChecks.{runRefusal, searchRefusal}
 use Rattle.search.specs.Verdicts.{verdictOf, finished}
 use Rattle.search.specs.Runs.{Search, Stopped, step, refusalOfRequest, run, requestsIn}
 use Rattle.search.specs.Chooser.{chosen, chooseFrom, choose}
@@ -19,7 +20,7 @@ use Rattle.search.specs.Promises.{Handed, Leaves}
 use Rattle.search.specs.declared.state.State.{State}
 use Rattle.search.specs.declared.state.Ran.{Ran}
 use Rattle.search.proofs.Runs.{stop, after, two-lists, stops}
-use Rattle.search.proofs.FirstPassing.{run-is-passed}
+use Rattle.search.proofs.first_checks.FirstPassing.{run-is-passed}
 use Rattle.search.proofs.HandedOn.{known}
 use Rattle.search.proofs.Promises.{run-leaves, chooser-leaves, choose-two}
 use Rattle.files.specs.Promises.{Two-ways, Trip, Chooser-trip, Same-end}

@@ -9,10 +9,9 @@ use native.Mathlib.Decide.{ℕ-discrete}
 use lib.ListN.{length}
 use lib.Dec.{eqb}
 use borrow.Author.Tests.{ne-eqb}
-use Rattle.splits.specs.Problem.{tableOf}
-use Rattle.splits.specs.Promises.{AgreeApart}
-use Rattle.search.specs.Agenda.{problemOf, slotsIn}
-use Rattle.search.specs.FirstChecks.{openRefusal, searchRefusal, runRefusal}
+use Rattle.problem.specs.Problem.{tableOf, AgreeApart, problemOf}
+use Rattle.search.specs.Agenda.{slotsIn}
+use Rattle.search.specs.Tests.FirstChecks.{openRefusal, searchRefusal, runRefusal}
 use Rattle.search.specs.Runs.{Stopped, run, requestsIn}
 use Rattle.search.specs.Chooser.{choose}
 use Rattle.search.specs.Calls.{searchOf, Opens, Ends, Runs, Chooses}
@@ -20,9 +19,9 @@ use Rattle.search.specs.Promises.{Passes}
 use Rattle.search.specs.declared.state.State.{State}
 use Rattle.search.specs.declared.state.Opened.{Opened}
 use Rattle.search.specs.declared.state.Ran.{Ran}
-use Rattle.search.proofs.Encoding.{length-stackOf}
-use Rattle.search.proofs.FirstPassing.{PassedSearch, search-is-passed, run-is-passed}
-use Rattle.search.proofs.Apart.{apart-open, apart-search, apart-run}
+use Rattle.search.proofs.agenda.Encoding.{length-stackOf}
+use Rattle.search.proofs.first_checks.FirstPassing.{PassedSearch, search-is-passed, run-is-passed}
+use Rattle.search.proofs.first_checks.Apart.{apart-open, apart-search, apart-run}
 use Rattle.files.specs.Content.{contentOf}
 use Rattle.files.specs.Calls.{handedContent, saveRefusal, Saves}
 use Rattle.files.specs.declared.saved.Saved.{Saved}

@@ -12,10 +12,8 @@ use native.Mathlib.Decide.{decLt}
 use lib.ListN.{length, getD, take, drop, set, replicate, length-set, length-append, length-drop, length-replicate, replicate-append-replicate, take-append-drop, List·getD-eq-default}
 use lib.Seq.{getD-take, getD-drop, drop-cons, append-snoc, set-at, take-all, drop-drop, drop-length, length-take-le}
 use borrow.Rule.Slice.PartMut.{putMid}
-use Rattle.splits.specs.Problem.{total}
-use Rattle.splits.specs.Splits.{below}
-use Rattle.search.specs.Parts.{splice}
-use Rattle.search.proofs.Copies.{zeros-at, drop-zeros, put-part, splice-between, splice-splice, splice-none}
+use Rattle.problem.specs.Lists.{total, below, splice}
+use Rattle.problem.proofs.Copies.{zeros-at, drop-zeros, put-part, splice-between, splice-splice, splice-none}
 use Rattle.files.specs.Blocks.{wordAt}
 use Rattle.files.specs.Content.{each}
 use Rattle.files.specs.Reading.{blockWord, contentWord, contentFrom, trianglePlace}

@@ -9,8 +9,8 @@ use lib.ListN.{length, getD, take, drop}
 use lib.Seq.{getD-take, getD-drop}
 use lib.Dec.{eqb, leb}
 use borrow.Author.Tests.{le-leb, lt-leb, eq-eqb, ne-eqb}
-use Rattle.splits.specs.Subproblems.{every}
-use Rattle.search.proofs.FirstLoops.{every-stop, every-turn}
+use Rattle.problem.specs.Lists.{every}
+use Rattle.problem.proofs.FirstLoops.{every-stop, every-turn}
 use Rattle.files.specs.Blocks.{wordAt, checkOf, blocksFor}
 use Rattle.files.specs.Reading.{blockWord, headOf, contentWord, saidN, saidD, saidSubproblems, goodBlock, refusalOfFile}
 use Rattle.files.specs.Work.Said.{goodIn, valueAt, partIn, numbersSaid, zeroIn, filled}

@@ -5,9 +5,9 @@ use Prim.Native.Nat.{ℕ, zero, suc, _+_, _*_, _/_, _^_, _≤_, _<_}
 use native.Mathlib.Omega.{arith}
 use native.Mathlib.Nat.{mul-assoc, le-of-suc-le-suc}
 use lib.Arith.{lt-one}
-use Rattle.splits.specs.Masks.{bit}
-use Rattle.splits.specs.Problem.{total}
-use Rattle.splits.proofs.Masks.{bit-zero, bit-suc}
+use Rattle.problem.specs.Masks.{bit}
+use Rattle.problem.specs.Lists.{total}
+use Rattle.problem.proofs.mask.Masks.{bit-zero, bit-suc}
 use Rattle.files.specs.Reading.{gathered}
 use Rattle.files.proofs.Lists.{total-same}
 use Rattle.files.proofs.Triangle.{total-mul}

@@ -11,11 +11,10 @@ use lib.ListN.{length, getD, replicate, length-append, length-map, List·getD-ap
 use lib.Seq.{getD-append-add, ext-getD}
 use lib.Dec.{ltb}
 use borrow.Author.Tests.{lt-ltb, le-ltb}
-use Rattle.splits.specs.Problem.{total}
-use Rattle.splits.specs.Splits.{below, keep}
-use Rattle.splits.proofs.Products.{last}
-use Rattle.splits.proofs.Looking.{keep-append}
-use Rattle.search.proofs.Copies.{zeros-at}
+use Rattle.problem.specs.Lists.{total, below, keep}
+use Rattle.problem.proofs.Products.{last}
+use Rattle.splits.proofs.checks.Looking.{keep-append}
+use Rattle.problem.proofs.Copies.{zeros-at}
 use Rattle.files.specs.Content.{each, after}
 
 -- The sum of the same number, n times; sums of equal numbers are equal.

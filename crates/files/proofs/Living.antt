@@ -9,11 +9,11 @@ use native.Mathlib.Decide.{ℕ-discrete}
 use lib.ListN.{length, getD, take, replicate, length-replicate}
 use lib.Dec.{eqb}
 use borrow.Author.Tests.{ne-eqb}
-use Rattle.splits.specs.Problem.{Allow-same, Proper, tableOf}
-use Rattle.splits.specs.Promises.{AgreeApart}
-use Rattle.search.specs.Agenda.{problemOf, stackOf, slotsIn, agendaOf}
+use Rattle.problem.specs.Problem.{Allow-same, Proper, tableOf, AgreeApart, problemOf}
+use Rattle.search.specs.Agenda.{stackOf, slotsIn, agendaOf}
 use Rattle.search.specs.Runs.{requestsIn}
-use Rattle.search.specs.FirstChecks.{WholeSlots, runRefusal}
+use Rattle.search.specs.FirstChecks.{WholeSlots}
+use Rattle.search.specs.Tests.FirstChecks.{runRefusal}
 use Rattle.search.specs.Verdicts.{numberOf, verdictOf}
 use Rattle.search.specs.Calls.{searchOf, Runs}
 use Rattle.search.specs.Promises.{Shown, Handed, Leaves, Reached, Has-solution}
@@ -21,8 +21,8 @@ use Rattle.search.specs.declared.state.State.{State}
 use Rattle.search.specs.declared.state.Ran.{Ran}
 use Rattle.search.specs.declared.state.Verdict.{Verdict}
 use Rattle.search.specs.declared.state.Verdict.the-variants.{None}
-use Rattle.search.proofs.FirstPassing.{Passed, run-is-passed}
-use Rattle.search.proofs.Encoding.{length-stackOf}
+use Rattle.search.proofs.first_checks.FirstPassing.{Passed, run-is-passed}
+use Rattle.search.proofs.agenda.Encoding.{length-stackOf}
 use Rattle.search.proofs.HandedOn.{known, leaves, some-slots, whole-requests}
 use Rattle.search.proofs.Promises.{open-leaves, run-leaves, chooser-leaves, run-says, reached-passes, reached-unsolvable, solved-shows}
 use Rattle.files.specs.Blocks.{fileOf}

@@ -9,7 +9,7 @@ use lib.ListN.{length}
 use lib.Dec.{eqb}
 use borrow.Author.Tests.{eq-eqb}
 use Rattle.search.specs.Agenda.{stackOf, agendaOf}
-use Rattle.search.proofs.FirstPassing.{search-is-passed}
+use Rattle.search.proofs.first_checks.FirstPassing.{search-is-passed}
 use Rattle.search.proofs.HandedOn.{Shaped, agenda-small}
 use Rattle.files.specs.Reading.{saidN, saidD, saidSteps, saidChecks, saidSubproblems, saidDomains, saidAllowed, saidSearch, tableWords}
 use Rattle.files.specs.Calls.{loadRefusal, Loads}

@@ -11,11 +11,12 @@ use lib.ListN.{length, getD, take, replicate, length-append}
 use lib.Seq.{take-at}
 use lib.Dec.{eqb, ltb}
 use borrow.Author.Tests.{eq-eqb, ne-eqb, eqb-true, ltb-false}
-use Rattle.splits.proofs.Tests.{and-left, and-right}
+use Rattle.problem.proofs.Tests.{and-left, and-right}
 use Rattle.search.specs.Agenda.{slotsIn, agendaOf}
-use Rattle.search.specs.Parts.{splice}
-use Rattle.search.specs.FirstChecks.{orElse, wholeSlots, refusalOfLengths}
-use Rattle.search.proofs.FirstParts.{given-if, else-pass}
+use Rattle.problem.specs.Lists.{splice}
+use Rattle.problem.specs.Tests.FirstChecks.{orElse}
+use Rattle.search.specs.Tests.FirstChecks.{wholeSlots, refusalOfLengths}
+use Rattle.problem.proofs.first_checks.Parts.{given-if, else-pass}
 use Rattle.files.specs.Reading.{blocksIn, contentWord, contentFrom, saidN, saidD, saidSteps, saidChecks, saidSubproblems, saidDomains, saidAllowed, saidSearch, triangleWords, tableWords, refusalOfFile, refusalOfWords}
 use Rattle.files.specs.Calls.{loadRefusal, Loads}
 use Rattle.files.specs.Promises.{Bytes}

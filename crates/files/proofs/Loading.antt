@@ -9,15 +9,17 @@ use native.Mathlib.Nat.{mul-le-mul-right, div-mul-le-self, le-trans}
 use lib.ListN.{length, getD}
 use lib.Dec.{eqb, ltb}
 use borrow.Author.Tests.{eq-eqb, eqb-true, ltb-false}
-use Rattle.splits.specs.Problem.{Allow-same, tableOf}
-use Rattle.splits.proofs.Tests.{and-left, and-right}
+use Rattle.problem.specs.Problem.{Allow-same, tableOf}
+use Rattle.problem.proofs.Tests.{and-left, and-right}
 use Rattle.search.specs.Agenda.{stackOf, slotsIn, agendaOf}
-use Rattle.search.specs.FirstChecks.{WholeSlots, orElse, wholeSlots, refusalOfLengths}
-use Rattle.search.proofs.FirstPassing.{PassedSearch}
-use Rattle.search.proofs.Encoding.{agenda-back, length-agenda}
-use Rattle.search.proofs.FirstParts.{given-if, else-pass}
+use Rattle.search.specs.FirstChecks.{WholeSlots}
+use Rattle.problem.specs.Tests.FirstChecks.{orElse}
+use Rattle.search.specs.Tests.FirstChecks.{wholeSlots, refusalOfLengths}
+use Rattle.search.proofs.first_checks.FirstPassing.{PassedSearch}
+use Rattle.search.proofs.agenda.Encoding.{agenda-back, length-agenda}
+use Rattle.problem.proofs.first_checks.Parts.{given-if, else-pass}
 use Rattle.search.proofs.HandedOn.{agenda-zeros}
-use Rattle.search.proofs.Deserved.{slots-true, slots-is}
+use Rattle.search.proofs.first_checks.Deserved.{slots-true, slots-is}
 use Rattle.files.specs.Reading.{contentWord, contentFrom, saidN, saidD, saidSteps, saidChecks, saidSubproblems, saidDomains, saidAllowed, saidSearch, tableWords, refusalOfFile, refusalOfWords}
 use Rattle.files.specs.Calls.{loadRefusal}
 use Rattle.files.specs.Promises.{Bytes}

@@ -13,13 +13,11 @@ use lib.ListN.{length, getD, take, drop, replicate, length-drop, length-replicat
 use lib.Seq.{getD-take, getD-drop, length-take-le}
 use lib.Dec.{ltb}
 use borrow.Author.Tests.{lt-ltb, le-ltb}
-use Rattle.splits.specs.Masks.{bit}
-use Rattle.splits.specs.Problem.{total}
-use Rattle.splits.specs.Splits.{below}
-use Rattle.splits.proofs.Masks.{bit-above}
-use Rattle.search.specs.Matrix.{Turned}
-use Rattle.search.specs.Parts.{splice}
-use Rattle.search.proofs.Copies.{zeros-at, drop-zeros}
+use Rattle.problem.specs.Masks.{bit}
+use Rattle.problem.specs.Lists.{total, below, splice}
+use Rattle.problem.proofs.mask.Masks.{bit-above}
+use Rattle.problem.specs.Matrix.{Turned}
+use Rattle.problem.proofs.Copies.{zeros-at, drop-zeros}
 use Rattle.files.specs.Reading.{contentWord, saidN, saidD, saidAllowed, triangleWords, trianglePlace, gathered, agendaFrom}
 use Rattle.files.specs.Work.Said.{Numbers, maskIn, allowedIn, columnOf, columnPart, pairPart, partIn, slotsPart}
 use Rattle.files.proofs.Lists.{map-is, map-same, total-below, padded-at}

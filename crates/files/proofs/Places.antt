@@ -7,8 +7,7 @@ use native.Mathlib.Omega.{arith}
 use native.Mathlib.Nat.{zero-add}
 use native.Mathlib.Decide.{decLt}
 use lib.ListN.{length, getD, List·getD-eq-default}
-use Rattle.splits.specs.Problem.{total}
-use Rattle.splits.specs.Splits.{below}
+use Rattle.problem.specs.Lists.{total, below}
 use Rattle.files.specs.Blocks.{wordAt, checkOf}
 use Rattle.files.specs.Reading.{blockWord, headOf, contentWord, contentFrom}
 use Rattle.files.specs.Work.Said.{valueAt, lowWord}

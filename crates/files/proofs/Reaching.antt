@@ -2,8 +2,7 @@
 -- Assumes nothing.
 use mathlib.Core.List.{List}
 use Prim.Native.Nat.{ℕ}
-use Rattle.splits.specs.Problem.{Allow-same, Proper, tableOf}
-use Rattle.search.specs.Agenda.{problemOf}
+use Rattle.problem.specs.Problem.{Allow-same, Proper, tableOf, problemOf}
 use Rattle.search.specs.Runs.{Search}
 use Rattle.search.specs.Promises.{Passes, Reached, opened, ran, chose, moved}
 use Rattle.search.proofs.Promises.{reached-passes}

@@ -11,9 +11,11 @@ use lib.ListN.{length}
 use lib.Dec.{eqb, ltb}
 use borrow.Author.Tests.{lt-ltb, le-ltb}
 use Rattle.search.specs.Agenda.{slotsIn}
-use Rattle.search.specs.FirstChecks.{Deserves-3, orElse, wholeSlots, refusalOfLengths, searchRefusal}
+use Rattle.search.specs.FirstChecks.{Deserves-3}
+use Rattle.problem.specs.Tests.FirstChecks.{orElse}
+use Rattle.search.specs.Tests.FirstChecks.{wholeSlots, refusalOfLengths, searchRefusal}
 use Rattle.search.specs.declared.state.State.{State}
-use Rattle.search.proofs.FirstPassing.{lengths-none}
+use Rattle.search.proofs.first_checks.FirstPassing.{lengths-none}
 use Rattle.search.proofs.Exactly.{search-refusal-few}
 use Rattle.files.specs.Blocks.{blocksFor}
 use Rattle.files.specs.Reading.{saidN, saidD, saidSubproblems, Deserves-14, Deserves-15, refusalOfFile, refusalOfWords}

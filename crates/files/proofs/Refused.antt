@@ -8,11 +8,12 @@ use native.Mathlib.Omega.{arith}
 use native.Mathlib.Decide.{ℕ-discrete}
 use lib.Dec.{eqb, leb, ltb}
 use borrow.Author.Tests.{ne-eqb, lt-ltb, le-ltb, leb-true, not-true, not-false}
-use Rattle.splits.specs.Subproblems.{every}
-use Rattle.splits.proofs.Tests.{and-left, and-right}
+use Rattle.problem.specs.Lists.{every}
+use Rattle.problem.proofs.Tests.{and-left, and-right}
 use Rattle.search.specs.Agenda.{slotsIn}
-use Rattle.search.specs.FirstChecks.{orElse, allObey, refusalOfNumbers, refusalOfLengths, sizesRefusal}
-use Rattle.search.proofs.FirstParts.{given-if, else-first, else-rest, else-pass}
+use Rattle.problem.specs.Tests.FirstChecks.{orElse, refusalOfNumbers}
+use Rattle.search.specs.Tests.FirstChecks.{allObey, refusalOfLengths, sizesRefusal}
+use Rattle.problem.proofs.first_checks.Parts.{given-if, else-first, else-rest, else-pass}
 use Rattle.files.specs.Blocks.{blocksFor}
 use Rattle.files.specs.Reading.{
   blocksIn,

@@ -10,13 +10,13 @@ use lib.Arith.{lt-of-le-ne}
 use lib.ListN.{length, getD, List·getD-eq-default}
 use lib.Seq.{take-all}
 use borrow.Author.Tests.{lt-ltb}
-use Rattle.splits.specs.Problem.{Proper, Table, Allow-same}
+use Rattle.problem.specs.Problem.{Proper, Table, Allow-same}
 use Rattle.splits.specs.Subproblems.{Rules}
-use Rattle.splits.specs.Splits.{below}
+use Rattle.problem.specs.Lists.{below}
 use Rattle.splits.specs.declared.subproblem.Subproblem.{Subproblem}
 use Rattle.search.specs.Agenda.{Shape, stackWords}
 use Rattle.search.specs.Runs.{Search}
-use Rattle.search.proofs.Encoding.{length-stackOf, stack-of-words}
+use Rattle.search.proofs.agenda.Encoding.{length-stackOf, stack-of-words}
 use Rattle.files.specs.Blocks.{blocksFor, fileOf}
 use Rattle.files.specs.Content.{contentOf, triangle}
 use Rattle.files.specs.Reading.{blocksIn, contentWord, contentFrom, saidN, saidD, saidSteps, saidChecks, saidSubproblems, saidDomains, saidAllowed, saidAgenda, saidSearch, saidWords, agendaFrom, triangleWords}

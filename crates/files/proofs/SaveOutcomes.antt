@@ -8,11 +8,13 @@ use native.Mathlib.Omega.{arith}
 use lib.ListN.{length, getD, drop, replicate}
 use lib.Dec.{eqb, leb, ltb}
 use borrow.Author.Tests.{lt-ltb, le-ltb, leb-true}
-use Rattle.splits.proofs.Tests.{and-left, and-right}
-use Rattle.search.specs.Agenda.{problemOf, slotsIn, stackOf}
-use Rattle.search.specs.FirstChecks.{wholeSlots, refusalOfLengths, allObey, zerosFrom, refusalOfSearch, openRefusal, searchRefusal}
+use Rattle.problem.proofs.Tests.{and-left, and-right}
+use Rattle.problem.specs.Problem.{problemOf}
+use Rattle.search.specs.Agenda.{slotsIn, stackOf}
+use Rattle.search.specs.Tests.FirstChecks.{wholeSlots, refusalOfLengths, allObey, zerosFrom, refusalOfSearch, openRefusal, searchRefusal}
 use Rattle.search.specs.declared.state.State.{State}
-use Rattle.search.proofs.FirstParts.{given-if, else-first, else-rest, else-pass, numbers-pass, lengths-pass, open-parts, slots-within}
+use Rattle.problem.proofs.first_checks.Parts.{given-if, else-first, else-rest, else-pass, numbers-pass}
+use Rattle.search.proofs.first_checks.FirstParts.{lengths-pass, open-parts, slots-within}
 use Rattle.files.specs.Blocks.{blocksFor, firstBlocks, fileOf}
 use Rattle.files.specs.Reading.{wordCount}
 use Rattle.files.specs.Calls.{handedContent, saveRefusal, Saves}

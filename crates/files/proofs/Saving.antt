@@ -8,14 +8,14 @@ use native.Mathlib.Nat.{mul-le-mul-right, div-mul-le-self, le-trans, lt-of-lt-of
 use native.Mathlib.Decide.{decLt}
 use lib.Pow.{pow-mono}
 use lib.ListN.{length, List·getD-eq-default}
-use Rattle.splits.specs.Problem.{Table, tableOf}
-use Rattle.splits.specs.Splits.{below}
+use Rattle.problem.specs.Problem.{Table, tableOf, Words}
+use Rattle.problem.specs.Lists.{below}
 use Rattle.splits.specs.declared.subproblem.Subproblem.{Subproblem}
-use Rattle.search.specs.Agenda.{Words, Shape, stackOf, stackWords, slotsIn}
+use Rattle.search.specs.Agenda.{Shape, stackOf, stackWords, slotsIn}
 use Rattle.search.specs.Calls.{searchOf}
 use Rattle.search.specs.declared.state.State.{State}
-use Rattle.search.proofs.FirstPassing.{PassedSearch}
-use Rattle.search.proofs.Encoding.{length-stackOf, part-small, stack-of-words}
+use Rattle.search.proofs.first_checks.FirstPassing.{PassedSearch}
+use Rattle.search.proofs.agenda.Encoding.{length-stackOf, part-small, stack-of-words}
 use Rattle.search.proofs.HandedOn.{append-small}
 use Rattle.files.specs.Blocks.{blocksFor, fileOf}
 use Rattle.files.specs.Content.{each, after, triangle, contentOf}

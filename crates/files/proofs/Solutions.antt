@@ -5,9 +5,8 @@ use mathlib.Core.Logic.{_↔_}
 use mathlib.Core.List.{List}
 use Prim.Native.Nat.{ℕ, _^_, _<_}
 use lib.ListN.{getD}
-use Rattle.splits.specs.Problem.{Proper, Table, Allow-same, Solution, tableOf}
-use Rattle.splits.proofs.Masks.{member-lt}
-use Rattle.search.specs.Agenda.{problemOf}
+use Rattle.problem.specs.Problem.{Proper, Table, Allow-same, Solution, tableOf, problemOf}
+use Rattle.problem.proofs.mask.Masks.{member-lt}
 use Rattle.search.specs.Runs.{Search}
 use Rattle.files.specs.Reading.{saidN, saidD, saidDomains, saidAllowed, tableWords}
 use Rattle.files.specs.Promises.{Says}

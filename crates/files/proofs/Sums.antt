@@ -6,9 +6,7 @@ use Prim.Native.Nat.{ℕ, zero, suc, _+_, _*_, _/_, _%_, _≤_, _<_}
 use native.Mathlib.Omega.{arith}
 use native.Mathlib.Decide.{ℕ-discrete, decLt}
 use lib.ListN.{length, getD, List·getD-eq-default}
-use Rattle.splits.specs.Problem.{total}
-use Rattle.splits.specs.Splits.{below}
-use Rattle.splits.specs.Measure.{sum}
+use Rattle.problem.specs.Lists.{total, below, sum}
 use Rattle.files.specs.Blocks.{carried, onesSum, checkOf}
 use Rattle.files.proofs.Lists.{map-length, map-at}
 

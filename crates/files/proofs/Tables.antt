@@ -2,10 +2,10 @@
 -- Assumes nothing.
 use mathlib.Core.Path.{sym}
 use Prim.Native.Nat.{ℕ, _<_, _^_}
-use Rattle.splits.specs.Problem.{Problem, Proper, Table, Allow-same}
+use Rattle.problem.specs.Problem.{Problem, Proper, Table, Allow-same}
 use Rattle.splits.specs.Subproblems.{domain, Rules}
 use Rattle.splits.specs.declared.subproblem.Subproblem.{Subproblem}
-use Rattle.splits.proofs.Masks.{member-lt}
+use Rattle.problem.proofs.mask.Masks.{member-lt}
 
 -- The problem with another table.
 abbrev pub with-table : ℕ → ℕ → (ℕ → ℕ) → Table → Problem

@@ -5,8 +5,8 @@ use mathlib.Core.Logic.{_⊎_, inl, inr, _↔_}
 use mathlib.Core.Bool.{Bool, true, false, cond, _&&_}
 use Prim.Native.Nat.{ℕ}
 use borrow.Author.Tests.{ne-eqb}
-use Rattle.search.specs.FirstChecks.{orElse}
-use Rattle.search.proofs.Decisions.{Refutes}
+use Rattle.problem.specs.Tests.FirstChecks.{orElse}
+use Rattle.problem.proofs.Decisions.{Refutes}
 
 -- Of two tests that do not both pass, one fails.
 pub and-cases : (a b : Bool) → (a && b) ≡ false → (a ≡ false) ⊎ (b ≡ false)

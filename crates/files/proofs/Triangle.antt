@@ -10,9 +10,9 @@ use lib.Arith.{digits-lt}
 use lib.ListN.{length, getD}
 use lib.Dec.{eqb}
 use borrow.Author.Tests.{ne-eqb}
-use Rattle.splits.specs.Problem.{Table, Allow-same, tableOf, total}
-use Rattle.splits.specs.Splits.{below}
-use Rattle.splits.proofs.Ranges.{word-at}
+use Rattle.problem.specs.Problem.{Table, Allow-same, tableOf}
+use Rattle.problem.specs.Lists.{total, below}
+use Rattle.problem.proofs.tables.Ranges.{word-at}
 use Rattle.files.specs.Content.{each, after, triangle}
 use Rattle.files.specs.Reading.{triangleWords, trianglePlace, tableWords}
 use Rattle.files.proofs.Lists.{total-const, total-same, total-below, map-length, map-at, after-is, each-map, each-same, each-length, each-at, seq, seq-is, seq-each}

@@ -13,13 +13,11 @@ use lib.ListN.{length, getD}
 use lib.Seq.{take-all}
 use lib.Dec.{eqb, leb}
 use borrow.Author.Tests.{eqb-true, eqb-false, leb-true, leb-false}
-use Rattle.splits.specs.Problem.{total}
-use Rattle.splits.specs.Subproblems.{every}
-use Rattle.splits.specs.Splits.{below}
-use Rattle.splits.proofs.Tests.{and-left, and-right, every-at}
-use Rattle.search.proofs.Decisions.{Refutes, every-fails}
-use Rattle.search.proofs.FirstParts.{given-if}
-use Rattle.search.proofs.FirstPassing.{gives-none}
+use Rattle.problem.specs.Lists.{total, every, below}
+use Rattle.problem.proofs.Tests.{and-left, and-right, every-at}
+use Rattle.problem.proofs.Decisions.{Refutes, every-fails}
+use Rattle.problem.proofs.first_checks.Parts.{given-if}
+use Rattle.problem.proofs.first_checks.Passing.{gives-none}
 use Rattle.files.specs.Blocks.{fileBytes, wordAt, checkOf, blocksFor, headedBlock, blockWords, firstBlocks, fileOf}
 use Rattle.files.specs.Content.{each}
 use Rattle.files.specs.Reading.{blocksIn, blockWord, headOf, contentWord, Deserves-14, goodBlock, refusalOfFile}

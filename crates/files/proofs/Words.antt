@@ -7,7 +7,7 @@ use native.Mathlib.Omega.{arith}
 use native.Mathlib.Numerals.{add-one}
 use lib.ListN.{length, getD, take}
 use lib.Seq.{take-suc}
-use Rattle.splits.specs.Splits.{below}
+use Rattle.problem.specs.Lists.{below}
 use Rattle.files.specs.Blocks.{fileBytes, wordAt}
 
 -- Two bytes a word.

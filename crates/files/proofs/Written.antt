@@ -11,12 +11,11 @@ use native.Mathlib.Numerals.{add-one}
 use lib.ListN.{length, getD, take, drop, set, replicate, length-append, length-drop, List·getD-append}
 use lib.Seq.{length-take-le, take-suc, drop-cons, append-snoc, set-at, take-all, take-at, drop-length, ext-getD}
 use borrow.Rule.Slice.PartMut.{putMid}
-use Rattle.splits.specs.Problem.{total, tableOf}
-use Rattle.splits.specs.Splits.{below}
-use Rattle.search.specs.Parts.{splice}
+use Rattle.problem.specs.Lists.{total, below, splice}
+use Rattle.problem.specs.Problem.{tableOf}
 use Rattle.search.specs.declared.state.State.{State}
-use Rattle.search.proofs.Copies.{splice-splice}
-use Rattle.search.proofs.Encoding.{stack-of-words, length-stackOf}
+use Rattle.problem.proofs.Copies.{splice-splice}
+use Rattle.search.proofs.agenda.Encoding.{stack-of-words, length-stackOf}
 use Rattle.files.specs.Blocks.{fileBytes, wordAt, checkOf, contentOfBlock, headedBlock, blockWords, firstBlocks}
 use Rattle.files.specs.Content.{each, triangle, contentOf}
 use Rattle.files.specs.Reading.{blockWord, headOf, triangleWords, wordCount}

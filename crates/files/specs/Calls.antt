@@ -5,9 +5,10 @@ use mathlib.Core.List.{List, _++_}
 use Prim.Native.Nat.{ℕ, _*_, _<_}
 use lib.ListN.{length, drop}
 use lib.Dec.{eqb, ltb}
-use Rattle.splits.specs.Problem.{tableOf}
+use Rattle.problem.specs.Problem.{tableOf}
 use Rattle.search.specs.Agenda.{slotsIn, agendaOf}
-use Rattle.search.specs.FirstChecks.{orElse, searchRefusal, refusalOfLengths}
+use Rattle.problem.specs.Tests.FirstChecks.{orElse}
+use Rattle.search.specs.Tests.FirstChecks.{searchRefusal, refusalOfLengths}
 use Rattle.search.specs.Calls.{searchOf}
 use Rattle.search.specs.declared.state.State.{State}
 use Rattle.files.specs.Blocks.{checkOf, blocksFor, fileOf}

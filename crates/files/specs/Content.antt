@@ -3,8 +3,8 @@ use mathlib.Core.List.{List, [], _∷_, _++_, map}
 use Prim.Native.Nat.{ℕ, _+_, _/_, _%_, _^_}
 use lib.ListN.{length}
 use lib.Dec.{ltb}
-use Rattle.splits.specs.Problem.{Table}
-use Rattle.splits.specs.Splits.{below, keep}
+use Rattle.problem.specs.Problem.{Table}
+use Rattle.problem.specs.Lists.{below, keep}
 use Rattle.search.specs.Agenda.{stackWords}
 use Rattle.search.specs.Runs.{Search}
 

@@ -4,12 +4,14 @@ use mathlib.Core.Logic.{_↔_}
 use mathlib.Core.List.{List, List·Memᴰ, [], _∷_, _++_}
 use Prim.Native.Nat.{ℕ, _+_, _*_, _/_, _%_, _≤_, _<_}
 use lib.ListN.{length, getD, take, drop}
-use Rattle.splits.specs.Problem.{Problem, Proper, Table, Allow-same, Solution, tableOf}
-use Rattle.splits.specs.Measure.{sum}
-use Rattle.splits.specs.Promises.{Solvable, AgreeApart, One}
+use Rattle.problem.specs.Problem.{Problem, Proper, Table, Allow-same, Solution, tableOf, AgreeApart, Words, problemOf}
+use Rattle.problem.specs.Lists.{sum}
+use Rattle.splitting.specs.Promises.{Solvable}
+use Rattle.problem.specs.Answers.{One}
 use Rattle.splits.specs.declared.subproblem.Subproblem.{Subproblem}
-use Rattle.search.specs.Agenda.{Words, problemOf, stackOf, slotsIn, agendaOf}
-use Rattle.search.specs.FirstChecks.{WholeSlots, WholeRequests, Deserves-3, searchRefusal}
+use Rattle.search.specs.Agenda.{stackOf, slotsIn, agendaOf}
+use Rattle.search.specs.FirstChecks.{WholeSlots, WholeRequests, Deserves-3}
+use Rattle.search.specs.Tests.FirstChecks.{searchRefusal}
 use Rattle.search.specs.Runs.{Search}
 use Rattle.search.specs.Calls.{searchOf, Opens, Runs, Chooses}
 use Rattle.search.specs.Promises.{Shown, Limited, Handed, Reached, Has-solution}

@@ -6,13 +6,14 @@ use mathlib.Core.List.{List, map}
 use Prim.Native.Nat.{ℕ, suc, _+_, _-_, _*_, _/_, _%_, _^_, _≤_, _<_}
 use lib.ListN.{length, getD}
 use lib.Dec.{eqb, leb, ltb}
-use Rattle.splits.specs.Masks.{bit}
-use Rattle.splits.specs.Problem.{Problem, Table, total}
-use Rattle.splits.specs.Subproblems.{every}
-use Rattle.splits.specs.Splits.{below}
+use Rattle.problem.specs.Masks.{bit}
+use Rattle.problem.specs.Problem.{Problem, Table}
+use Rattle.problem.specs.Lists.{total, every, below}
 use Rattle.search.specs.Agenda.{stackOf}
 use Rattle.search.specs.Runs.{Search}
-use Rattle.search.specs.FirstChecks.{Deserves-1, Deserves-2, Deserves-4, Deserves-6, allObey}
+use Rattle.problem.specs.FirstChecks.{Deserves-1, Deserves-2, Deserves-4}
+use Rattle.search.specs.FirstChecks.{Deserves-6}
+use Rattle.search.specs.Tests.FirstChecks.{allObey}
 use Rattle.files.specs.Blocks.{wordAt, checkOf, blocksFor}
 use Rattle.files.specs.Content.{each}
 

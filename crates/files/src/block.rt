@@ -3,7 +3,7 @@ ghost use mathlib.Core.Path.{_≡_};
 ghost use mathlib.Core.List.{map};
 ghost use Prim.Native.Nat.{_+_, _*_, _/_, _%_, _≤_, _<_};
 ghost use lib.ListN.{length, getD};
-ghost use Rattle.splits.specs.Splits.{below};
+ghost use Rattle.problem.specs.Lists.{below};
 ghost use Rattle.files.specs.Blocks.{wordAt};
 ghost use Rattle.files.specs.Reading.{blockWord, contentWord};
 ghost use Rattle.files.specs.Work.Said.{lowWord, partIn};

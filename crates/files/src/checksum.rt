@@ -3,7 +3,7 @@ use crate::block;
 ghost use mathlib.Core.Path.{_≡_};
 ghost use Prim.Native.Nat.{_+_, _-_, _/_, _%_, _<_};
 ghost use lib.ListN.{length};
-ghost use Rattle.splits.specs.Problem.{total};
+ghost use Rattle.problem.specs.Lists.{total};
 ghost use Rattle.files.specs.Blocks.{checkOf};
 ghost use Rattle.files.specs.Reading.{blockWord, headOf};
 ghost use Rattle.files.specs.Calls.{Check-of};

@@ -6,11 +6,11 @@ ghost use mathlib.Core.Path.{_≡_};
 ghost use mathlib.Core.List.{_++_};
 ghost use Prim.Native.Nat.{_+_, _-_, _*_, _≤_, _<_};
 ghost use lib.ListN.{length, replicate};
-ghost use Rattle.splits.specs.Problem.{tableOf};
+ghost use Rattle.problem.specs.Problem.{tableOf};
 ghost use Rattle.files.specs.Content.{triangle};
 ghost use Rattle.files.specs.Reading.{saidN, saidD, triangleWords, agendaFrom, wordCount};
 ghost use Rattle.files.specs.Calls.{handedContent};
-ghost use Rattle.search.specs.Parts.{splice};
+ghost use Rattle.problem.specs.Lists.{splice};
 ghost use Rattle.files.specs.Work.Said.{Numbers, partIn};
 ghost use Rattle.files.specs.Work.Saved.{zeros, Savable, header};
 

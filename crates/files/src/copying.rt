@@ -2,7 +2,7 @@
 ghost use mathlib.Core.Path.{_≡_};
 ghost use Prim.Native.Nat.{_+_, _-_, _≤_};
 ghost use lib.ListN.{length, replicate};
-ghost use Rattle.search.specs.Parts.{splice};
+ghost use Rattle.problem.specs.Lists.{splice};
 ghost use Rattle.files.specs.Work.Said.{partIn};
 
 // So many words from a place on.

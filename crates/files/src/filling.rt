@@ -6,8 +6,7 @@ use crate::said;
 ghost use mathlib.Core.Path.{_≡_};
 ghost use Prim.Native.Nat.{suc, _+_, _-_, _*_, _/_, _<_, _≤_};
 ghost use lib.ListN.{length};
-ghost use Rattle.splits.specs.Problem.{total};
-ghost use Rattle.search.specs.Parts.{splice};
+ghost use Rattle.problem.specs.Lists.{total, splice};
 ghost use Rattle.files.specs.Reading.{contentFrom, saidN, saidD, saidSubproblems};
 ghost use Rattle.files.specs.Work.Said.{Numbers, columnPart, rowPart, tablePart, partIn, slotsPart, Lent};
 ghost use Rattle.files.specs.Work.Saved.{zeros};
@@ -41,7 +40,7 @@ fn put_turned(rows: &[u16], masks: &mut [u16], at: usize) -> usize
 {
     let mut all = [0u16; 16];
     copying::put_at(rows, &mut all[..16], 0);
-    let turned = search::matrix::turned(all);
+    let turned = problem::matrix::turned(all);
     let count = rows.len();
     copying::put_at(&turned[..count], masks, at)
 }

@@ -32,7 +32,7 @@ pub fn save(
 ) -> Saved
     ensures { λ r. ⌜ Saves n d (now (domains .entry)) (now (tables .entry)) (now (agenda .entry)) state (now (file .entry)) (now (file .exit)) r ⌝ }
 {
-    let refusal = search::first::search_refusal(n, d, domains, tables, agenda, state);
+    let refusal = search::first_checks::search_refusal(n, d, domains, tables, agenda, state);
     if refusal != 0 {
         return Saved { refusal, blocks: 0 };
     }

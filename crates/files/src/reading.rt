@@ -8,8 +8,8 @@ ghost use mathlib.Core.Path.{_≡_};
 ghost use mathlib.Core.Bool.{cond};
 ghost use Prim.Native.Nat.{_+_, _-_, _*_, _/_, _<_, _≤_};
 ghost use lib.ListN.{length};
-ghost use Rattle.splits.specs.Subproblems.{every};
-ghost use Rattle.search.specs.FirstChecks.{orElse};
+ghost use Rattle.problem.specs.Lists.{every};
+ghost use Rattle.problem.specs.Tests.FirstChecks.{orElse};
 ghost use Rattle.files.specs.Reading.{goodBlock, refusalOfFile, refusalOfWords};
 ghost use Rattle.files.specs.Calls.{loadRefusal};
 ghost use Rattle.files.specs.Work.Said.{goodIn, numbersSaid, zeroIn, filled, sizedIn, Ready};
@@ -142,7 +142,7 @@ fn refusal_of_rules(file: &[u8], words: &[u16], tables: &[u16]) -> u32
     ensures { λ r. ⌜ r ≡ refusalOfWords (now (file .entry)) ⌝ }
 {
     let n = said::n(file);
-    let refusal = search::first::search_refusal(
+    let refusal = search::first_checks::search_refusal(
         n,
         said::d(file),
         copying::part(words, 9, n),
@@ -173,7 +173,7 @@ pub(crate) fn refusal(
         return rules;
     }
     let n = said::n(file);
-    let sizes = search::first::sizes_refusal(n, said::d(file), domains, tables, agenda);
+    let sizes = search::first_checks::sizes_refusal(n, said::d(file), domains, tables, agenda);
     if sizes != 0 {
         return sizes;
     }

@@ -6,7 +6,7 @@ use search::state::State;
 use search::state::Steps;
 ghost use mathlib.Core.Path.{_≡_};
 ghost use Prim.Native.Nat.{suc, _+_, _-_, _*_, _<_, _≤_};
-ghost use Rattle.splits.specs.Problem.{total};
+ghost use Rattle.problem.specs.Lists.{total};
 ghost use Rattle.files.specs.Reading.{contentWord, saidN, saidD, saidSubproblems, trianglePlace};
 ghost use Rattle.files.specs.Work.Said.{Numbers, StateSaid};
 

@@ -3,13 +3,14 @@
 use mathlib.Core.Path.{refl}
 use mathlib.Core.List.{List, List·Memᴰ, [], _∷_}
 use lib.Count.{ones, onesIn, trailingZeros}
-use Rattle.splits.specs.Masks.{bit, minus, smallest, smallerHalf}
-use Rattle.splits.specs.Problem.{possibilities, product, total}
-use Rattle.splits.specs.Subproblems.{empty, allInstantiated, some, every}
-use Rattle.splits.specs.Splits.{below, keep, changed, instantiate, without, cut, cutBeside, atTargets, forbids, instantiatedOther, forbidden, precluded, disjunct, extract, backtracking, forwardChecking, idc, halving, extraction, named, pieces}
+use Rattle.problem.specs.Masks.{bit, minus, smallest, smallerHalf}
+use Rattle.problem.specs.Problem.{possibilities}
+use Rattle.problem.specs.Lists.{product, total, some, every, below, keep, changed}
+use Rattle.splits.specs.Subproblems.{empty, allInstantiated}
+use Rattle.splits.specs.Splits.{instantiate, without, cut, cutBeside, atTargets, forbids, instantiatedOther, forbidden, precluded, disjunct, extract, backtracking, forwardChecking, idc, halving, extraction, named, pieces}
 use Rattle.splits.specs.Checks.{lookedAt, others, tried, valuesIn, checks}
-use Rattle.splits.specs.Refusals.{refused-7, refused-8, refused-9, bad, someBad, allSame, refused-10, refusalOf}
-use Rattle.splits.proofs.Lists.{each-more, each-none}
+use Rattle.splits.specs.Tests.Refusals.{refused-7, refused-8, refused-9, bad, someBad, allSame, refused-10, refusalOf}
+use Rattle.problem.proofs.Lists.{each-more, each-none}
 use Rattle.search.specs.Agenda.{holding}
 use Rattle.search.specs.Verdicts.{finished, verdictOf}
 use Rattle.search.specs.Runs.{splitTop, step, refusalOfTop, refusalOfRequest, runFrom}

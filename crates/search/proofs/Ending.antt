@@ -8,14 +8,15 @@ use lib.ListN.{length}
 use lib.Dec.{eqb}
 use borrow.Author.Tests.{eq-eqb, ne-eqb}
 use Rattle.splits.specs.declared.subproblem.Subproblem.{Subproblem}
-use Rattle.search.specs.Agenda.{problemOf, stackOf, agendaOf}
+use Rattle.problem.specs.Problem.{problemOf}
+use Rattle.search.specs.Agenda.{stackOf, agendaOf}
 use Rattle.search.specs.Verdicts.{verdictOf}
 use Rattle.search.specs.Runs.{Search, Stopped, step, splitTop, refusalOfTop, refusalOfRequest, runFrom}
 use Rattle.search.specs.Chooser.{chosen, chooseFrom}
-use Rattle.search.specs.FirstChecks.{openRefusal}
+use Rattle.search.specs.Tests.FirstChecks.{openRefusal}
 use Rattle.search.specs.Calls.{opening, Opens, Ends}
-use Rattle.search.specs.Work.Steps.{StopsAt}
-use Rattle.search.specs.Work.Ends.{Used, endedBy}
+use Rattle.search.specs.Loops.Steps.{StopsAt}
+use Rattle.search.specs.Loops.Ends.{Used, endedBy}
 use Rattle.search.specs.declared.state.State.{State}
 use Rattle.search.specs.declared.state.Ran.{Ran}
 use Rattle.search.specs.declared.state.Verdict.{Verdict}

@@ -10,12 +10,13 @@ use native.Mathlib.Decide.{ℕ-discrete}
 use lib.ListN.{length, getD}
 use lib.Dec.{eqb, leb, ltb}
 use borrow.Author.Tests.{eq-eqb, ne-eqb, eqb-false}
-use Rattle.splits.specs.Problem.{Problem}
+use Rattle.problem.specs.Problem.{Problem, problemOf}
 use Rattle.splits.specs.Subproblems.{allInstantiated}
-use Rattle.splits.specs.Refusals.{refused-7, refused-8, refused-9, refused-10, refusalOf}
+use Rattle.splits.specs.Tests.Refusals.{refused-7, refused-8, refused-9, refused-10, refusalOf}
 use Rattle.splits.specs.declared.subproblem.Subproblem.{Subproblem}
-use Rattle.search.specs.Agenda.{problemOf, stackOf, slotsIn}
-use Rattle.search.specs.FirstChecks.{orElse, masksBelow, symmetric, allObey, zerosFrom, wholeSlots, refusalOfNumbers, refusalOfLengths, refusalOfRequests, refusalOfProblem, refusalOfSearch, openRefusal, searchRefusal, runRefusal}
+use Rattle.search.specs.Agenda.{stackOf, slotsIn}
+use Rattle.problem.specs.Tests.FirstChecks.{orElse, masksBelow, symmetric, refusalOfNumbers, refusalOfProblem}
+use Rattle.search.specs.Tests.FirstChecks.{allObey, zerosFrom, wholeSlots, refusalOfLengths, refusalOfRequests, refusalOfSearch, openRefusal, searchRefusal, runRefusal}
 use Rattle.search.specs.Verdicts.{numberOf, verdictOf, finished}
 use Rattle.search.specs.Runs.{Search, Stopped, step, splitTop, refusalOfTop, refusalOfRequest, run, requestsIn}
 use Rattle.search.specs.Chooser.{chosen, chooseFrom, choose}

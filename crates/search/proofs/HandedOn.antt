@@ -13,23 +13,24 @@ use lib.Seq.{getD-append-add, length-take-le}
 use lib.Pow.{pow-mono, pow-pos}
 use lib.Dec.{eqb}
 use borrow.Author.Tests.{eq-eqb, ne-eqb}
-use Rattle.splits.specs.Problem.{Problem, tableOf}
-use Rattle.splits.specs.Subproblems.{some}
+use Rattle.problem.specs.Problem.{Problem, tableOf, problemOf}
+use Rattle.problem.specs.Lists.{some}
 use Rattle.splits.specs.Splits.{pieces}
 use Rattle.splits.specs.declared.subproblem.Subproblem.{Subproblem}
 use Rattle.splits.proofs.Promises.{refusal-none}
-use Rattle.splits.specs.Ranges.{Sized}
-use Rattle.search.specs.Agenda.{problemOf, holding, Shape, stackOf, slotWords, stackWords, slotsIn, agendaOf}
+use Rattle.problem.specs.Ranges.{Sized}
+use Rattle.search.specs.Agenda.{holding, Shape, stackOf, slotWords, stackWords, slotsIn, agendaOf}
 use Rattle.search.specs.Runs.{Search, Stopped, step, refusalOfRequest, run, requestsIn}
 use Rattle.search.specs.Chooser.{choose}
-use Rattle.search.specs.FirstChecks.{openRefusal, WholeSlots, WholeRequests, refusalOfRequests}
+use Rattle.search.specs.Tests.FirstChecks.{openRefusal, refusalOfRequests}
+use Rattle.search.specs.FirstChecks.{WholeSlots, WholeRequests}
 use Rattle.search.specs.Calls.{searchOf, opening, Opens, Ends, Runs, Chooses, begun}
 use Rattle.search.specs.declared.state.Ran.{Ran}
 use Rattle.search.specs.declared.state.Opened.{Opened}
 use Rattle.search.specs.Promises.{Passes, Handed, Leaves, Verdict-says, Reached, picks}
 use Rattle.search.specs.declared.state.State.{State}
-use Rattle.search.proofs.FirstPassing.{Passed, PassedSearch, requests-none, open-is-passed, search-is-passed, run-is-passed}
-use Rattle.search.proofs.Admitting.{search-ready}
+use Rattle.search.proofs.first_checks.FirstPassing.{Passed, PassedSearch, requests-none, open-is-passed, search-is-passed, run-is-passed}
+use Rattle.search.proofs.first_checks.Admitting.{search-ready}
 use Rattle.search.proofs.Picking.{picked}
 use Rattle.search.proofs.Reaching.{reached-holds}
 use Rattle.search.specs.Verdicts.{numberOf, verdictOf}
@@ -37,9 +38,9 @@ use Rattle.search.proofs.Verdicts.{running-top, is-unsolvable, is-solve
 use Rattle.search.proofs.Runs.{run-ind}
 use Rattle.search.proofs.Refusals.{is-none}
 use Rattle.search.proofs.Passing.{step-is, step-passes, run-passes, top-held}
-use Rattle.search.proofs.Shapes.{pieces-regular}
-use Rattle.search.proofs.Copies.{zeros-at}
-use Rattle.search.proofs.Encoding.{length-stack, length-stackOf, length-agenda, agenda-back}
+use Rattle.search.proofs.step.Shapes.{pieces-regular}
+use Rattle.problem.proofs.Copies.{zeros-at}
+use Rattle.search.proofs.agenda.Encoding.{length-stack, length-stackOf, length-agenda, agenda-back}
 
 -- Every subproblem of a stack has the shape of a slot.
 abbrev pub Shaped : ℕ → ℕ → List Subproblem → Type 0

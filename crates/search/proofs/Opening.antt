@@ -9,15 +9,15 @@ use native.Mathlib.Nat.{mul-le-mul-right, zero-mul}
 use lib.ListN.{length, getD, take, replicate, List·getD-append}
 use lib.Seq.{take-length}
 use lib.Dec.{eqb}
-use Rattle.splits.specs.Subproblems.{empty, some}
+use Rattle.splits.specs.Subproblems.{empty}
+use Rattle.problem.specs.Lists.{some, splice}
 use Rattle.splits.specs.declared.subproblem.Subproblem.{Subproblem}
-use Rattle.splits.proofs.Tests.{some-same}
+use Rattle.problem.proofs.Tests.{some-same}
 use Rattle.search.specs.Agenda.{holding, slotWords, stackWords, agendaOf, slotsIn}
 use Rattle.search.specs.Calls.{opening}
-use Rattle.search.specs.Parts.{splice}
-use Rattle.search.specs.Work.Slots.{SlotIn}
-use Rattle.search.specs.Work.Ends.{Openable}
-use Rattle.search.proofs.Encoding.{agenda-push}
+use Rattle.search.specs.Loops.Slots.{SlotIn}
+use Rattle.search.specs.Loops.Ends.{Openable}
+use Rattle.search.proofs.agenda.Encoding.{agenda-push}
 
 module _ (n : ℕ) (domains agenda : List ℕ) (o : Openable n domains agenda) where
   -- The problem has an empty domain if the words have.

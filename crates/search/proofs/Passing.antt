@@ -6,13 +6,13 @@ use mathlib.Core.List.{List, List·Memᴰ, List·Memᴰ·head, List·Memᴰ·tai
 use Prim.Native.Nat.{ℕ, _+_, _≤_}
 use native.Mathlib.Omega.{arith}
 use lib.ListN.{length, length-append}
-use Rattle.splits.specs.Problem.{Problem}
+use Rattle.problem.specs.Problem.{Problem}
 use Rattle.splits.specs.Splits.{pieces}
 use Rattle.splits.specs.Checks.{checks}
-use Rattle.splits.specs.Promises.{Splits}
+use Rattle.splitting.specs.Promises.{Splits}
 use Rattle.splits.specs.declared.subproblem.Subproblem.{Subproblem}
-use Rattle.splits.proofs.Pieces.{Held}
-use Rattle.splits.proofs.Promises.{obeys, at-most-496}
+use Rattle.splitting.proofs.Pieces.{Held}
+use Rattle.splitting.proofs.Promises.{obeys, at-most-496}
 use Rattle.search.specs.Runs.{Search, splitTop, step, refusalOfRequest, run}
 use Rattle.search.specs.Promises.{Passes}
 use Rattle.search.proofs.Verdicts.{running-top}

@@ -11,18 +11,18 @@ use native.Mathlib.Decide.{decLt}
 use lib.ListN.{length, length-append}
 use lib.Dec.{eqb, ltb}
 use borrow.Author.Tests.{eq-eqb, ne-eqb, lt-ltb, le-ltb, eqb-true, eqb-false, ltb-true, ltb-false}
-use Rattle.splits.specs.Masks.{bit, _∈_, size, lowest, LowestIn}
-use Rattle.splits.specs.Problem.{Problem}
+use Rattle.problem.specs.Masks.{bit, _∈_, size, lowest, LowestIn}
+use Rattle.problem.specs.Problem.{Problem}
 use Rattle.splits.specs.Subproblems.{domain, Instantiated, allInstantiated, empty}
 use Rattle.splits.specs.Requests.{kindOf, variableOf, valueOf}
 use Rattle.splits.specs.Splits.{precluded, pieces}
 use Rattle.splits.specs.Refusals.{Deserves-7, Deserves-8, Deserves-9, Accepted}
 use Rattle.splits.specs.declared.subproblem.Subproblem.{Subproblem}
-use Rattle.splits.proofs.Masks.{bit-le, member-lt, lowest-least}
-use Rattle.splits.proofs.Tests.{true-false, some-found, some-none}
-use Rattle.splits.proofs.Products.{last}
-use Rattle.splits.proofs.Pieces.{Held}
-use Rattle.splits.proofs.Splitting.{lowest-in, domain-lt}
+use Rattle.problem.proofs.mask.Masks.{bit-le, member-lt, lowest-least}
+use Rattle.problem.proofs.Tests.{true-false, some-found, some-none}
+use Rattle.problem.proofs.Products.{last}
+use Rattle.splitting.proofs.Pieces.{Held}
+use Rattle.splitting.proofs.Splitting.{lowest-in, domain-lt}
 use Rattle.search.specs.Verdicts.{finished}
 use Rattle.search.specs.Runs.{Search, Stopped, splitTop, step, refusalOfRequest, runFrom}
 use Rattle.search.specs.Chooser.{fewestOf, fewest, request, chosen, chooseFrom}

@@ -4,16 +4,18 @@ use mathlib.Core.Path.{_≡_}
 use mathlib.Core.List.{List, [], _∷_}
 use Prim.Native.Nat.{ℕ}
 use lib.Count.{ones, onesIn, trailingZeros}
-use Rattle.splits.specs.Masks.{bit, minus, smallest, smallerHalf}
-use Rattle.splits.specs.Problem.{tableOf, total}
-use Rattle.splits.specs.Subproblems.{empty, allInstantiated, some, every}
-use Rattle.splits.specs.Splits.{below, keep, changed, instantiate, without, cut, cutBeside, atTargets, forbids, instantiatedOther, forbidden, precluded, disjunct, extract, backtracking, forwardChecking, idc, halving, extraction, named, pieces}
+use Rattle.problem.specs.Masks.{bit, minus, smallest, smallerHalf}
+use Rattle.problem.specs.Problem.{tableOf}
+use Rattle.problem.specs.Lists.{total, some, every, below, keep, changed}
+use Rattle.splits.specs.Subproblems.{empty, allInstantiated}
+use Rattle.splits.specs.Splits.{instantiate, without, cut, cutBeside, atTargets, forbids, instantiatedOther, forbidden, precluded, disjunct, extract, backtracking, forwardChecking, idc, halving, extraction, named, pieces}
 use Rattle.splits.specs.Checks.{lookedAt, others, tried, valuesIn, checks}
-use Rattle.splits.specs.Refusals.{refused-7, refused-8, refused-9, bad, someBad, allSame, refused-10, refusalOf}
+use Rattle.splits.specs.Tests.Refusals.{refused-7, refused-8, refused-9, bad, someBad, allSame, refused-10, refusalOf}
 use Rattle.search.specs.Agenda.{holding, slotWords, subproblemOf, slotAt, stackOf, stackWords, agendaOf}
 use Rattle.search.specs.Verdicts.{finished, verdictOf}
 use Rattle.search.specs.Runs.{splitTop, step, refusalOfTop, refusalOfRequest, runFrom, cutInto, requestsIn}
-use Rattle.search.specs.FirstChecks.{refusalOfNumbers, wholeSlots, refusalOfLengths, refusalOfRequests, masksBelow, symmetric, refusalOfProblem, domainObeys, valuesAgree, obeys, allObey, zerosFrom, refusalOfSearch, runRefusal}
+use Rattle.problem.specs.Tests.FirstChecks.{refusalOfNumbers, masksBelow, symmetric, refusalOfProblem}
+use Rattle.search.specs.Tests.FirstChecks.{wholeSlots, refusalOfLengths, refusalOfRequests, domainObeys, valuesAgree, obeys, allObey, zerosFrom, refusalOfSearch, runRefusal}
 use Rattle.search.specs.Promises.{Right}
 use Rattle.search.specs.declared.state.Ran.{Ran}
 use Rattle.search.specs.declared.state.Verdict.the-variants.{Running}

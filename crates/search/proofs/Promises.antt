@@ -6,15 +6,15 @@ use mathlib.Core.List.{List, _∷_}
 use Prim.Native.Nat.{ℕ}
 use native.Mathlib.Omega.{arith}
 use lib.ListN.{getD}
-use Rattle.search.specs.Agenda.{problemOf}
+use Rattle.problem.specs.Problem.{problemOf}
 use Rattle.search.specs.Verdicts.{numberOf, verdictOf}
 use Rattle.search.specs.Runs.{Stopped}
 use Rattle.search.specs.Calls.{Ends}
 use Rattle.search.specs.declared.state.State.{State}
 use Rattle.search.specs.declared.state.Ran.{Ran}
 use Rattle.search.specs.Cases.{cases}
-use Rattle.search.specs.Promises.{Open-one, Run-one, Choose-one, Unsolvable-if, Solved-if, Running-if, Solved-shows, Refusal-11, Refusal-7, Refusal-8, Refusal-9, Refusal-10, Refusal-12, Refusal-none, Stops, Taken, Steps-count, Takes-none, Two-lists, Choose-two, Picks, Chosen-so, Chosen-accepted, Chooser-refusals, Step-passes, Run-passes, Chooser-passes, Reached-passes, Reached-checks, Reached-solvable, Reached-unsolvable, Reached-steps, Open-leaves, Run-leaves, Chooser-leaves, Handed-passes, Run-says, Chooser-says, Ends-so, Marked-cases, None-if-run, None-if-choose, Run-exact, Choose-exact, Right-only, Not-only-refuses, Not-always-unsolvable, Not-idle, Not-solved-at-once, Not-invented, Open-refusal-1, Open-refusal-2, Open-refusal-3, Open-refusal-4, Open-refusal-5, Open-refusal-none, Search-refusal-1, Search-refusal-2, Search-refusal-3, Search-refusal-4, Search-refusal-5, Search-refusal-6, Search-refusal-none, Run-refusal-1, Run-refusal-2, Run-refusal-3, Run-refusal-4, Run-refusal-5, Run-refusal-6, Run-refusal-none, Numbers-pass, Lengths-pass, Requests-pass, Problem-pass, Search-pass, Open-apart, Search-apart, Run-apart, Sizes-refusal-one, Open-refusal-one, Search-refusal-one, Run-refusal-one, Turned-one}
-use Rattle.splits.proofs.Refusals.{one}
+use Rattle.search.specs.Promises.{Open-one, Run-one, Choose-one, Unsolvable-if, Solved-if, Running-if, Solved-shows, Refusal-11, Refusal-7, Refusal-8, Refusal-9, Refusal-10, Refusal-12, Refusal-none, Stops, Taken, Steps-count, Takes-none, Two-lists, Choose-two, Picks, Chosen-so, Chosen-accepted, Chooser-refusals, Step-passes, Run-passes, Chooser-passes, Reached-passes, Reached-checks, Reached-solvable, Reached-unsolvable, Reached-steps, Open-leaves, Run-leaves, Chooser-leaves, Handed-passes, Run-says, Chooser-says, Ends-so, Marked-cases, None-if-run, None-if-choose, Run-exact, Choose-exact, Right-only, Not-only-refuses, Not-always-unsolvable, Not-idle, Not-solved-at-once, Not-invented, Open-refusal-1, Open-refusal-2, Open-refusal-3, Open-refusal-4, Open-refusal-5, Open-refusal-none, Search-refusal-1, Search-refusal-2, Search-refusal-3, Search-refusal-4, Search-refusal-5, Search-refusal-6, Search-refusal-none, Run-refusal-1, Run-refusal-2, Run-refusal-3, Run-refusal-4, Run-refusal-5, Run-refusal-6, Run-refusal-none, Lengths-pass, Requests-pass, Search-pass, Open-apart, Search-apart, Run-apart, Sizes-refusal-one, Open-refusal-one, Search-refusal-one, Run-refusal-one}
+use Rattle.problem.proofs.Answers.{one}
 use Rattle.search.proofs.Verdicts
 use Rattle.search.proofs.Refusals
 use Rattle.search.proofs.Runs
@@ -25,10 +25,9 @@ use Rattle.search.proofs.Cases
 use Rattle.search.proofs.Planners
 use Rattle.search.proofs.HandedOn
 use Rattle.search.proofs.Exactly
-use Rattle.search.proofs.Turning
-use Rattle.search.proofs.FirstOrder.{is-0, is-1, is-2, is-3, is-4, is-5, is-6, open-ordered, search-ordered, run-ordered}
-use Rattle.search.proofs.FirstPassing.{numbers-none, lengths-none, requests-none, problem-none, search-none}
-use Rattle.search.proofs.Apart.{apart-open, apart-search, apart-run}
+use Rattle.search.proofs.first_checks.FirstOrder.{is-0, is-1, is-2, is-3, is-4, is-5, is-6, open-ordered, search-ordered, run-ordered}
+use Rattle.search.proofs.first_checks.FirstPassing.{lengths-none, requests-none, search-none}
+use Rattle.search.proofs.first_checks.Apart.{apart-open, apart-search, apart-run}
 
 pub unsolvable-if : Unsolvable-if
 unsolvable-if n S =
@@ -276,17 +275,11 @@ run-refusal-none n d domains tables agenda requests steps checks subproblems =
 
 -- ---- each part
 
-pub numbers-pass : Numbers-pass
-numbers-pass = numbers-none
-
 pub lengths-pass : Lengths-pass
 lengths-pass = lengths-none
 
 pub requests-pass : Requests-pass
 requests-pass = requests-none
-
-pub problem-pass : Problem-pass
-problem-pass = problem-none
 
 pub search-pass : Search-pass
 search-pass = search-none
@@ -315,9 +308,6 @@ search-refusal-one n d domains tables agenda steps checks subproblems = one _
 
 pub run-refusal-one : Run-refusal-one
 run-refusal-one n d domains tables agenda requests steps checks subproblems = one _
-
-pub turned-one : Turned-one
-turned-one = Turning.turned-same
 
 pub open-one : Open-one
 open-one n d domains tables before after after′ r s h k = (

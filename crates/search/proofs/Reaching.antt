@@ -10,24 +10,25 @@ use native.Mathlib.Nat.{zero-add, le-of-suc-le-suc}
 use lib.ListN.{length, getD, take, replicate}
 use lib.Dec.{eqb}
 use borrow.Author.Tests.{eqb-true, eqb-false}
-use Rattle.splits.specs.Masks.{bit, size}
-use Rattle.splits.specs.Problem.{Problem, Proper, possibilities, total}
-use Rattle.splits.specs.Subproblems.{domain, Instantiated, Rules, SolutionOf, some}
+use Rattle.problem.specs.Masks.{bit, size}
+use Rattle.problem.specs.Problem.{Problem, Proper, possibilities, problemOf}
+use Rattle.problem.specs.Lists.{total, some, sum}
+use Rattle.splits.specs.Subproblems.{domain, Instantiated, Rules, SolutionOf}
 use Rattle.splits.specs.Splits.{pieces}
 use Rattle.splits.specs.Checks.{checks}
-use Rattle.splits.specs.Measure.{sum, unmarked, measure}
-use Rattle.splits.specs.Promises.{Splits, Solvable}
+use Rattle.splitting.specs.Measure.{unmarked, measure}
+use Rattle.splitting.specs.Promises.{Splits, Solvable}
 use Rattle.splits.specs.declared.subproblem.Subproblem.{Subproblem}
-use Rattle.splits.proofs.Masks.{bit-none, member-some}
-use Rattle.splits.proofs.Tests.{some-found, some-none}
-use Rattle.splits.proofs.Products.{product-same}
-use Rattle.splits.proofs.Promises.{sound, cover, falls}
-use Rattle.search.specs.Agenda.{problemOf, holding}
+use Rattle.problem.proofs.mask.Masks.{bit-none, member-some}
+use Rattle.problem.proofs.Tests.{some-found, some-none}
+use Rattle.problem.proofs.Products.{product-same}
+use Rattle.splitting.proofs.Promises.{sound, cover, falls}
+use Rattle.search.specs.Agenda.{holding}
 use Rattle.search.specs.Runs.{Search, step, refusalOfRequest, run}
 use Rattle.search.specs.Chooser.{choose}
 use Rattle.search.specs.Calls.{opening, begun}
 use Rattle.search.specs.Promises.{Passes, Reached, opened, ran, chose, moved, Has-solution, picks}
-use Rattle.search.proofs.Copies.{zeros-at}
+use Rattle.problem.proofs.Copies.{zeros-at}
 use Rattle.search.proofs.Verdicts.{running-top}
 use Rattle.search.proofs.Runs.{run-ind}
 use Rattle.search.proofs.Passing.{step-is, splits, step-passes}

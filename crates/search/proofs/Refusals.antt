@@ -9,9 +9,10 @@ use native.Mathlib.Omega.{arith}
 use native.Mathlib.Decide.{ℕ-discrete, decLt}
 use lib.ListN.{length, length-append}
 use borrow.Author.Tests.{eq-eqb, ne-eqb, lt-ltb, le-ltb}
-use Rattle.splits.specs.Problem.{Problem}
+use Rattle.problem.specs.Problem.{Problem}
 use Rattle.splits.specs.Splits.{pieces}
-use Rattle.splits.specs.Refusals.{Deserves-7, Deserves-8, Deserves-9, Deserves-10, Accepted, refused-7, refused-8, refused-9, refused-10, refusalOf}
+use Rattle.splits.specs.Refusals.{Deserves-7, Deserves-8, Deserves-9, Deserves-10, Accepted}
+use Rattle.splits.specs.Tests.Refusals.{refused-7, refused-8, refused-9, refused-10, refusalOf}
 use Rattle.splits.specs.declared.subproblem.Subproblem.{Subproblem}
 use Rattle.splits.proofs.Promises.{refusal-7, refusal-8, refusal-9, refusal-10, refusal-none}
 use Rattle.search.specs.Runs.{Search, splitTop, refusalOfTop, refusalOfRequest, Deserves-11, Deserves-12}

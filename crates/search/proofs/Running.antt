@@ -11,26 +11,26 @@ use lib.ListN.{length, take, drop, length-take, length-drop}
 use lib.Seq.{drop-drop}
 use lib.Dec.{eqb}
 use borrow.Author.Tests.{not-true, not-false}
-use Rattle.splits.specs.Problem.{Problem}
+use Rattle.problem.specs.Problem.{Problem, problemOf}
 use Rattle.splits.specs.Subproblems.{allInstantiated}
 use Rattle.splits.specs.declared.subproblem.Subproblem.{Subproblem}
-use Rattle.search.specs.Agenda.{problemOf, subproblemOf, slotAt, stackOf, slotsIn}
+use Rattle.search.specs.Agenda.{subproblemOf, slotAt, stackOf, slotsIn}
 use Rattle.search.specs.Verdicts.{finished, verdictOf}
 use Rattle.search.specs.Runs.{Search, Stopped, refusalOfRequest, runFrom, run, cutInto, requestsIn}
 use Rattle.search.specs.Chooser.{chosen, chooseFrom, choose}
 use Rattle.search.specs.Calls.{searchOf}
-use Rattle.search.specs.Work.Slots.{SlotIn}
-use Rattle.search.specs.Work.Kept.{Regular, Ready}
-use Rattle.search.specs.Work.Steps.{Taking, StopsAt}
-use Rattle.search.specs.Work.Choices.{chosenFor}
-use Rattle.search.specs.Work.Ends.{Used, requestAt}
+use Rattle.search.specs.Loops.Slots.{SlotIn}
+use Rattle.search.specs.Loops.Kept.{Regular, Ready}
+use Rattle.search.specs.Loops.Steps.{Taking, StopsAt}
+use Rattle.search.specs.Loops.Choices.{chosenFor}
+use Rattle.search.specs.Loops.Ends.{Used, requestAt}
 use Rattle.search.specs.declared.state.State.{State}
 use Rattle.search.specs.declared.state.Verdict.the-variants.{Running, Solved, Unsolvable}
 use Rattle.search.specs.declared.step.Stop.{Stop}
-use Rattle.search.proofs.Encoding.{length-stackOf, agenda-back}
+use Rattle.search.proofs.agenda.Encoding.{length-stackOf, agenda-back}
 use Rattle.search.proofs.Verdicts.{finished-top}
-use Rattle.search.proofs.Stepping.{stack-more, run-on, run-stops, one-finished}
-use Rattle.search.proofs.Choosing.{chosen-is}
+use Rattle.search.proofs.step.Stepping.{stack-more, run-on, run-stops, one-finished}
+use Rattle.search.proofs.chooser.Choosing.{chosen-is}
 
 -- ---- the top and the verdict
 

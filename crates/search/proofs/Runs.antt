@@ -11,7 +11,7 @@ use native.Mathlib.Numerals.{one-add}
 use lib.ListN.{length, take, drop}
 use lib.Dec.{eqb}
 use borrow.Author.Tests.{eq-eqb, ne-eqb, eqb-true, eqb-false}
-use Rattle.splits.specs.Problem.{Problem}
+use Rattle.problem.specs.Problem.{Problem}
 use Rattle.search.specs.Verdicts.{numberOf, verdictOf, finished}
 use Rattle.search.specs.Runs.{Search, Stopped, step, refusalOfRequest, runFrom, run}
 use Rattle.search.specs.Promises.{Finished, Refused, Ended}

@@ -8,14 +8,14 @@ use Prim.Native.Nat.{ℕ, _<_}
 use native.Mathlib.Omega.{arith}
 use lib.Dec.{eqb}
 use borrow.Author.Tests.{eq-eqb, ne-eqb, eqb-true, eqb-false, not-true, not-false}
-use Rattle.splits.specs.Masks.{bit, single, lowest}
-use Rattle.splits.specs.Problem.{Problem, Solution}
+use Rattle.problem.specs.Masks.{bit, single, lowest}
+use Rattle.problem.specs.Problem.{Problem, Solution}
 use Rattle.splits.specs.Subproblems.{domain, Instantiated, allInstantiated}
 use Rattle.splits.specs.declared.subproblem.Subproblem.{Subproblem}
-use Rattle.splits.proofs.Masks.{single-of}
-use Rattle.splits.proofs.Pieces.{Held}
-use Rattle.splits.proofs.Splitting.{lowest-in}
-use Rattle.splits.proofs.Tests.{true-false, every-at, every-all}
+use Rattle.problem.proofs.mask.Masks.{single-of}
+use Rattle.splitting.proofs.Pieces.{Held}
+use Rattle.splitting.proofs.Splitting.{lowest-in}
+use Rattle.problem.proofs.Tests.{true-false, every-at, every-all}
 use Rattle.search.specs.Verdicts.{numberOf, verdictOf, finished}
 use Rattle.search.specs.declared.state.Verdict.{Verdict}
 use Rattle.search.specs.declared.state.Verdict.the-variants.{None, Running, Solved, Unsolvable}

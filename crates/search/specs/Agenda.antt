@@ -3,17 +3,8 @@ use mathlib.Core.Path.{_≡_}
 use mathlib.Core.List.{List, [], _∷_, _++_}
 use Prim.Native.Nat.{ℕ, zero, suc, _+_, _-_, _*_, _/_, _%_, _^_, _≤_, _<_}
 use lib.ListN.{length, getD, take, drop, replicate}
-use Rattle.splits.specs.Problem.{Problem, tableOf}
 use Rattle.splits.specs.Subproblems.{domain}
 use Rattle.splits.specs.declared.subproblem.Subproblem.{Subproblem}
-
--- Words of 16 bits.
-abbrev pub Words : List ℕ → Type 0
-Words l = (k : ℕ) → getD l k 0 < 65536
-
--- The problem that the words say.
-abbrev pub problemOf : ℕ → ℕ → List ℕ → List ℕ → Problem
-problemOf n d domains tables = record { n = n; d = d; domain = λ i. getD domains i 0; allowed = tableOf n d tables }
 
 -- The subproblem of n domains, its entries past them empty.
 unfoldable pub holding : ℕ → List ℕ → ℕ → Subproblem

@@ -5,13 +5,14 @@ use mathlib.Core.List.{List, [], _∷_}
 use Prim.Native.Nat.{ℕ}
 use lib.ListN.{length, getD}
 use lib.Dec.{eqb}
-use Rattle.splits.specs.Subproblems.{some}
+use Rattle.problem.specs.Lists.{some}
 use Rattle.splits.specs.declared.subproblem.Subproblem.{Subproblem}
-use Rattle.search.specs.Agenda.{problemOf, holding, stackOf, slotsIn, agendaOf}
+use Rattle.problem.specs.Problem.{problemOf}
+use Rattle.search.specs.Agenda.{holding, stackOf, slotsIn, agendaOf}
 use Rattle.search.specs.Verdicts.{verdictOf}
 use Rattle.search.specs.Runs.{Search, Stopped, run, requestsIn}
 use Rattle.search.specs.Chooser.{choose}
-use Rattle.search.specs.FirstChecks.{openRefusal, searchRefusal, runRefusal}
+use Rattle.search.specs.Tests.FirstChecks.{openRefusal, searchRefusal, runRefusal}
 use Rattle.search.specs.declared.state.State.{State}
 use Rattle.search.specs.declared.state.Opened.{Opened}
 use Rattle.search.specs.declared.state.Ran.{Ran}

@@ -4,8 +4,8 @@ use mathlib.Core.List.{List, [], _∷_, map}
 use Prim.Native.Nat.{ℕ}
 use lib.ListN.{getD}
 use lib.Dec.{eqb}
-use Rattle.splits.specs.Masks.{allValues, allBut}
-use Rattle.splits.specs.Problem.{Problem}
+use Rattle.problem.specs.Masks.{allValues, allBut}
+use Rattle.problem.specs.Problem.{Problem}
 use Rattle.splits.specs.declared.subproblem.Subproblem.{Subproblem}
 use Rattle.search.specs.Agenda.{holding}
 

@@ -4,8 +4,8 @@ use mathlib.Core.List.{List, [], _∷_}
 use Prim.Native.Nat.{ℕ, zero, suc, _+_}
 use lib.ListN.{length}
 use lib.Dec.{eqb, ltb}
-use Rattle.splits.specs.Masks.{bit, size, lowest}
-use Rattle.splits.specs.Problem.{Problem}
+use Rattle.problem.specs.Masks.{bit, size, lowest}
+use Rattle.problem.specs.Problem.{Problem}
 use Rattle.splits.specs.Subproblems.{domain, empty}
 use Rattle.splits.specs.Splits.{precluded}
 use Rattle.splits.specs.declared.subproblem.Subproblem.{Subproblem}

@@ -5,21 +5,23 @@ use mathlib.Core.Logic.{_⊎_, _↔_}
 use mathlib.Core.List.{List, List·Memᴰ, [], _∷_, _++_, map}
 use Prim.Native.Nat.{ℕ, zero, suc, _+_, _-_, _*_, _≤_, _<_}
 use lib.ListN.{length, getD, take, drop}
-use Rattle.splits.specs.Masks.{single, size, lowest, LowestIn}
-use Rattle.splits.specs.Problem.{Problem, Proper, Solution, possibilities}
+use Rattle.problem.specs.Masks.{single, size, lowest, LowestIn}
+use Rattle.problem.specs.Problem.{Problem, Proper, Solution, possibilities, AgreeApart, Words, problemOf}
 use Rattle.splits.specs.Subproblems.{domain, Instantiated, Rules, sizeOf}
 use Rattle.splits.specs.Requests.{kindOf, variableOf, valueOf}
 use Rattle.splits.specs.Splits.{precluded}
 use Rattle.splits.specs.Checks.{checks}
 use Rattle.splits.specs.Refusals.{Deserves-7, Deserves-8, Deserves-9, Deserves-10, Accepted}
-use Rattle.splits.specs.Promises.{Solvable, AgreeApart, One}
+use Rattle.splitting.specs.Promises.{Solvable}
+use Rattle.problem.specs.Answers.{One}
 use Rattle.splits.specs.declared.subproblem.Subproblem.{Subproblem}
-use Rattle.search.specs.Agenda.{Words, problemOf, slotsIn, stackOf}
+use Rattle.search.specs.Agenda.{slotsIn, stackOf}
 use Rattle.search.specs.Verdicts.{numberOf, verdictOf}
 use Rattle.search.specs.Runs.{Search, Stopped, step, refusalOfRequest, Deserves-11, Deserves-12, run, requestsIn}
 use Rattle.search.specs.Chooser.{request, chosen, choose}
-use Rattle.search.specs.Matrix.{Turned}
-use Rattle.search.specs.FirstChecks.{WholeRequests, searchRefusal, Deserves-1, Deserves-2, Deserves-3, Deserves-3-run, Deserves-4, Deserves-5, Deserves-6, refusalOfNumbers, refusalOfLengths, refusalOfRequests, refusalOfProblem, refusalOfSearch, sizesRefusal, openRefusal, runRefusal}
+use Rattle.search.specs.FirstChecks.{WholeRequests, Deserves-3, Deserves-3-run, Deserves-6}
+use Rattle.search.specs.Tests.FirstChecks.{searchRefusal, refusalOfLengths, refusalOfRequests, refusalOfSearch, sizesRefusal, openRefusal, runRefusal}
+use Rattle.problem.specs.FirstChecks.{Deserves-1, Deserves-2, Deserves-4, Deserves-5}
 use Rattle.search.specs.Calls.{begun, searchOf, Opens, Runs, Chooses}
 use Rattle.search.specs.declared.state.State.{State}
 use Rattle.search.specs.declared.state.Opened.{Opened}
@@ -579,10 +581,6 @@ Run-refusal-none =
 
 -- ---- each part by itself
 
--- The numbers pass exactly when neither 1 nor 2 is deserved.
-abbrev pub Numbers-pass : Type 0
-Numbers-pass = (n d : ℕ) → (refusalOfNumbers n d ≡ 0) ↔ ((Deserves-1 n → ⊥) × (Deserves-2 d → ⊥))
-
 -- The lengths pass exactly when 3 is not deserved.
 abbrev pub Lengths-pass : Type 0
 Lengths-pass =
@@ -592,10 +590,6 @@ Lengths-pass =
 -- The request list passes exactly when it is whole requests.
 abbrev pub Requests-pass : Type 0
 Requests-pass = (n words : ℕ) → (refusalOfRequests n words ≡ 0) ↔ WholeRequests n words
-
--- The problem passes exactly when neither 4 nor 5 is deserved.
-abbrev pub Problem-pass : Type 0
-Problem-pass = (p : Problem) → (refusalOfProblem p ≡ 0) ↔ ((Deserves-4 p → ⊥) × (Deserves-5 p → ⊥))
 
 -- The search passes, of a proper problem, exactly when 6 is not deserved.
 abbrev pub Search-pass : Type 0
@@ -650,10 +644,6 @@ abbrev pub Open-one : Type 0
 Open-one =
     (n d : ℕ) (domains tables before after after′ : List ℕ) (r s : Opened) → Opens n d domains tables before after r
     → Opens n d domains tables before after′ s → (r ≡ s) × (after ≡ after′)
-
--- Rows for columns.
-abbrev pub Turned-one : Type 0
-Turned-one = (rows r s : List ℕ) → Turned rows r → Turned rows s → r ≡ s
 
 -- A run.
 abbrev pub Run-one : Type 0

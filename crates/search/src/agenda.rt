@@ -6,9 +6,9 @@ ghost use Prim.Native.Nat.{_+_, _*_, _≤_, _<_};
 ghost use mathlib.Core.List.{_++_};
 ghost use lib.ListN.{length, getD, take, drop, replicate};
 ghost use Rattle.search.specs.Agenda.{holding, slotWords, subproblemOf, slotAt};
-ghost use Rattle.search.specs.Parts.{splice};
-ghost use Rattle.search.specs.Work.Slots.{SlotIn};
-ghost use Rattle.search.specs.Work.Lanes.{Below, KeptTo};
+ghost use Rattle.problem.specs.Lists.{splice};
+ghost use Rattle.search.specs.Loops.Slots.{SlotIn};
+ghost use Rattle.search.specs.Loops.Lanes.{Below, KeptTo};
 
 // The subproblem of the first `n` words as domains.
 pub(crate) fn holding(n: usize, words: &[u16], marked: u32) -> Subproblem

@@ -5,9 +5,9 @@ ghost use mathlib.Core.Bool.{cond};
 ghost use Prim.Native.Nat.{_+_, _*_, _<_, _≤_, min};
 ghost use lib.ListN.{getD};
 ghost use lib.Dec.{eqb};
-ghost use Rattle.splits.specs.Masks.{bit, minus, size};
-ghost use Rattle.splits.specs.Problem.{total};
-ghost use Rattle.search.specs.Work.Lanes.{Half, Beyond, Below, Kept, LeastKey, lost, loses, outsideTo, Sides, Share, FurtherTo, filled};
+ghost use Rattle.problem.specs.Masks.{bit, minus, size};
+ghost use Rattle.problem.specs.Lists.{total};
+ghost use Rattle.search.specs.Loops.Lanes.{Half, Beyond, Below, Kept, LeastKey, lost, loses, outsideTo, Sides, Share, FurtherTo, filled};
 
 fn least(a: u16, b: u16) -> u16
     ensures { λ r. ⌜ r ≡ min a b ⌝ }

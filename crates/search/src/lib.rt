@@ -24,10 +24,10 @@ ghost use lib.ListN.{length};
 ghost use Rattle.search.specs.Agenda.{stackOf, agendaOf};
 ghost use Rattle.search.specs.Verdicts.{verdictOf};
 ghost use Rattle.search.specs.Calls.{opening, searchOf, Opens, Runs, Chooses};
-ghost use Rattle.search.specs.Work.Kept.{Ready};
-ghost use Rattle.search.specs.Work.Steps.{TakesOne, TakesAll, ChoosesOne, ChoosesAll};
-ghost use Rattle.search.specs.Work.Lanes.{Rows, Below};
-ghost use Rattle.search.specs.Work.Ends.{Openable, Used, requestAt, refusedBy, endedBy};
+ghost use Rattle.search.specs.Loops.Kept.{Ready};
+ghost use Rattle.search.specs.Loops.Steps.{TakesOne, TakesAll, ChoosesOne, ChoosesAll};
+ghost use Rattle.search.specs.Loops.Lanes.{Rows, Below};
+ghost use Rattle.search.specs.Loops.Ends.{Openable, Used, requestAt, refusedBy, endedBy};
 
 // Opens a search.
 pub fn open(n: usize, d: usize, domains: &[u16], tables: &[u16], agenda: &mut [u16]) -> Opened

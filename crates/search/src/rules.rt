@@ -1,18 +1,18 @@
 // The rules for the subproblems in slots, the first check that 6 is about, on the words as they lie there.
 use crate::agenda;
 use crate::lanes;
-use crate::rows;
-use splits::mask;
+use problem::beside;
+use problem::mask;
 ghost use mathlib.Core.Path.{_≡_};
 ghost use Prim.Native.Nat.{_+_, _*_, _≤_, _<_};
 ghost use lib.ListN.{length};
-ghost use Rattle.splits.specs.Problem.{tableOf};
-ghost use Rattle.splits.specs.Subproblems.{every};
-ghost use Rattle.search.specs.Agenda.{problemOf, subproblemOf, stackOf};
-ghost use Rattle.search.specs.FirstChecks.{obeys, allObey};
-ghost use Rattle.search.specs.Work.FirstTests.{Mirrored, SlotFits, Next, joined, partWrong, wrongIn, Held, missingIn, markObeys, TellsSame, TellsBelow, MarksKnown};
-ghost use Rattle.search.specs.Work.Slots.{SlotIn};
-ghost use Rattle.search.specs.Work.Lanes.{Rows};
+ghost use Rattle.problem.specs.Problem.{tableOf, problemOf};
+ghost use Rattle.problem.specs.Lists.{every, joined};
+ghost use Rattle.search.specs.Agenda.{subproblemOf, stackOf};
+ghost use Rattle.search.specs.Tests.FirstChecks.{obeys, allObey};
+ghost use Rattle.search.specs.Loops.FirstTests.{Mirrored, SlotFits, Next, partWrong, wrongIn, Held, missingIn, markObeys, TellsSame, TellsBelow, MarksKnown};
+ghost use Rattle.search.specs.Loops.Slots.{SlotIn};
+ghost use Rattle.search.specs.Loops.Lanes.{Rows};
 
 // What is wrong with a domain beside the problem's: that it is empty, or values that the problem's has not; 0 for nothing.
 fn part_wrong(whole: u16, domain: u16) -> u16

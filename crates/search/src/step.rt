@@ -1,7 +1,7 @@
 // A step: the top subproblem gives way to the pieces of a request, in the lent agenda.
 use crate::agenda;
 use crate::lanes;
-use crate::rows;
+use problem::beside;
 use crate::state::Checks;
 use crate::state::Counts;
 use crate::state::State;
@@ -15,12 +15,12 @@ ghost use mathlib.Core.Bool.{true};
 ghost use Prim.Native.Nat.{_+_, _<_, _^_};
 ghost use lib.ListN.{length};
 ghost use lib.Dec.{ltb};
-ghost use Rattle.splits.specs.Problem.{tableOf};
+ghost use Rattle.problem.specs.Problem.{tableOf};
 ghost use Rattle.splits.specs.Splits.{pieces, candidates};
 ghost use Rattle.splits.specs.Checks.{checks};
 ghost use Rattle.splits.specs.Calls.{readable};
-ghost use Rattle.splits.specs.Ranges.{Sized};
-ghost use Rattle.search.specs.Work.Steps.{stopped, takenTo, TellsEmpty, Placing, Placed, Taking, TakesOne, refusalFor};
+ghost use Rattle.problem.specs.Ranges.{Sized};
+ghost use Rattle.search.specs.Loops.Steps.{stopped, takenTo, TellsEmpty, Placing, Placed, Taking, TakesOne, refusalFor};
 
 // Where a run stops, or one step ends: the refusal, the requests taken and the state it leaves.
 pub(crate) struct Stop {

@@ -9,20 +9,21 @@ use native.Mathlib.Nat.{le-refl}
 use native.Mathlib.Decide.{decLt}
 use lib.Dec.{eqb, ltb}
 use borrow.Author.Tests.{eqb-true, eqb-false, ltb-true, not-true}
-use Rattle.splits.specs.Masks.{bit, single, common, lowest}
-use Rattle.splits.specs.Problem.{Table, tableOf}
+use Rattle.problem.specs.Masks.{bit, single, common, lowest}
+use Rattle.problem.specs.Problem.{Table, tableOf, AgreeApart}
 use Rattle.splits.specs.Subproblems.{domain}
 use Rattle.splits.specs.Requests.{kindOf, variableOf, valueOf}
-use Rattle.splits.specs.Splits.{below, keep, instantiate, without, cutBeside, forbids, instantiatedOther, forbidden, precluded, disjunct, byKind, backtracked, checked, inferred, candidates, candidate}
+use Rattle.problem.specs.Lists.{below, keep}
+use Rattle.splits.specs.Splits.{instantiate, without, cutBeside, forbids, instantiatedOther, forbidden, precluded, disjunct, byKind, backtracked, checked, inferred, candidates, candidate}
 use Rattle.splits.specs.Checks.{lookedAt, others, tried, checks}
-use Rattle.splits.specs.Calls.{sized, inside, readable, Piece, Checks-of}
-use Rattle.splits.specs.Promises.{AgreeApart}
+use Rattle.problem.specs.Ranges.{sized, inside}
+use Rattle.splits.specs.Calls.{readable, Piece, Checks-of}
 use Rattle.splits.specs.declared.subproblem.Subproblem.{Subproblem}
-use Rattle.splits.proofs.Tests.{and-left, and-right, some-same}
-use Rattle.splits.proofs.Ranges.{inside-true, word-none}
-use Rattle.splits.proofs.Lists.{each-of}
-use Rattle.splits.proofs.ByKind.{one-to-three, kind-3}
-use Rattle.splits.proofs.Refusals.{changed-same}
+use Rattle.problem.proofs.Tests.{and-left, and-right, some-same}
+use Rattle.problem.proofs.tables.Ranges.{inside-true, word-none}
+use Rattle.problem.proofs.Lists.{each-of}
+use Rattle.splits.proofs.split.ByKind.{one-to-three, kind-3}
+use Rattle.splits.proofs.refusal.Refusals.{changed-same}
 
 -- ---- what a test picks
 

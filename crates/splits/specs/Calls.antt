@@ -2,43 +2,23 @@
 use mathlib.Core.Path.{_≡_}
 use mathlib.Core.Bool.{Bool, cond, _&&_}
 use mathlib.Core.List.{List}
-use Prim.Native.Nat.{ℕ, _*_}
-use lib.ListN.{length}
+use Prim.Native.Nat.{ℕ}
 use lib.Dec.{eqb, leb, ltb}
-use Rattle.splits.specs.Masks.{bit, size, lowest, smallerHalf}
-use Rattle.splits.specs.Problem.{tableOf}
+use Rattle.problem.specs.Masks.{bit}
+use Rattle.problem.specs.Problem.{tableOf}
 use Rattle.splits.specs.Subproblems.{domain, empty, allInstantiated}
 use Rattle.splits.specs.Requests.{kindOf, variableOf, valueOf}
 use Rattle.splits.specs.Splits.{instantiate, without, cut, cutEach, precluded, precludedBy, byKind, candidates, candidate}
 use Rattle.splits.specs.Checks.{checks}
-use Rattle.splits.specs.Refusals.{refusalOf}
+use Rattle.splits.specs.Tests.Refusals.{refusalOf}
 use Rattle.splits.specs.declared.subproblem.Subproblem.{Subproblem}
-
--- n is at most 32, d at most 16, and the tables are n × n × d words.
-unfoldable pub sized : ℕ → ℕ → List ℕ → Bool
-sized n d tables = leb n 32 && leb d 16 && eqb (length tables) (n * n * d)
-
--- The same, V is one of the n variables and v one of the d values.
-unfoldable pub inside : ℕ → ℕ → List ℕ → ℕ → ℕ → Bool
-inside n d tables V′ v = ltb V′ n && ltb v d && sized n d tables
+use Rattle.problem.specs.Ranges.{inside}
 
 -- The same, of the words that the request's kind reads.
 unfoldable pub readable : ℕ → ℕ → List ℕ → List ℕ → Bool
 readable n d tables r =
     byKind (kindOf r) (inside n d tables (variableOf r) (valueOf r)) (inside n d tables (variableOf r) (valueOf r))
     (inside n d tables (variableOf r) (valueOf r)) (leb n 32 && ltb (variableOf r) n) (leb n 32) (leb n 32)
-
-abbrev pub Count : ℕ → ℕ → Type 0
-Count mask r = r ≡ size mask
-
-abbrev pub Lowest : ℕ → ℕ → Type 0
-Lowest mask r = r ≡ lowest mask
-
-abbrev pub Has : ℕ → ℕ → Bool → Type 0
-Has mask value r = r ≡ eqb (bit mask value) 1
-
-abbrev pub Smaller-half : ℕ → ℕ → Type 0
-Smaller-half mask r = r ≡ smallerHalf mask
 
 abbrev pub Domain : Subproblem → ℕ → ℕ → Type 0
 Domain P variable r = r ≡ domain P variable

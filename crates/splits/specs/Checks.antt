@@ -3,11 +3,12 @@ use mathlib.Core.Bool.{Bool, not, cond, _&&_}
 use mathlib.Core.List.{List, [], _∷_}
 use Prim.Native.Nat.{ℕ, suc}
 use lib.Dec.{eqb}
-use Rattle.splits.specs.Masks.{bit, size}
-use Rattle.splits.specs.Problem.{Table, total}
+use Rattle.problem.specs.Masks.{bit, size}
+use Rattle.problem.specs.Problem.{Table}
+use Rattle.problem.specs.Lists.{total, below, keep}
 use Rattle.splits.specs.Subproblems.{domain}
 use Rattle.splits.specs.Requests.{kindOf, variableOf, valueOf}
-use Rattle.splits.specs.Splits.{below, keep, forbids, byKind}
+use Rattle.splits.specs.Splits.{forbids, byKind}
 use Rattle.splits.specs.declared.subproblem.Subproblem.{Subproblem}
 
 -- How many of a list are looked at up to and with the first that passes, or all.

@@ -1,31 +1,16 @@
 -- The five splits: what an accepted request makes of the top subproblem P.
-use mathlib.Core.Path.{_≡_}
 use mathlib.Core.Bool.{Bool, not, cond, _&&_}
 use mathlib.Core.List.{List, [], _∷_, _++_, map}
-use Prim.Native.Nat.{ℕ, zero, suc, _+_, _-_, _<_}
+use Prim.Native.Nat.{ℕ, _+_, _-_}
 use lib.Bits.{bitOr}
-use lib.ListN.{length, getD, set}
+use lib.ListN.{getD, set}
 use lib.Dec.{eqb}
-use Rattle.splits.specs.Masks.{bit, single, common, minus, lowest, smallerHalf}
-use Rattle.splits.specs.Problem.{Table}
-use Rattle.splits.specs.Subproblems.{domain, some, empty}
+use Rattle.problem.specs.Masks.{bit, single, common, minus, lowest, smallerHalf}
+use Rattle.problem.specs.Problem.{Table}
+use Rattle.splits.specs.Subproblems.{domain, empty}
+use Rattle.problem.specs.Lists.{some, keep, changed, below}
 use Rattle.splits.specs.Requests.{kindOf, variableOf, valueOf, targetOf}
 use Rattle.splits.specs.declared.subproblem.Subproblem.{Subproblem}
-
--- The list with each of its first n entries changed by f, of its place and itself.
-unfoldable pub changed : {A : Type 0} → ℕ → (ℕ → A → A) → List A → List A
-changed zero f l = l
-changed (suc n) f [] = []
-changed (suc n) f (m ∷ ms) = f 0 m ∷ changed n (λ i. f (suc i)) ms
-
--- The numbers below n in rising order; those of a list that pass a test.
-unfoldable pub below : ℕ → List ℕ
-below zero = []
-below (suc n) = below n ++ (n ∷ [])
-
-unfoldable pub keep : {A : Type 0} → (A → Bool) → List A → List A
-keep f [] = []
-keep f (x ∷ xs) = cond (f x) (x ∷ keep f xs) (keep f xs)
 
 -- V instantiated to v.
 unfoldable pub instantiate : Subproblem → ℕ → ℕ → Subproblem
@@ -119,12 +104,6 @@ unfolding filled
 pieces n allowed P r = filled n (named n allowed P r)
 
 -- For the calls that make pieces one by one, or by a row: document 01's splits end above.
-
--- The row of v of V: what each other variable may hold beside it, and for V itself v alone.
-pub record RowOf (n : ℕ) (allowed : Table) (V′ v : ℕ) (row : List ℕ) : Type 0 where
-  pub long : length row ≡ 32
-  pub own : getD row V′ 0 ≡ single v
-  pub other : (j : ℕ) → j < n → (j ≡ V′ → ⊥) → getD row j 0 ≡ allowed V′ j v
 
 -- Every domain cut to its own mask of a row, and V marked: by the row of v, a value of V, the precluded piece (By-row).
 unfoldable pub precludedBy : Subproblem → ℕ → List ℕ → Subproblem

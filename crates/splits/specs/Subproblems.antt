@@ -1,12 +1,13 @@
 -- A subproblem: a domain for each variable and the set of those that a split instantiated.
 use mathlib.Core.Path.{_≡_}
-use mathlib.Core.Bool.{Bool, true, false, _&&_, _||_}
-use Prim.Native.Nat.{ℕ, zero, suc, _≤_, _<_}
+use mathlib.Core.Bool.{Bool}
+use Prim.Native.Nat.{ℕ, _≤_, _<_}
 use lib.ListN.{getD}
 use lib.Dec.{eqb}
-use Rattle.splits.specs.Masks.{bit, _∈_, Part, size}
-use Rattle.splits.specs.Problem.{Problem, Solution, possibilities}
+use Rattle.problem.specs.Masks.{bit, _∈_, Part, size}
+use Rattle.problem.specs.Problem.{Problem, Solution, possibilities}
 use Rattle.splits.specs.declared.subproblem.Subproblem.{Subproblem}
+use Rattle.problem.specs.Lists.{every, some}
 
 -- The domain of variable i; past the last the empty mask.
 abbrev pub domain : Subproblem → ℕ → ℕ
@@ -32,15 +33,6 @@ SolutionOf p P f = Solution (p .n) (p .allowed) (domain P) f
 -- The size of a subproblem of n variables: the product of its domain sizes.
 abbrev pub sizeOf : ℕ → Subproblem → ℕ
 sizeOf n P = possibilities n (domain P)
-
--- A test at every number below n, and at some.
-unfoldable pub every : ℕ → (ℕ → Bool) → Bool
-every zero f = true
-every (suc n) f = every n f && f n
-
-unfoldable pub some : ℕ → (ℕ → Bool) → Bool
-some zero f = false
-some (suc n) f = some n f || f n
 
 -- Whether one of the n domains is empty.
 unfoldable pub empty : ℕ → Subproblem → Bool

@@ -1,16 +1,16 @@
 // The constraint checks that a request counts.
-use crate::mask;
+use problem::mask;
 use crate::subproblem::Subproblem;
-use crate::tables;
+use problem::tables;
 use crate::words;
 ghost use mathlib.Core.Path.{_≡_};
 ghost use Prim.Native.Nat.{_+_, _<_, _≤_};
-ghost use Rattle.splits.specs.Problem.{tableOf};
+ghost use Rattle.problem.specs.Problem.{tableOf};
 ghost use Rattle.splits.specs.Splits.{forbids};
 ghost use Rattle.splits.specs.Checks.{valuesIn, others};
 ghost use Rattle.splits.specs.Calls.{Checks-of};
-ghost use Rattle.splits.specs.Ranges.{Inside};
-ghost use Rattle.splits.specs.Work.Loops.{LookedAt};
+ghost use Rattle.problem.specs.Ranges.{Inside};
+ghost use Rattle.splits.specs.Loops.Kinds.{LookedAt};
 
 // How many instantiated variables kind 1 looked at, and whether the last of them forbids the value.
 pub(crate) struct Looked {

@@ -1,12 +1,12 @@
 // Which refusal a request deserves, of 7 to 10.
-use crate::mask;
+use problem::mask;
 use crate::subproblem::Subproblem;
 use crate::words;
 ghost use mathlib.Core.Path.{_≡_};
 ghost use mathlib.Core.Bool.{cond, _||_};
 ghost use Rattle.splits.specs.Requests.{kindOf, variableOf, valueOf};
-ghost use Rattle.splits.specs.Refusals.{bad, someBad, allSame};
-ghost use Rattle.splits.specs.Work.Loops.{deserves9, refusalOfVariable};
+ghost use Rattle.splits.specs.Tests.Refusals.{bad, someBad, allSame};
+ghost use Rattle.splits.specs.Loops.Kinds.{deserves9, refusalOfVariable};
 ghost use Rattle.splits.specs.Calls.{Refusal-of};
 
 // Whether a target is empty or not part of the domain.

@@ -1,19 +1,19 @@
 // The five splits: the pieces of a request, one by one.
 use crate::checks;
-use crate::mask;
+use problem::mask;
 use crate::subproblem::Subproblem;
-use crate::tables;
+use problem::tables;
 use crate::words;
 ghost use mathlib.Core.Path.{_≡_};
 ghost use Prim.Native.Nat.{_+_, _≤_, _<_};
-ghost use Rattle.splits.specs.Problem.{tableOf};
+ghost use Rattle.problem.specs.Problem.{tableOf};
 ghost use mathlib.Core.Bool.{cond};
 ghost use lib.Dec.{ltb};
 ghost use Rattle.splits.specs.Requests.{kindOf, variableOf};
 ghost use Rattle.splits.specs.Splits.{backtracked, checked, inferred, halved, extracted, candidates};
 ghost use Rattle.splits.specs.Calls.{Piece, Candidates};
-ghost use Rattle.splits.specs.Ranges.{Inside};
-ghost use Rattle.splits.specs.Work.Loops.{aroundValue};
+ghost use Rattle.problem.specs.Ranges.{Inside};
+ghost use Rattle.splits.specs.Loops.Kinds.{aroundValue};
 
 // Backtracking: the variable instantiated to the value, emptied where an instantiated value forbids it; then the rest.
 fn backtracking(

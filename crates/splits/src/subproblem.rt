@@ -1,13 +1,13 @@
 // A subproblem: a domain for each variable, and the set of those that a split instantiated.
-use crate::mask;
-use crate::tables;
+use problem::mask;
+use problem::tables;
 use crate::words;
 ghost use mathlib.Core.Path.{_≡_};
 ghost use Prim.Native.Nat.{_+_, _<_, _≤_};
-ghost use Rattle.splits.specs.Problem.{tableOf};
+ghost use Rattle.problem.specs.Problem.{tableOf};
 ghost use Rattle.splits.specs.Splits.{cutBeside, atTargets};
 ghost use Rattle.splits.specs.Calls.{Domain, Is-instantiated, All-instantiated, Is-empty, Instantiate, Without, Cut, Cut-each, Precluded-by, Precluded};
-ghost use Rattle.splits.specs.Ranges.{Inside};
+ghost use Rattle.problem.specs.Ranges.{Inside};
 
 pub struct Subproblem {
     pub domains: [u16; 32],

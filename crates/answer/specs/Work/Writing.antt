@@ -3,7 +3,7 @@ use mathlib.Core.Path.{_≡_}
 use mathlib.Core.List.{List, [], _++_}
 use Prim.Native.Nat.{ℕ, zero, suc, _+_, _-_, _*_, _≤_}
 use lib.ListN.{length, replicate, getD}
-use Rattle.splits.specs.Masks.{lowest}
+use Rattle.problem.specs.Masks.{lowest}
 use Rattle.search.specs.Agenda.{stackOf}
 use Rattle.search.specs.Verdicts.{verdictOf}
 use Rattle.search.specs.declared.state.Ran.{Ran}

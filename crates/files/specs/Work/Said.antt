@@ -5,10 +5,9 @@ use mathlib.Core.List.{List, _++_, map}
 use Prim.Native.Nat.{ℕ, _+_, _-_, _*_, _/_, _%_, _≤_}
 use lib.ListN.{length, getD, take, drop, replicate}
 use lib.Dec.{eqb, leb, ltb}
-use Rattle.splits.specs.Masks.{bit}
-use Rattle.splits.specs.Problem.{Table}
-use Rattle.splits.specs.Subproblems.{every}
-use Rattle.splits.specs.Splits.{below}
+use Rattle.problem.specs.Masks.{bit}
+use Rattle.problem.specs.Problem.{Table}
+use Rattle.problem.specs.Lists.{every, below}
 use Rattle.search.specs.declared.state.State.{State}
 use Rattle.files.specs.Blocks.{checkOf, blocksFor}
 use Rattle.files.specs.Content.{each}

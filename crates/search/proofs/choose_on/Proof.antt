@@ -3,8 +3,8 @@
 use mathlib.Core.Path.{_∙_}
 use Prim.Native.Nat.{_≤_, _-_}
 use native.Mathlib.Omega.{arith}
-use Rattle.search.specs.Work.Lanes.{Rows}
-use Rattle.search.proofs.Beside.{rows-none}
+use Rattle.search.specs.Loops.Lanes.{Rows}
+use Rattle.search.proofs.kept.Kept.{rows-none}
 use Rattle.search.proofs.Running.{GoingChosen, choosing-none, choosing-on, choosing-stops, choosing-end}
 use borrow.Author.Needs.{needs}
 use Rattle.search.proofs.choose_on.Statement.{statement}

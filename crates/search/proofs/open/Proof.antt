@@ -1,7 +1,7 @@
 -- `search::open` meets its contract.
 -- Assumes nothing.
 use borrow.Author.Needs.{needs}
-use Rattle.search.proofs.Admitting.{openable}
+use Rattle.search.proofs.first_checks.Admitting.{openable}
 use Rattle.search.proofs.Ending.{opens-refused, opens-made}
 use Rattle.search.proofs.open.Statement.{statement}
 use Rattle.search.proofs.open.Tie as tie

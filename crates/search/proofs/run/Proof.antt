@@ -6,7 +6,7 @@ use lib.ListN.{getD}
 use mir.Val.{Fits}
 use mir.Syntax.{w32}
 use borrow.Author.Needs.{needs}
-use Rattle.search.proofs.Admitting.{run-ready}
+use Rattle.search.proofs.first_checks.Admitting.{run-ready}
 use Rattle.search.proofs.Ending.{ends-refused, ends-stopped, stops-used, run-same}
 use Rattle.search.proofs.run.Statement.{statement}
 use Rattle.search.proofs.run.Tie as tie

@@ -6,7 +6,7 @@ use mathlib.Core.List.{_++_, map}
 use Prim.Native.Nat.{ℕ, _-_, _≤_}
 use native.Mathlib.Omega.{arith}
 use lib.ListN.{length, drop, replicate, length-replicate}
-use Rattle.splits.specs.Splits.{below}
+use Rattle.problem.specs.Lists.{below}
 use Rattle.files.specs.Work.Said.{lowWord}
 use Rattle.files.proofs.Filled.{front-none, front-more, front-end}
 use Rattle.files.proofs.block.low_words.Statement.{statement}

@@ -3,7 +3,7 @@
 use borrow.Author.Needs.{needs}
 use Prim.Native.Nat.{_-_, _≤_}
 use native.Mathlib.Omega.{arith}
-use Rattle.splits.specs.Problem.{tableOf}
+use Rattle.problem.specs.Problem.{tableOf}
 use Rattle.files.proofs.Triangle.{row}
 use Rattle.files.proofs.Filled.{Passed, passed-none}
 use Rattle.files.proofs.Written.{row-room, rows-more, rows-end}

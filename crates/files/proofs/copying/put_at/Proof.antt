@@ -2,7 +2,7 @@
 -- Assumes nothing.
 use borrow.Author.Needs.{needs}
 use mathlib.Core.Path.{refl}
-use Rattle.search.proofs.Copies.{put-part}
+use Rattle.problem.proofs.Copies.{put-part}
 use Rattle.files.proofs.copying.put_at.Statement.{statement}
 use Rattle.files.proofs.copying.put_at.Tie as tie
 

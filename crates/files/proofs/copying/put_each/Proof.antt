@@ -6,7 +6,7 @@ use mathlib.Core.List.{_++_}
 use Prim.Native.Nat.{_-_, _≤_}
 use native.Mathlib.Omega.{arith}
 use lib.ListN.{length, take, drop, length-set}
-use Rattle.search.proofs.Copies.{copy-more}
+use Rattle.problem.proofs.Copies.{copy-more}
 use Rattle.files.proofs.Filled.{copy-whole}
 use Rattle.files.proofs.copying.put_each.Statement.{statement}
 use Rattle.files.proofs.copying.put_each.Tie as tie

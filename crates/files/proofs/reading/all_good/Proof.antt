@@ -5,8 +5,8 @@ use mathlib.Core.Path.{_≡_, ap, _∙_}
 use mathlib.Core.Bool.{true}
 use Prim.Native.Nat.{ℕ, _+_, _-_, _≤_, _<_}
 use native.Mathlib.Omega.{arith}
-use Rattle.splits.specs.Subproblems.{every}
-use Rattle.search.proofs.FirstLoops.{every-start, every-stop, every-turn, every-end}
+use Rattle.problem.specs.Lists.{every}
+use Rattle.problem.proofs.FirstLoops.{every-start, every-stop, every-turn, every-end}
 use Rattle.files.specs.Reading.{goodBlock}
 use Rattle.files.proofs.Found.{good-part}
 use Rattle.files.proofs.reading.all_good.Statement.{statement}

@@ -2,7 +2,7 @@
 -- Assumes nothing.
 use borrow.Author.Needs.{needs}
 use mathlib.Core.Path.{sym, _∙_}
-use Rattle.search.proofs.FirstParts.{else-first, else-rest}
+use Rattle.problem.proofs.first_checks.Parts.{else-first, else-rest}
 use Rattle.files.proofs.reading.refusal_of_sizes.Statement.{statement}
 use Rattle.files.proofs.reading.refusal_of_sizes.Tie as tie
 

@@ -5,8 +5,8 @@ use mathlib.Core.Path.{_≡_}
 use Prim.Native.Nat.{_-_, _≤_}
 use native.Mathlib.Omega.{arith}
 use mathlib.Core.Bool.{true}
-use Rattle.splits.specs.Subproblems.{every}
-use Rattle.search.proofs.FirstLoops.{every-start, every-end}
+use Rattle.problem.specs.Lists.{every}
+use Rattle.problem.proofs.FirstLoops.{every-start, every-end}
 use Rattle.files.specs.Work.Said.{zeroIn}
 use Rattle.files.proofs.Found.{zero-stop, zero-turn}
 use Rattle.files.proofs.reading.zeros_from.Statement.{statement}

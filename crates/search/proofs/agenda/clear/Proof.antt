@@ -5,7 +5,7 @@ use mathlib.Core.List.{_++_}
 use Prim.Native.Nat.{_≤_, _-_}
 use native.Mathlib.Omega.{arith}
 use lib.ListN.{length, drop, replicate, length-set}
-use Rattle.search.proofs.Copies.{zeros-end, zeros-more}
+use Rattle.problem.proofs.Copies.{zeros-end, zeros-more}
 use Rattle.search.proofs.agenda.clear.Statement.{statement}
 use Rattle.search.proofs.agenda.clear.Tie as tie
 

@@ -6,8 +6,8 @@ use Prim.Native.Nat.{ℕ, _≤_, _-_}
 use native.Mathlib.Omega.{arith}
 use lib.ListN.{length, drop, take, replicate}
 use borrow.Author.Needs.{needs}
-use Rattle.search.proofs.Copies.{copy-more}
-use Rattle.search.proofs.Encoding.{holding-made}
+use Rattle.problem.proofs.Copies.{copy-more}
+use Rattle.search.proofs.agenda.Encoding.{holding-made}
 use Rattle.search.proofs.agenda.holding.Statement.{statement}
 use Rattle.search.proofs.agenda.holding.Tie as tie
 

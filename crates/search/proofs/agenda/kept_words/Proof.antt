@@ -3,8 +3,8 @@
 use mathlib.Core.Path.{_≡_}
 use Prim.Native.Nat.{_≤_, _-_}
 use native.Mathlib.Omega.{arith}
-use Rattle.search.specs.Work.Lanes.{KeptTo}
-use Rattle.search.proofs.Halves.{kept-more}
+use Rattle.search.specs.Loops.Lanes.{KeptTo}
+use Rattle.search.proofs.lanes.Halves.{kept-more}
 use borrow.Author.Needs.{needs}
 use Rattle.search.proofs.agenda.kept_words.Statement.{statement}
 use Rattle.search.proofs.agenda.kept_words.Tie as tie

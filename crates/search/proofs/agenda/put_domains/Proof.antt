@@ -5,7 +5,7 @@ use mathlib.Core.List.{_++_}
 use Prim.Native.Nat.{_≤_, _-_}
 use native.Mathlib.Omega.{arith}
 use lib.ListN.{length, drop, take, length-set}
-use Rattle.search.proofs.Copies.{copy-more}
+use Rattle.problem.proofs.Copies.{copy-more}
 use borrow.Author.Needs.{needs}
 use Rattle.search.proofs.agenda.put_domains.Statement.{statement}
 use Rattle.search.proofs.agenda.put_domains.Tie as tie

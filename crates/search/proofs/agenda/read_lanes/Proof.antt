@@ -1,7 +1,7 @@
 -- `search::agenda::read_lanes` meets its contract.
 -- Assumes nothing.
 use native.Mathlib.Omega.{arith}
-use Rattle.search.proofs.Halves.{slot-lanes}
+use Rattle.search.proofs.lanes.Halves.{slot-lanes}
 use borrow.Author.Needs.{needs}
 use Rattle.search.proofs.agenda.read_lanes.Statement.{statement}
 use Rattle.search.proofs.agenda.read_lanes.Tie as tie

@@ -3,8 +3,8 @@
 use mathlib.Core.Path.{_≡_}
 use Prim.Native.Nat.{_≤_, _-_}
 use native.Mathlib.Omega.{arith}
-use Rattle.search.specs.Work.Lanes.{Below}
-use Rattle.search.proofs.Halves.{below-none, below-more}
+use Rattle.search.specs.Loops.Lanes.{Below}
+use Rattle.search.proofs.lanes.Halves.{below-none, below-more}
 use Rattle.search.proofs.lanes.below.Statement.{statement}
 use Rattle.search.proofs.lanes.below.Tie as tie
 

@@ -3,9 +3,9 @@
 use mathlib.Core.Path.{sym, subst}
 use Prim.Native.Nat.{ℕ, _-_}
 use native.Mathlib.Omega.{arith}
-use Rattle.splits.proofs.Subproblems.{shifted}
-use Rattle.search.specs.Work.Lanes.{Beyond}
-use Rattle.search.proofs.Halves.{shift-small, beyond-is}
+use Rattle.problem.proofs.mask.Masks.{shifted}
+use Rattle.search.specs.Loops.Lanes.{Beyond}
+use Rattle.search.proofs.lanes.Halves.{shift-small, beyond-is}
 use borrow.Author.Needs.{needs}
 use Rattle.search.proofs.lanes.beyond.Statement.{statement}
 use Rattle.search.proofs.lanes.beyond.Tie as tie

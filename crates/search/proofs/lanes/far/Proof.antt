@@ -1,7 +1,7 @@
 -- `search::lanes::far` meets its contract.
 -- Assumes nothing.
 use native.Mathlib.Omega.{arith}
-use Rattle.splits.specs.Masks.{bit}
+use Rattle.problem.specs.Masks.{bit}
 use borrow.Author.Needs.{needs}
 use Rattle.search.proofs.lanes.far.Statement.{statement}
 use Rattle.search.proofs.lanes.far.Tie as tie

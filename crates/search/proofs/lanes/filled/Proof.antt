@@ -3,9 +3,9 @@
 use mathlib.Core.Path.{_≡_, refl}
 use Prim.Native.Nat.{_≤_, _-_}
 use native.Mathlib.Omega.{arith}
-use Rattle.splits.specs.Problem.{total}
-use Rattle.search.specs.Work.Lanes.{filled}
-use Rattle.search.proofs.AtOnce.{total-turn}
+use Rattle.problem.specs.Lists.{total}
+use Rattle.search.specs.Loops.Lanes.{filled}
+use Rattle.search.proofs.lanes.AtOnce.{total-turn}
 use Rattle.search.proofs.lanes.filled.Statement.{statement}
 use Rattle.search.proofs.lanes.filled.Tie as tie
 

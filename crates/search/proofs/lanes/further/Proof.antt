@@ -3,8 +3,8 @@
 use mathlib.Core.Path.{_≡_}
 use Prim.Native.Nat.{_≤_, _-_}
 use native.Mathlib.Omega.{arith}
-use Rattle.search.specs.Work.Lanes.{FurtherTo}
-use Rattle.search.proofs.Halves.{further-none, further-more}
+use Rattle.search.specs.Loops.Lanes.{FurtherTo}
+use Rattle.search.proofs.lanes.Halves.{further-none, further-more}
 use borrow.Author.Needs.{needs}
 use Rattle.search.proofs.lanes.further.Statement.{statement}
 use Rattle.search.proofs.lanes.further.Tie as tie

@@ -2,7 +2,7 @@
 -- Assumes nothing.
 use native.Mathlib.Omega.{arith}
 use borrow.Author.Needs.{needs}
-use Rattle.search.proofs.Halves.{half-is}
+use Rattle.search.proofs.lanes.Halves.{half-is}
 use Rattle.search.proofs.lanes.half.Statement.{statement}
 use Rattle.search.proofs.lanes.half.Tie as tie
 

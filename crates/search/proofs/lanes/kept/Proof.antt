@@ -1,6 +1,6 @@
 -- `search::lanes::kept` meets its contract.
 -- Assumes nothing.
-use Rattle.search.proofs.Halves.{kept-is}
+use Rattle.search.proofs.lanes.Halves.{kept-is}
 use borrow.Author.Needs.{needs}
 use Rattle.search.proofs.lanes.kept.Statement.{statement}
 use Rattle.search.proofs.lanes.kept.Tie as tie

@@ -3,9 +3,9 @@
 use mathlib.Core.Path.{_≡_}
 use Prim.Native.Nat.{_≤_, _-_}
 use native.Mathlib.Omega.{arith}
-use Rattle.search.specs.Work.Lanes.{LeastKey}
-use Rattle.search.proofs.AtOnce.{least-none, least-more}
-use Rattle.search.proofs.Halves.{key-in}
+use Rattle.search.specs.Loops.Lanes.{LeastKey}
+use Rattle.search.proofs.lanes.AtOnce.{least-none, least-more}
+use Rattle.search.proofs.lanes.Halves.{key-in}
 use Rattle.search.proofs.lanes.least_key.Statement.{statement}
 use Rattle.search.proofs.lanes.least_key.Tie as tie
 

@@ -6,9 +6,9 @@ use Prim.Native.Nat.{_≤_, _-_}
 use native.Mathlib.Omega.{arith}
 use lib.ListN.{getD}
 use lib.Dec.{eqb}
-use Rattle.splits.specs.Subproblems.{some}
-use Rattle.search.specs.Work.Lanes.{lost, loses}
-use Rattle.search.proofs.AtOnce.{some-turn}
+use Rattle.problem.specs.Lists.{some}
+use Rattle.search.specs.Loops.Lanes.{lost, loses}
+use Rattle.search.proofs.lanes.AtOnce.{some-turn}
 use Rattle.search.proofs.lanes.loses.Statement.{statement}
 use Rattle.search.proofs.lanes.loses.Tie as tie
 

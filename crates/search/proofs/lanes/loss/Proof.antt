@@ -1,6 +1,6 @@
 -- `search::lanes::loss` meets its contract.
 -- Assumes nothing.
-use Rattle.search.proofs.AtOnce.{loss-empty, loss-all, loss-none}
+use Rattle.search.proofs.lanes.AtOnce.{loss-empty, loss-all, loss-none}
 use Rattle.search.proofs.lanes.loss.Statement.{statement}
 use Rattle.search.proofs.lanes.loss.Tie as tie
 

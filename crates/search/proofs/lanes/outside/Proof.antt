@@ -1,6 +1,6 @@
 -- `search::lanes::outside` meets its contract.
 -- Assumes nothing.
-use Rattle.splits.proofs.Masks.{not-minus}
+use Rattle.problem.proofs.mask.Masks.{not-minus}
 use Rattle.search.proofs.lanes.outside.Statement.{statement}
 use Rattle.search.proofs.lanes.outside.Tie as tie
 

@@ -3,9 +3,9 @@
 use mathlib.Core.Path.{_≡_, refl}
 use Prim.Native.Nat.{_≤_, _-_}
 use native.Mathlib.Omega.{arith}
-use Rattle.splits.specs.Splits.{changed}
-use Rattle.search.specs.Work.Lanes.{outsideTo}
-use Rattle.search.proofs.AtOnce.{outside-more}
+use Rattle.problem.specs.Lists.{changed}
+use Rattle.search.specs.Loops.Lanes.{outsideTo}
+use Rattle.search.proofs.lanes.AtOnce.{outside-more}
 use Rattle.search.proofs.lanes.outsides.Statement.{statement}
 use Rattle.search.proofs.lanes.outsides.Tie as tie
 

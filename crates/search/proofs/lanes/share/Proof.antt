@@ -1,6 +1,6 @@
 -- `search::lanes::share` meets its contract.
 -- Assumes nothing.
-use Rattle.search.proofs.Halves.{share-is}
+use Rattle.search.proofs.lanes.Halves.{share-is}
 use Rattle.search.proofs.lanes.share.Statement.{statement}
 use Rattle.search.proofs.lanes.share.Tie as tie
 

@@ -3,8 +3,8 @@
 use mathlib.Core.Path.{_≡_}
 use Prim.Native.Nat.{_≤_, _-_}
 use native.Mathlib.Omega.{arith}
-use Rattle.search.specs.Work.Lanes.{Sides}
-use Rattle.search.proofs.Halves.{sides-none, sides-more}
+use Rattle.search.specs.Loops.Lanes.{Sides}
+use Rattle.search.proofs.lanes.Halves.{sides-none, sides-more}
 use Rattle.search.proofs.lanes.sides.Statement.{statement}
 use Rattle.search.proofs.lanes.sides.Tie as tie
 

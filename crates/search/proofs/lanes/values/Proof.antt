@@ -4,9 +4,9 @@ use mathlib.Core.Path.{_≡_, refl}
 use Prim.Native.Nat.{_≤_, _-_, _*_}
 use native.Mathlib.Omega.{arith}
 use lib.ListN.{getD}
-use Rattle.splits.specs.Masks.{size}
-use Rattle.splits.specs.Problem.{total}
-use Rattle.search.proofs.AtOnce.{total-turn}
+use Rattle.problem.specs.Masks.{size}
+use Rattle.problem.specs.Lists.{total}
+use Rattle.search.proofs.lanes.AtOnce.{total-turn}
 use Rattle.search.proofs.lanes.values.Statement.{statement}
 use Rattle.search.proofs.lanes.values.Tie as tie
 

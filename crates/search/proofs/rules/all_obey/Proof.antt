@@ -4,14 +4,15 @@ use mathlib.Core.Bool.{true}
 use mathlib.Core.Path.{_≡_, ap, _∙_}
 use Prim.Native.Nat.{_-_, _≤_}
 use native.Mathlib.Omega.{arith}
-use Rattle.splits.specs.Subproblems.{every}
-use Rattle.search.specs.Agenda.{problemOf, subproblemOf}
-use Rattle.search.proofs.Copies.{slot-below}
-use Rattle.search.proofs.FirstLoops.{every-start, every-stop, every-turn, every-end}
-use Rattle.search.proofs.FirstParts.{slotObeys, all-slots, slot-obeys}
-use Rattle.search.specs.Work.Lanes.{Rows}
-use Rattle.search.proofs.Beside.{rows-none}
-use Rattle.search.proofs.Alike.{marks-known}
+use Rattle.problem.specs.Lists.{every}
+use Rattle.problem.specs.Problem.{problemOf}
+use Rattle.search.specs.Agenda.{subproblemOf}
+use Rattle.search.proofs.agenda.Slots.{slot-below}
+use Rattle.problem.proofs.FirstLoops.{every-start, every-stop, every-turn, every-end}
+use Rattle.search.proofs.first_checks.FirstParts.{slotObeys, all-slots, slot-obeys}
+use Rattle.search.specs.Loops.Lanes.{Rows}
+use Rattle.search.proofs.kept.Kept.{rows-none}
+use Rattle.search.proofs.rules.Alike.{marks-known}
 use borrow.Author.Needs.{needs}
 use Rattle.search.proofs.rules.all_obey.Statement.{statement}
 use Rattle.search.proofs.rules.all_obey.Tie as tie

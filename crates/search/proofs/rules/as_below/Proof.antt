@@ -4,8 +4,8 @@ use mathlib.Core.Bool.{true≢false}
 use mathlib.Core.Path.{sym}
 use Prim.Native.Nat.{_+_, _-_}
 use native.Mathlib.Omega.{arith}
-use Rattle.search.proofs.Copies.{slot-below}
-use Rattle.search.proofs.Alike.{tells-below}
+use Rattle.search.proofs.agenda.Slots.{slot-below}
+use Rattle.search.proofs.rules.Alike.{tells-below}
 use Rattle.search.proofs.rules.as_below.Statement.{statement}
 use Rattle.search.proofs.rules.as_below.Tie as tie
 

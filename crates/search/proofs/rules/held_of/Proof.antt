@@ -3,8 +3,8 @@
 use mathlib.Core.Path.{_≡_, refl}
 use Prim.Native.Nat.{_-_, _<_}
 use native.Mathlib.Omega.{arith}
-use Rattle.splits.specs.Masks.{bit}
-use Rattle.search.proofs.Marked.{HeldTo, held-start, held-next, held-end}
+use Rattle.problem.specs.Masks.{bit}
+use Rattle.search.proofs.rules.Marked.{HeldTo, held-start, held-next, held-end}
 use borrow.Author.Needs.{needs}
 use Rattle.search.proofs.rules.held_of.Statement.{statement}
 use Rattle.search.proofs.rules.held_of.Tie as tie

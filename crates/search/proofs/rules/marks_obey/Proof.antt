@@ -6,15 +6,15 @@ use Prim.Native.Nat.{_-_, _<_}
 use native.Mathlib.Nat.{div-one}
 use native.Mathlib.Omega.{arith}
 use borrow.Author.Tests.{eq-eqb, ne-eqb}
-use Rattle.splits.specs.Masks.{bit}
-use Rattle.splits.specs.Problem.{tableOf}
-use Rattle.splits.specs.Subproblems.{every}
+use Rattle.problem.specs.Masks.{bit}
+use Rattle.problem.specs.Problem.{tableOf}
+use Rattle.problem.specs.Lists.{every}
 use Rattle.search.specs.Agenda.{subproblemOf}
-use Rattle.search.specs.Work.FirstTests.{markObeys}
-use Rattle.search.specs.Work.Lanes.{Rows}
-use Rattle.search.proofs.Beside.{row-at, row-more}
-use Rattle.search.proofs.FirstLoops.{every-start, every-stop, every-turn}
-use Rattle.search.proofs.Marked.{every-past, marks-next, mark-read}
+use Rattle.search.specs.Loops.FirstTests.{markObeys}
+use Rattle.search.specs.Loops.Lanes.{Rows}
+use Rattle.search.proofs.kept.Kept.{row-at, row-more}
+use Rattle.problem.proofs.FirstLoops.{every-start, every-stop, every-turn}
+use Rattle.search.proofs.rules.Marked.{every-past, marks-next, mark-read}
 use borrow.Author.Needs.{needs}
 use Rattle.search.proofs.rules.marks_obey.Statement.{statement}
 use Rattle.search.proofs.rules.marks_obey.Tie as tie

@@ -3,9 +3,10 @@
 use mathlib.Core.Path.{_≡_}
 use Prim.Native.Nat.{_-_, _≤_}
 use native.Mathlib.Omega.{arith}
-use Rattle.search.specs.Work.FirstTests.{joined, missingIn}
-use Rattle.search.proofs.Joining.{joined-none, joined-end}
-use Rattle.search.proofs.Marked.{missing-more}
+use Rattle.problem.specs.Lists.{joined}
+use Rattle.search.specs.Loops.FirstTests.{missingIn}
+use Rattle.problem.proofs.first_checks.Joining.{joined-none, joined-end}
+use Rattle.search.proofs.rules.Marked.{missing-more}
 use Rattle.search.proofs.rules.missing.Statement.{statement}
 use Rattle.search.proofs.rules.missing.Tie as tie
 

@@ -4,7 +4,7 @@ use mathlib.Core.Path.{refl}
 use Prim.Native.Nat.{_/_, _^_}
 use native.Mathlib.Omega.{arith}
 use lib.Count.{trailing-le}
-use Rattle.search.proofs.Marked.{next-found}
+use Rattle.search.proofs.rules.Marked.{next-found}
 use borrow.Author.Needs.{needs}
 use Rattle.search.proofs.rules.next_in.Statement.{statement}
 use Rattle.search.proofs.rules.next_in.Tie as tie

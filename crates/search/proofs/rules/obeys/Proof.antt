@@ -1,7 +1,7 @@
 -- `rules::obeys` meets its contract: the marks, the domains together, then the instantiated variables, unless these are known.
 -- Assumes nothing.
 use mathlib.Core.Path.{sym}
-use Rattle.search.proofs.Marked.{slot-marks, marks-in, slot-over, slot-wrong, slot-values, slot-marked, problem-parts}
+use Rattle.search.proofs.rules.Marked.{slot-marks, marks-in, slot-over, slot-wrong, slot-values, slot-marked, problem-parts}
 use borrow.Author.Needs.{needs}
 use Rattle.search.proofs.rules.obeys.Statement.{statement}
 use Rattle.search.proofs.rules.obeys.Tie as tie

@@ -1,6 +1,6 @@
 -- `rules::part_wrong` meets its contract: empty, or what the problem's domain has not.
 -- Assumes nothing.
-use Rattle.search.proofs.Marked.{wrong-empty, wrong-over}
+use Rattle.search.proofs.rules.Marked.{wrong-empty, wrong-over}
 use Rattle.search.proofs.rules.part_wrong.Statement.{statement}
 use Rattle.search.proofs.rules.part_wrong.Tie as tie
 

@@ -4,7 +4,7 @@ use mathlib.Core.Bool.{true≢false}
 use mathlib.Core.Path.{sym}
 use Prim.Native.Nat.{_-_}
 use native.Mathlib.Omega.{arith}
-use Rattle.search.proofs.Alike.{AlikeTo, alike-start, alike-next, alike-end}
+use Rattle.search.proofs.rules.Alike.{AlikeTo, alike-start, alike-next, alike-end}
 use borrow.Author.Needs.{needs}
 use Rattle.search.proofs.rules.same_marks.Statement.{statement}
 use Rattle.search.proofs.rules.same_marks.Tie as tie

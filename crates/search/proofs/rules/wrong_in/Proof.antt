@@ -4,8 +4,9 @@ use mathlib.Core.Path.{_≡_}
 use Prim.Native.Nat.{_-_, _≤_}
 use native.Mathlib.Omega.{arith}
 use lib.ListN.{length}
-use Rattle.search.specs.Work.FirstTests.{joined, wrongIn}
-use Rattle.search.proofs.Joining.{joined-none, joined-more, joined-end}
+use Rattle.problem.specs.Lists.{joined}
+use Rattle.search.specs.Loops.FirstTests.{wrongIn}
+use Rattle.problem.proofs.first_checks.Joining.{joined-none, joined-more, joined-end}
 use borrow.Author.Needs.{needs}
 use Rattle.search.proofs.rules.wrong_in.Statement.{statement}
 use Rattle.search.proofs.rules.wrong_in.Tie as tie

@@ -2,7 +2,7 @@
 -- Assumes nothing.
 use Prim.Native.Nat.{_-_}
 use native.Mathlib.Omega.{arith}
-use Rattle.search.proofs.Marked.{wrong-front}
+use Rattle.search.proofs.rules.Marked.{wrong-front}
 use borrow.Author.Needs.{needs}
 use Rattle.search.proofs.rules.wrong_with.Statement.{statement}
 use Rattle.search.proofs.rules.wrong_with.Tie as tie

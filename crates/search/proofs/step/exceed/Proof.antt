@@ -3,7 +3,7 @@
 use mathlib.Core.Path.{_≡_, ap}
 use lib.ListN.{length}
 use lib.Dec.{ltb}
-use Rattle.search.proofs.Gathering.{roomy}
+use Rattle.search.proofs.step.Gathering.{roomy}
 use borrow.Author.Needs.{needs}
 use Rattle.search.proofs.step.exceed.Statement.{statement}
 use Rattle.search.proofs.step.exceed.Tie as tie

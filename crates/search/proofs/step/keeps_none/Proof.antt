@@ -4,8 +4,8 @@ use mathlib.Core.Path.{_≡_, refl}
 use mathlib.Core.Logic.{inl, inr}
 use native.Mathlib.Omega.{arith}
 use lib.ListN.{length}
-use Rattle.splits.proofs.ByKind.{few}
-use Rattle.search.proofs.Keeping.{tells-none, place-3, own-variable, keeps-none-3, keeps-none-5}
+use Rattle.splits.proofs.split.ByKind.{few}
+use Rattle.search.proofs.step.Keeping.{tells-none, place-3, own-variable, keeps-none-3, keeps-none-5}
 use borrow.Author.Needs.{needs}
 use Rattle.search.proofs.step.keeps_none.Statement.{statement}
 use Rattle.search.proofs.step.keeps_none.Tie as tie

@@ -5,10 +5,10 @@ use mathlib.Core.Logic.{⊎-elim}
 use Prim.Native.Nat.{_≤_, _-_}
 use native.Mathlib.Omega.{arith}
 use lib.ListN.{length}
-use Rattle.splits.specs.Problem.{tableOf}
+use Rattle.problem.specs.Problem.{tableOf}
 use Rattle.splits.specs.Splits.{candidate}
-use Rattle.search.proofs.Candidates.{firsts}
-use Rattle.search.proofs.Gathering.{count-more, count-same, count-end}
+use Rattle.search.proofs.step.Candidates.{firsts}
+use Rattle.search.proofs.step.Gathering.{count-more, count-same, count-end}
 use borrow.Author.Needs.{needs}
 use Rattle.search.proofs.step.piece_count.Statement.{statement}
 use Rattle.search.proofs.step.piece_count.Tie as tie

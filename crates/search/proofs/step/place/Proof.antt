@@ -6,9 +6,9 @@ use native.Mathlib.Omega.{arith}
 use lib.ListN.{length}
 use borrow.Author.Tests.{not-false}
 use borrow.Author.Needs.{needs}
-use Rattle.splits.proofs.ByKind.{few}
-use Rattle.search.proofs.Copies.{slot-end}
-use Rattle.search.proofs.Gathering.{named-is, Gathered, gather-none, gather-less, gather-drop, gather-slot, gather-keep, gather-end}
+use Rattle.splits.proofs.split.ByKind.{few}
+use Rattle.search.proofs.agenda.Slots.{slot-end}
+use Rattle.search.proofs.step.Gathering.{named-is, Gathered, gather-none, gather-less, gather-drop, gather-slot, gather-keep, gather-end}
 use Rattle.search.proofs.step.place.Statement.{statement}
 use Rattle.search.proofs.step.place.Tie as tie
 

@@ -2,7 +2,7 @@
 -- Assumes nothing.
 use mathlib.Core.Path.{sym, _∙_}
 use borrow.Author.Needs.{needs}
-use Rattle.search.proofs.Accepting.{accepted-reads, refused-at-11, refused-by-top, refused-at-12, refused-by-none}
+use Rattle.search.proofs.step.Accepting.{accepted-reads, refused-at-11, refused-by-top, refused-at-12, refused-by-none}
 use Rattle.search.proofs.step.refusal_of.Statement.{statement}
 use Rattle.search.proofs.step.refusal_of.Tie as tie
 

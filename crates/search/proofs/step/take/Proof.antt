@@ -1,8 +1,8 @@
 -- `search::step::take` meets its contract.
 -- Assumes nothing.
 use borrow.Author.Needs.{needs}
-use Rattle.search.proofs.Copies.{splice-twice}
-use Rattle.search.proofs.Stepping.{below-slots, take-refused, take-reads, take-counts, take-steps, take-room, take-slot, take-taken}
+use Rattle.problem.proofs.Copies.{splice-twice}
+use Rattle.search.proofs.step.Stepping.{below-slots, take-refused, take-reads, take-counts, take-steps, take-room, take-slot, take-taken}
 use Rattle.search.proofs.step.take.Statement.{statement}
 use Rattle.search.proofs.step.take.Tie as tie
 

@@ -3,7 +3,7 @@
 use mathlib.Core.Path.{_≡_, refl, _∙_}
 use native.Mathlib.Omega.{arith}
 use borrow.Author.Needs.{needs}
-use Rattle.splits.specs.Problem.{tableOf}
+use Rattle.problem.specs.Problem.{tableOf}
 use Rattle.splits.specs.Checks.{checks}
 use Rattle.search.proofs.step.with_checks.Statement.{statement}
 use Rattle.search.proofs.step.with_checks.Tie as tie

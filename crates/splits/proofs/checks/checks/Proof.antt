@@ -2,8 +2,8 @@
 -- Assumes nothing.
 use mathlib.Core.Path.{sym, _∙_}
 use mathlib.Core.Logic.{inl, inr}
-use Rattle.splits.proofs.Ranges.{inside-true}
-use Rattle.splits.proofs.ByKind.{checks-out, checks-1, checks-2-3, checks-none}
+use Rattle.problem.proofs.tables.Ranges.{inside-true}
+use Rattle.splits.proofs.split.ByKind.{checks-out, checks-1, checks-2-3, checks-none}
 use borrow.Author.Needs.{needs}
 use Rattle.splits.proofs.checks.checks.Statement.{statement}
 use Rattle.splits.proofs.checks.checks.Tie as tie

@@ -1,6 +1,6 @@
 -- `splits::checks::does_forbid` meets its contract.
 -- Assumes nothing.
-use Rattle.splits.proofs.Counting.{forbids-is, forbids-none}
+use Rattle.splits.proofs.checks.Counting.{forbids-is, forbids-none}
 use borrow.Author.Needs.{needs}
 use Rattle.splits.proofs.checks.does_forbid.Statement.{statement}
 use Rattle.splits.proofs.checks.does_forbid.Tie as tie

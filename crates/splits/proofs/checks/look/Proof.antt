@@ -1,10 +1,10 @@
 -- `splits::checks::look` meets its contract.
 -- Assumes nothing.
-use Rattle.splits.proofs.Counting.{other-looked, own-passed, Looking, look-more, look-skip, look-stop, look-end}
+use Rattle.splits.proofs.checks.Counting.{other-looked, own-passed, Looking, look-more, look-skip, look-stop, look-end}
 use mathlib.Core.Logic.{⊎-elim}
-use Rattle.splits.specs.Splits.{below, keep, forbidden}
-use Rattle.splits.specs.Subproblems.{some}
-use Rattle.splits.specs.Problem.{tableOf}
+use Rattle.problem.specs.Lists.{below, keep, some}
+use Rattle.splits.specs.Splits.{forbidden}
+use Rattle.problem.specs.Problem.{tableOf}
 use native.Mathlib.Omega.{arith}
 use Prim.Native.Nat.{_≤_, _-_}
 use mathlib.Core.Bool.{false}

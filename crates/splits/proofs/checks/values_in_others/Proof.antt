@@ -1,11 +1,11 @@
 -- `splits::checks::values_in_others` meets its contract.
 -- Assumes nothing.
-use Rattle.splits.proofs.Counting.{values-more, values-same}
+use Rattle.splits.proofs.checks.Counting.{values-more, values-same}
 use native.Mathlib.Nat.{le-antisymm}
 use lib.Count.{ones-le}
 use mathlib.Core.Logic.{⊎-elim}
 use Rattle.splits.specs.Checks.{valuesIn, others}
-use Rattle.splits.specs.Problem.{total}
+use Rattle.problem.specs.Lists.{total}
 use native.Mathlib.Omega.{arith}
 use Prim.Native.Nat.{_≤_, _-_, _*_}
 use mathlib.Core.Path.{_≡_, refl, _∙_}

@@ -1,8 +1,8 @@
 -- `splits::refusal::deserves_9` meets its contract, test by test.
 -- Assumes nothing.
 use borrow.Author.Tests.{le-leb, lt-leb, ne-eqb}
-use Rattle.splits.specs.Work.Loops.{deserves9}
-use Rattle.splits.proofs.Refusals.{lacks}
+use Rattle.splits.specs.Loops.Kinds.{deserves9}
+use Rattle.splits.proofs.refusal.Refusals.{lacks}
 use borrow.Author.Needs.{needs}
 use Rattle.splits.proofs.refusal.deserves_9.Statement.{statement}
 use Rattle.splits.proofs.refusal.deserves_9.Tie as tie

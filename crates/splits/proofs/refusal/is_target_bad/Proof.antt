@@ -1,8 +1,8 @@
 -- `refusal::is_target_bad` meets its contract: in a word of 16 digits `target & !domain` is the target without the domain.
 -- Assumes nothing.
 use borrow.Author.Tests.{eq-eqb, ne-eqb}
-use Rattle.splits.specs.Refusals.{bad}
-use Rattle.splits.proofs.Masks.{not-minus}
+use Rattle.splits.specs.Tests.Refusals.{bad}
+use Rattle.problem.proofs.mask.Masks.{not-minus}
 use Rattle.splits.proofs.refusal.is_target_bad.Statement.{statement}
 use Rattle.splits.proofs.refusal.is_target_bad.Tie as tie
 

@@ -5,8 +5,8 @@ use mathlib.Core.Bool.{or-true}
 use native.Mathlib.Omega.{arith}
 use borrow.Author.Tests.{lt-ltb}
 use borrow.Author.Needs.{needs}
-use Rattle.splits.specs.Refusals.{refusalOf, refused-7}
-use Rattle.splits.proofs.Refusals.{of-targets, of-variable}
+use Rattle.splits.specs.Tests.Refusals.{refusalOf, refused-7}
+use Rattle.splits.proofs.refusal.Refusals.{of-targets, of-variable}
 use Rattle.splits.proofs.refusal.refusal.Statement.{statement}
 use Rattle.splits.proofs.refusal.refusal.Tie as tie
 

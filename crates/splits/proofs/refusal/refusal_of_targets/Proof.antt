@@ -4,7 +4,7 @@ use mathlib.Core.Path.{_≡_}
 use mathlib.Core.Logic.{⊎-elim}
 use Prim.Native.Nat.{_≤_, _-_}
 use native.Mathlib.Omega.{arith}
-use Rattle.splits.proofs.Refusals.{Passed, ten-past, ten-at, passed-none, passed-same, passed-other, passed-all}
+use Rattle.splits.proofs.refusal.Refusals.{Passed, ten-past, ten-at, passed-none, passed-same, passed-other, passed-all}
 use borrow.Author.Needs.{needs}
 use Rattle.splits.proofs.refusal.refusal_of_targets.Statement.{statement}
 use Rattle.splits.proofs.refusal.refusal_of_targets.Tie as tie

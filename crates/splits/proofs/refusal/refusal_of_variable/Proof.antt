@@ -3,8 +3,8 @@
 use mathlib.Core.Path.{sym, _∙_}
 use mathlib.Core.Bool.{or-true}
 use borrow.Author.Tests.{le-leb}
-use Rattle.splits.specs.Work.Loops.{refusalOfVariable}
-use Rattle.splits.proofs.Refusals.{past-8}
+use Rattle.splits.specs.Loops.Kinds.{refusalOfVariable}
+use Rattle.splits.proofs.refusal.Refusals.{past-8}
 use borrow.Author.Needs.{needs}
 use Rattle.splits.proofs.refusal.refusal_of_variable.Statement.{statement}
 use Rattle.splits.proofs.refusal.refusal_of_variable.Tie as tie

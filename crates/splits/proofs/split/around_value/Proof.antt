@@ -3,8 +3,8 @@
 use mathlib.Core.Logic.{inl}
 use mathlib.Core.Path.{sym, _∙_}
 use borrow.Author.Tests.{not-true, not-false}
-use Rattle.splits.proofs.Ranges.{inside-true}
-use Rattle.splits.proofs.ByKind.{around-out, around-1, around-2, around-3, the-third, peel-place}
+use Rattle.problem.proofs.tables.Ranges.{inside-true}
+use Rattle.splits.proofs.split.ByKind.{around-out, around-1, around-2, around-3, the-third, peel-place}
 use borrow.Author.Needs.{needs}
 use Rattle.splits.proofs.split.around_value.Statement.{statement}
 use Rattle.splits.proofs.split.around_value.Tie as tie

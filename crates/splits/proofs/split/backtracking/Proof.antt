@@ -1,6 +1,6 @@
 -- `splits::split::backtracking` meets its contract.
 -- Assumes nothing.
-use Rattle.splits.proofs.Places.{backtracked-none, backtracked-first, backtracked-rest}
+use Rattle.splits.proofs.split.Places.{backtracked-none, backtracked-first, backtracked-rest}
 use native.Mathlib.Omega.{arith}
 use borrow.Author.Needs.{needs}
 use Rattle.splits.proofs.split.backtracking.Statement.{statement}

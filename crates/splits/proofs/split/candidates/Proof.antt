@@ -6,7 +6,7 @@ use Prim.Native.Nat.{_<_}
 use native.Mathlib.Omega.{arith}
 use borrow.Author.Tests.{le-leb, lt-leb}
 use Rattle.splits.specs.Splits.{candidates}
-use Rattle.splits.proofs.ByKind.{no-kind, two-pieces}
+use Rattle.splits.proofs.split.ByKind.{no-kind, two-pieces}
 use borrow.Author.Needs.{needs}
 use Rattle.splits.proofs.split.candidates.Statement.{statement}
 use Rattle.splits.proofs.split.candidates.Tie as tie

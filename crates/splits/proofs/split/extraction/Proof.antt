@@ -1,6 +1,6 @@
 -- `splits::split::extraction` meets its contract.
 -- Assumes nothing.
-use Rattle.splits.proofs.Places.{extracted-first, extracted-later}
+use Rattle.splits.proofs.split.Places.{extracted-first, extracted-later}
 use borrow.Author.Needs.{needs}
 use Rattle.splits.proofs.split.extraction.Statement.{statement}
 use Rattle.splits.proofs.split.extraction.Tie as tie

@@ -1,6 +1,6 @@
 -- `splits::split::forward_checking` meets its contract.
 -- Assumes nothing.
-use Rattle.splits.proofs.Places.{checked-first, checked-rest}
+use Rattle.splits.proofs.split.Places.{checked-first, checked-rest}
 use native.Mathlib.Omega.{arith}
 use borrow.Author.Needs.{needs}
 use Rattle.splits.proofs.split.forward_checking.Statement.{statement}

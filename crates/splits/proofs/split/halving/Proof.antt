@@ -1,7 +1,7 @@
 -- `splits::split::halving` meets its contract.
 -- Assumes nothing.
 use borrow.Author.Tests.{le-ltb, lt-ltb}
-use Rattle.splits.proofs.Places.{halved-first, halved-rest}
+use Rattle.splits.proofs.split.Places.{halved-first, halved-rest}
 use borrow.Author.Needs.{needs}
 use Rattle.splits.proofs.split.halving.Statement.{statement}
 use Rattle.splits.proofs.split.halving.Tie as tie

@@ -1,6 +1,6 @@
 -- `splits::split::idc` meets its contract.
 -- Assumes nothing.
-use Rattle.splits.proofs.Places.{inferred-first, inferred-none, inferred-later}
+use Rattle.splits.proofs.split.Places.{inferred-first, inferred-none, inferred-later}
 use native.Mathlib.Omega.{arith}
 use borrow.Author.Needs.{needs}
 use Rattle.splits.proofs.split.idc.Statement.{statement}

@@ -1,7 +1,7 @@
 -- `splits::split::piece` meets its contract, kind by kind.
 -- Assumes nothing.
 use mathlib.Core.Logic.{inr}
-use Rattle.splits.proofs.ByKind.{piece-over, some-place, to-three, peel-place, piece-3, piece-4, piece-5}
+use Rattle.splits.proofs.split.ByKind.{piece-over, some-place, to-three, peel-place, piece-3, piece-4, piece-5}
 use borrow.Author.Needs.{needs}
 use Rattle.splits.proofs.split.piece.Statement.{statement}
 use Rattle.splits.proofs.split.piece.Tie as tie

@@ -11,7 +11,7 @@ use Rattle.answer.proofs.text.Text.with_value.Reads as reads
 use Rattle.answer.proofs.text.Text.with_value.Lts as lts
 use Rattle.answer.proofs.text.Text.with_byte.Reads as with-byte-reads
 use Rattle.answer.proofs.text.Text.with_number.Reads as with-number-reads
-use Rattle.splits.proofs.mask.lowest.Reads as lowest-reads
+use Rattle.problem.proofs.mask.lowest.Reads as lowest-reads
 
 with-number-requires : tie.Need-with-number-requires
 with-number-requires c κs = search needs

@@ -1,6 +1,7 @@
 -- `splits::subproblem::Subproblem::all_instantiated` meets its contract.
 -- Assumes nothing.
-use Rattle.splits.proofs.Subproblems.{marks-all, marks-over, shifted}
+use Rattle.splits.proofs.subproblem.Subproblems.{marks-all, marks-over}
+use Rattle.problem.proofs.mask.Masks.{shifted}
 use lib.Pow.{pow-pos}
 use mir.Syntax.{w32}
 use mir.Val.{Fits}

@@ -1,7 +1,8 @@
 -- `splits::subproblem::Subproblem::at_targets` meets its contract.
 -- Assumes nothing.
-use Rattle.splits.proofs.Subproblems.{target-next}
-use Rattle.splits.specs.Splits.{atTargets, changed}
+use Rattle.splits.proofs.subproblem.Subproblems.{target-next}
+use Rattle.splits.specs.Splits.{atTargets}
+use Rattle.problem.specs.Lists.{changed}
 use native.Mathlib.Omega.{arith}
 use Prim.Native.Nat.{_≤_, _-_}
 use mathlib.Core.Path.{_≡_, refl}

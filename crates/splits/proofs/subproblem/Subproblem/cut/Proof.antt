@@ -1,6 +1,6 @@
 -- `splits::subproblem::Subproblem::cut` meets its contract.
 -- Assumes nothing.
-use Rattle.splits.proofs.Subproblems.{cut-out}
+use Rattle.splits.proofs.subproblem.Subproblems.{cut-out}
 use Rattle.splits.specs.Splits.{cut}
 use mathlib.Core.Path.{refl}
 use borrow.Author.Needs.{needs}

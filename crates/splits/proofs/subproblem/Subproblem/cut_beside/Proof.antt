@@ -1,11 +1,11 @@
 -- `splits::subproblem::Subproblem::cut_beside` meets its contract.
 -- Assumes nothing.
-use Rattle.splits.proofs.Subproblems.{beside-next, beside-skip}
+use Rattle.splits.proofs.subproblem.Subproblems.{beside-next, beside-skip}
 use mathlib.Core.Path.{_∙_}
 use mathlib.Core.Logic.{⊎-elim}
 use native.Mathlib.Omega.{arith}
 use Rattle.splits.specs.Splits.{cutBeside}
-use Rattle.splits.specs.Problem.{tableOf}
+use Rattle.problem.specs.Problem.{tableOf}
 use Prim.Native.Nat.{_≤_, _-_}
 use mathlib.Core.Path.{_≡_, refl}
 use borrow.Author.Needs.{needs}

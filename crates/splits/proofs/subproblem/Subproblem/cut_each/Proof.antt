@@ -3,7 +3,7 @@
 use mathlib.Core.Path.{_≡_, _∙_}
 use Prim.Native.Nat.{_≤_, _-_}
 use native.Mathlib.Omega.{arith}
-use Rattle.splits.proofs.Rows.{cutTo, cut-none, cut-more, cut-all}
+use Rattle.splits.proofs.subproblem.Rows.{cutTo, cut-none, cut-more, cut-all}
 use borrow.Author.Needs.{needs}
 use Rattle.splits.proofs.subproblem.Subproblem.cut_each.Statement.{statement}
 use Rattle.splits.proofs.subproblem.Subproblem.cut_each.Tie as tie

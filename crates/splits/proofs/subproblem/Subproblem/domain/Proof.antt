@@ -1,6 +1,6 @@
 -- `splits::subproblem::Subproblem::domain` meets its contract.
 -- Assumes nothing.
-use Rattle.splits.proofs.Subproblems.{domain-out}
+use Rattle.splits.proofs.subproblem.Subproblems.{domain-out}
 use borrow.Author.Needs.{needs}
 use Rattle.splits.proofs.subproblem.Subproblem.domain.Statement.{statement}
 use Rattle.splits.proofs.subproblem.Subproblem.domain.Tie as tie

@@ -1,6 +1,6 @@
 -- `splits::subproblem::Subproblem::instantiate` meets its contract.
 -- Assumes nothing.
-use Rattle.splits.proofs.Subproblems.{instantiate-in}
+use Rattle.splits.proofs.subproblem.Subproblems.{instantiate-in}
 use borrow.Author.Tests.{le-ltb}
 use mathlib.Core.Bool.{and-false}
 use borrow.Author.Needs.{needs}

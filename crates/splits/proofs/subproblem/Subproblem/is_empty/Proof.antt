@@ -1,7 +1,8 @@
 -- `splits::subproblem::Subproblem::is_empty` meets its contract.
 -- Assumes nothing.
-use Rattle.splits.proofs.Subproblems.{empty-at, empty-over, empty-more}
-use Rattle.splits.specs.Subproblems.{empty, some}
+use Rattle.splits.proofs.subproblem.Subproblems.{empty-at, empty-over, empty-more}
+use Rattle.splits.specs.Subproblems.{empty}
+use Rattle.problem.specs.Lists.{some}
 use native.Mathlib.Omega.{arith}
 use Prim.Native.Nat.{_≤_, _-_}
 use mathlib.Core.Bool.{false}

@@ -1,7 +1,7 @@
 -- `splits::subproblem::Subproblem::is_instantiated` meets its contract.
 -- Assumes nothing.
-use Rattle.splits.proofs.Masks.{bit-above}
-use Rattle.splits.specs.Masks.{bit}
+use Rattle.problem.proofs.mask.Masks.{bit-above}
+use Rattle.problem.specs.Masks.{bit}
 use mir.Syntax.{w32}
 use mir.Val.{Fits}
 use mathlib.Core.Path.{refl}

@@ -1,7 +1,7 @@
 -- `splits::subproblem::Subproblem::precluded` meets its contract.
 -- Assumes nothing.
-use Rattle.splits.proofs.Subproblems.{precluded-made}
-use Rattle.splits.proofs.Ranges.{inside-true}
+use Rattle.splits.proofs.subproblem.Subproblems.{precluded-made}
+use Rattle.problem.proofs.tables.Ranges.{inside-true}
 use native.Mathlib.Omega.{arith}
 use mathlib.Core.Path.{sym, _∙_}
 use borrow.Author.Needs.{needs}

@@ -1,7 +1,7 @@
 -- `splits::subproblem::Subproblem::precluded_by` meets its contract.
 -- Assumes nothing.
 use borrow.Author.Tests.{le-ltb}
-use Rattle.splits.proofs.Rows.{marked-by}
+use Rattle.splits.proofs.subproblem.Rows.{marked-by}
 use borrow.Author.Needs.{needs}
 use Rattle.splits.proofs.subproblem.Subproblem.precluded_by.Statement.{statement}
 use Rattle.splits.proofs.subproblem.Subproblem.precluded_by.Tie as tie

@@ -1,6 +1,6 @@
 -- `splits::subproblem::Subproblem::without` meets its contract.
 -- Assumes nothing.
-use Rattle.splits.proofs.Subproblems.{without-in, without-out}
+use Rattle.splits.proofs.subproblem.Subproblems.{without-in, without-out}
 use lib.ListN.{getD}
 use mir.Syntax.{w16}
 use mir.Val.{Fits}

@@ -1,0 +1,15 @@
+pub mod Answers
+pub mod Changed
+pub mod Copies
+pub mod Decisions
+pub mod FirstLoops
+pub mod Lists
+pub mod Products
+pub mod Promises
+pub mod Tests
+pub mod beside
+pub mod first_checks
+pub mod mask
+pub mod matrix
+pub mod symmetry
+pub mod tables

@@ -1,0 +1,40 @@
+-- The promises of specs/Promises.antt, proved.
+-- Assumes nothing.
+use mathlib.Core.Path.{ap, _∙_}
+use Prim.Native.Nat.{ℕ}
+use Rattle.problem.specs.Masks.{bit}
+use Rattle.problem.specs.Promises.{No-constraint, Lowest-value, Smaller-half-of, Count-one, Lowest-one, Has-one, Smaller-half-one, Numbers-pass, Problem-pass, Turned-one}
+use Rattle.problem.proofs.mask.Masks.{all-set, lowest-member, lowest-least, half-part, half-size, half-below}
+use Rattle.problem.proofs.Answers.{one}
+use Rattle.problem.proofs.matrix.Turning
+use Rattle.problem.proofs.first_checks.Passing.{numbers-none, problem-none}
+
+pub no-constraint : No-constraint
+no-constraint p i j all a b k l = ap (λ (m : ℕ). bit m b) (all a k) ∙ all-set (p .d) b l
+
+pub lowest-value : Lowest-value
+lowest-value m h e = record { member = lowest-member m h e; least = λ v. lowest-least m v h }
+
+pub smaller-half-of : Smaller-half-of
+smaller-half-of m h = (half-part m h, half-size m h, λ u v. half-below m u v h)
+
+pub count-one : Count-one
+count-one mask = one _
+
+pub lowest-one : Lowest-one
+lowest-one mask = one _
+
+pub has-one : Has-one
+has-one mask value = one _
+
+pub smaller-half-one : Smaller-half-one
+smaller-half-one mask = one _
+
+pub numbers-pass : Numbers-pass
+numbers-pass = numbers-none
+
+pub problem-pass : Problem-pass
+problem-pass = problem-none
+
+pub turned-one : Turned-one
+turned-one = Turning.turned-same

@@ -1,0 +1,44 @@
+-- `rows::allowed` meets its contract: the place is inside the tables.
+-- Assumes nothing.
+use mathlib.Core.Path.{sym}
+use native.Mathlib.Omega.{arith}
+use Rattle.problem.proofs.tables.Ranges.{in-table, word-at}
+use Rattle.problem.proofs.beside.allowed.Statement.{statement}
+use Rattle.problem.proofs.beside.allowed.Tie as tie
+
+returns : tie.Need-returns
+returns c f = absurd (f (c .if1 .taken))
+
+mul-result : tie.Need-mul-result
+mul-result c = omega (arith, in-table _ _ _ _ _ _ (c .before .pre .0) (c .before .pre .1))
+
+add-result : tie.Need-add-result
+add-result c = omega (arith, in-table _ _ _ _ _ _ (c .before .pre .0) (c .before .pre .1))
+
+mul-result-2 : tie.Need-mul-result-2
+mul-result-2 c = omega (arith, in-table _ _ _ _ _ _ (c .before .pre .0) (c .before .pre .1))
+
+add-result-2 : tie.Need-add-result-2
+add-result-2 c = omega (arith, in-table _ _ _ _ _ _ (c .before .pre .0) (c .before .pre .1), c .before .pre .1 .third, c .before .pre .0 .small)
+
+mul-result-3 : tie.Need-mul-result-3
+mul-result-3 c = omega (arith, in-table _ _ _ _ _ _ (c .before .pre .0) (c .before .pre .1), c .before .pre .1 .third, c .before .pre .0 .small)
+
+shared-slice-read-result : tie.Need-shared-slice-read-result
+shared-slice-read-result c = in-table _ _ _ _ _ _ (c .before .before .pre .0) (c .before .before .pre .1) .word
+
+returns-2 : tie.Need-returns-2
+returns-2 c f = sym (word-at _ _ _ _ _ _ (c .before .before .pre .1 .third))
+
+pub allowed-spec : {M : Type 1} → statement M
+allowed-spec =
+    tie.close
+    (tie.spec
+    returns
+    mul-result
+    add-result
+    mul-result-2
+    add-result-2
+    mul-result-3
+    shared-slice-read-result
+    returns-2)

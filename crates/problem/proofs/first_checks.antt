@@ -1,0 +1,4 @@
+pub mod Deserved
+pub mod Joining
+pub mod Parts
+pub mod Passing

@@ -1,0 +1,12 @@
+pub mod Answers
+pub mod Beside
+pub mod Calls
+pub mod FirstChecks
+pub mod Lists
+pub mod Loops
+pub mod Masks
+pub mod Matrix
+pub mod Problem
+pub mod Promises
+pub mod Ranges
+pub mod Tests

@@ -1,0 +1,57 @@
+-- What masks, tables and the first checks of a problem promise.
+use mathlib.Core.Path.{_≡_}
+use Prim.Native.Nat.{ℕ, _+_, _/_, _^_, _<_}
+use Rattle.problem.specs.Masks.{_∈_, Part, size, lowest, smallerHalf, LowestIn, allValues}
+use Rattle.problem.specs.Problem.{Problem}
+use Rattle.problem.specs.Calls.{Count, Lowest, Has, Smaller-half}
+use Rattle.problem.specs.Answers.{One}
+use mathlib.Core.Logic.{_↔_}
+use mathlib.Core.List.{List}
+use Rattle.problem.specs.Matrix.{Turned}
+use Rattle.problem.specs.FirstChecks.{Deserves-1, Deserves-2, Deserves-4, Deserves-5}
+use Rattle.problem.specs.Tests.FirstChecks.{refusalOfNumbers, refusalOfProblem}
+
+-- Where every mask has all d bits set, all values are allowed.
+abbrev pub No-constraint : Type 0
+No-constraint =
+    (p : Problem) (i j : ℕ) → ((a : ℕ) → a < p .d → p .allowed i j a ≡ allValues (p .d))
+    → (a b : ℕ) → a < p .d → b < p .d → b ∈ p .allowed i j a
+
+-- The lowest value of a mask that is not empty is a member, and no member is below it.
+abbrev pub Lowest-value : Type 0
+Lowest-value = (m : ℕ) → m < 2 ^ 16 → (m ≡ 0 → ⊥) → LowestIn m (lowest m)
+
+-- The smaller half of k values is ⌈k / 2⌉ of them, each smaller than each of the rest.
+abbrev pub Smaller-half-of : Type 0
+Smaller-half-of =
+    (m : ℕ) → m < 2 ^ 16
+    → Part (smallerHalf m) m × (size (smallerHalf m) ≡ (size m + 1) / 2)
+    × ((u v : ℕ) → u ∈ smallerHalf m → v ∈ m → (v ∈ smallerHalf m → ⊥) → u < v)
+
+-- The count of values in a mask.
+abbrev pub Count-one : Type 0
+Count-one = (mask : ℕ) → One (Count mask)
+
+-- The lowest value of a mask.
+abbrev pub Lowest-one : Type 0
+Lowest-one = (mask : ℕ) → One (Lowest mask)
+
+-- Whether a value is in a mask.
+abbrev pub Has-one : Type 0
+Has-one = (mask value : ℕ) → One (Has mask value)
+
+-- The smallest ⌈k/2⌉ values of a mask with k values.
+abbrev pub Smaller-half-one : Type 0
+Smaller-half-one = (mask : ℕ) → One (Smaller-half mask)
+
+-- The numbers pass exactly when neither 1 nor 2 is deserved.
+abbrev pub Numbers-pass : Type 0
+Numbers-pass = (n d : ℕ) → (refusalOfNumbers n d ≡ 0) ↔ ((Deserves-1 n → ⊥) × (Deserves-2 d → ⊥))
+
+-- The problem passes exactly when neither 4 nor 5 is deserved.
+abbrev pub Problem-pass : Type 0
+Problem-pass = (p : Problem) → (refusalOfProblem p ≡ 0) ↔ ((Deserves-4 p → ⊥) × (Deserves-5 p → ⊥))
+
+-- Rows for columns.
+abbrev pub Turned-one : Type 0
+Turned-one = (rows r s : List ℕ) → Turned rows r → Turned rows s → r ≡ s

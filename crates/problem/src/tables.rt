@@ -1,0 +1,39 @@
+// The problem's tables: for each two variables and each value of the first, the values allowed beside it.
+ghost use mathlib.Core.Path.{_≡_};
+ghost use Prim.Native.Nat.{_+_, _*_, _<_};
+ghost use Rattle.problem.specs.Problem.{tableOf};
+ghost use Rattle.problem.specs.Ranges.{sized, inside, Sized, Place};
+
+// The mask of the values of `j` allowed beside value `a` of `i`.
+pub(crate) fn allowed(n: usize, d: usize, tables: &[u16], i: usize, j: usize, a: usize) -> u16
+    requires { ⌜ Sized n d (now tables) × Place n d i j a ⌝ }
+    ensures { λ r. ⌜ r ≡ tableOf n d (now (tables .entry)) i j a ⌝ }
+{
+    tables[(i * n + j) * d + a]
+}
+
+// Whether n, d and the tables fit each other.
+fn fits(n: usize, d: usize, tables: &[u16]) -> bool
+    ensures { λ r. ⌜ r ≡ sized n d (now (tables .entry)) ⌝ }
+{
+    if 32 < n {
+        return false;
+    }
+    if 16 < d {
+        return false;
+    }
+    tables.len() == n * n * d
+}
+
+// Whether they do, and the variable and the value are among theirs.
+pub(crate) fn within(n: usize, d: usize, tables: &[u16], variable: usize, value: usize) -> bool
+    ensures { λ r. ⌜ r ≡ inside n d (now (tables .entry)) variable value ⌝ }
+{
+    if n <= variable {
+        return false;
+    }
+    if d <= value {
+        return false;
+    }
+    fits(n, d, tables)
+}

@@ -1,0 +1,252 @@
+// The first checks: the refusals 1 to 6 that the words handed to a call deserve, before anything is changed.
+use crate::rules;
+use crate::state::State;
+use problem::symmetry;
+ghost use mathlib.Core.Path.{_≡_};
+ghost use Prim.Native.Nat.{_-_, _^_, _≤_, _<_};
+ghost use lib.Dec.{ltb};
+ghost use lib.ListN.{length};
+ghost use Rattle.problem.specs.Problem.{tableOf, problemOf};
+ghost use Rattle.problem.specs.Lists.{every, rowIn, joined};
+ghost use Rattle.problem.specs.Ranges.{Sized, Fitting};
+ghost use Rattle.problem.specs.Tests.FirstChecks.{refusalOfNumbers, refusalOfProblem};
+ghost use Rattle.search.specs.Tests.FirstChecks.{wholeSlots, refusalOfLengths, refusalOfRequests, zerosFrom, refusalOfSearch, sizesRefusal, openRefusal, searchRefusal, runRefusal};
+ghost use Rattle.search.specs.Loops.FirstTests.{Mirrored};
+ghost use Rattle.problem.specs.Loops.FirstTests.{spanBelow, rowBelow};
+
+// 1 or 2, or none.
+fn refusal_of_numbers(n: usize, d: usize) -> u32
+    ensures { λ r. ⌜ r ≡ refusalOfNumbers n d ⌝ }
+{
+    if n < 1 {
+        return 1;
+    }
+    if 32 < n {
+        return 1;
+    }
+    if d < 1 {
+        return 2;
+    }
+    if 16 < d {
+        return 2;
+    }
+    0
+}
+
+// Whether so many words are 1 to 512 whole slots.
+fn whole_slots(n: usize, words: usize) -> bool
+    requires { ⌜ n ≤ 32 ⌝ }
+    ensures { λ r. ⌜ r ≡ wholeSlots n words ⌝ }
+{
+    if words % (n + 2) != 0 {
+        return false;
+    }
+    let slots = words / (n + 2);
+    if slots < 1 {
+        return false;
+    }
+    slots <= 512
+}
+
+// 3, or none, of the numbers of words lent as domains, tables and agenda.
+fn refusal_of_lengths(n: usize, d: usize, domains: usize, tables: usize, agenda: usize) -> u32
+    requires { ⌜ (n ≤ 32) × (d ≤ 16) ⌝ }
+    ensures { λ r. ⌜ r ≡ refusalOfLengths n d domains tables agenda ⌝ }
+{
+    if domains != n {
+        return 3;
+    }
+    if tables != n * n * d {
+        return 3;
+    }
+    if whole_slots(n, agenda) {
+        return 0;
+    }
+    3
+}
+
+// 3, or none, of the number of words lent as requests.
+fn refusal_of_requests(n: usize, words: usize) -> u32
+    requires { ⌜ n ≤ 32 ⌝ }
+    ensures { λ r. ⌜ r ≡ refusalOfRequests n words ⌝ }
+{
+    if words % (n + 3) == 0 {
+        return 0;
+    }
+    3
+}
+
+// Whether a mask has no bit at `d` or above.
+fn is_below(mask: u16, d: usize) -> bool
+    requires { ⌜ d ≤ 16 ⌝ }
+    ensures { λ r. ⌜ r ≡ ltb mask (2 ^ d) ⌝ }
+{
+    (mask as u64) < (1 << d)
+}
+
+// The bits of all words together.
+fn bits_of(words: &[u16]) -> u16
+    ensures { λ r. ⌜ r ≡ joined (length (now (words .entry))) (rowIn (now (words .entry))) ⌝ }
+{
+    let mut bits: u16 = 0;
+    let mut k = 0;
+    while k < words.len() {
+        bits = bits | words[k];
+        k += 1;
+    }
+    bits
+}
+
+// Whether no mask of the variable `i` with those from `from` to before `to` has a bit at `d` or above.
+fn span_below(n: usize, d: usize, tables: &[u16], i: usize, from: usize, to: usize) -> bool
+    requires { ⌜ Sized n d (now tables) × ((i < n) × ((from ≤ to) × (to ≤ n))) ⌝ }
+    ensures { λ r. ⌜ r ≡ spanBelow d (tableOf n d (now (tables .entry))) i from (to - from) ⌝ }
+{
+    let start = (i * n + from) * d;
+    let end = (i * n + to) * d;
+    is_below(bits_of(&tables[start..end]), d)
+}
+
+// Whether no mask of the variable `i` with another has one; its places with itself are not read.
+fn row_below(n: usize, d: usize, tables: &[u16], i: usize) -> bool
+    requires { ⌜ Sized n d (now tables) × (i < n) ⌝ }
+    ensures { λ r. ⌜ r ≡ rowBelow n d (tableOf n d (now (tables .entry))) i ⌝ }
+{
+    if !span_below(n, d, tables, i, 0, i) {
+        return false;
+    }
+    span_below(n, d, tables, i, i + 1, n)
+}
+
+// Whether no mask that is read has one; of 16 values none can.
+fn tables_below(n: usize, d: usize, tables: &[u16]) -> bool
+    requires { ⌜ Sized n d (now tables) ⌝ }
+    ensures { λ r. ⌜ r ≡ every n (rowBelow n d (tableOf n d (now (tables .entry)))) ⌝ }
+{
+    if d == 16 {
+        return true;
+    }
+    let mut i = 0;
+    while i < n {
+        if !row_below(n, d, tables, i) {
+            return false;
+        }
+        i += 1;
+    }
+    true
+}
+
+// 4 or 5, or none.
+fn refusal_of_problem(n: usize, d: usize, domains: &[u16], tables: &[u16]) -> u32
+    requires { ⌜ Fitting n d (now domains) (now tables) ⌝ }
+    ensures { λ r. ⌜ r ≡ refusalOfProblem (problemOf n d (now (domains .entry)) (now (tables .entry))) ⌝ }
+{
+    if !is_below(bits_of(domains), d) {
+        return 4;
+    }
+    if !tables_below(n, d, tables) {
+        return 4;
+    }
+    if symmetry::tables_both_ways(n, d, tables) {
+        return 0;
+    }
+    5
+}
+
+// Whether every word at `from` and after it is zero.
+fn zeros_from(words: &[u16], from: usize) -> bool
+    requires { ⌜ from ≤ length (now words) ⌝ }
+    ensures { λ r. ⌜ r ≡ zerosFrom from (now (words .entry)) ⌝ }
+{
+    bits_of(&words[from..]) == 0
+}
+
+// 6, or none.
+fn refusal_of_search(
+    n: usize,
+    d: usize,
+    domains: &[u16],
+    tables: &[u16],
+    agenda: &[u16],
+    state: State,
+) -> u32
+    requires { ⌜ Mirrored n d (now domains) (now tables) ⌝ }
+    ensures { λ r. ⌜ r ≡ refusalOfSearch (problemOf n d (now (domains .entry)) (now (tables .entry))) (now (agenda .entry)) (state .counts .steps .0) (state .counts .checks .0) (state .subproblems) ⌝ }
+{
+    if agenda.len() / (n + 2) < state.subproblems {
+        return 6;
+    }
+    if 496 * (state.counts.steps.0 as u64) < state.counts.checks.0 {
+        return 6;
+    }
+    if !zeros_from(agenda, state.subproblems * (n + 2)) {
+        return 6;
+    }
+    if rules::all_obey(n, d, domains, tables, agenda, state.subproblems) {
+        return 0;
+    }
+    6
+}
+
+// 1 to 3 of the numbers and of how many words are lent as domains, tables and agenda, 0 for none.
+pub fn sizes_refusal(n: usize, d: usize, domains: usize, tables: usize, agenda: usize) -> u32
+    ensures { λ r. ⌜ r ≡ sizesRefusal n d domains tables agenda ⌝ }
+{
+    let numbers = refusal_of_numbers(n, d);
+    if numbers != 0 {
+        return numbers;
+    }
+    refusal_of_lengths(n, d, domains, tables, agenda)
+}
+
+// The first checks of opening: 1 to 5, 0 for none.
+pub fn open_refusal(n: usize, d: usize, domains: &[u16], tables: &[u16], agenda: &[u16]) -> u32
+    ensures { λ r. ⌜ r ≡ openRefusal n d (now (domains .entry)) (now (tables .entry)) (now (agenda .entry)) ⌝ }
+{
+    let sizes = sizes_refusal(n, d, domains.len(), tables.len(), agenda.len());
+    if sizes != 0 {
+        return sizes;
+    }
+    refusal_of_problem(n, d, domains, tables)
+}
+
+// The first checks of a search, but for a run's requests: 1 to 6, 0 for none.
+pub fn search_refusal(
+    n: usize,
+    d: usize,
+    domains: &[u16],
+    tables: &[u16],
+    agenda: &[u16],
+    state: State,
+) -> u32
+    ensures { λ r. ⌜ r ≡ searchRefusal n d (now (domains .entry)) (now (tables .entry)) (now (agenda .entry)) (state .counts .steps .0) (state .counts .checks .0) (state .subproblems) ⌝ }
+{
+    let opening = open_refusal(n, d, domains, tables, agenda);
+    if opening != 0 {
+        return opening;
+    }
+    refusal_of_search(n, d, domains, tables, agenda, state)
+}
+
+// The first checks of a run: 1 to 6, its requests part of 3, 0 for none.
+pub fn run_refusal(
+    n: usize,
+    d: usize,
+    domains: &[u16],
+    tables: &[u16],
+    agenda: &[u16],
+    requests: &[u16],
+    state: State,
+) -> u32
+    ensures { λ r. ⌜ r ≡ runRefusal n d (now (domains .entry)) (now (tables .entry)) (now (agenda .entry)) (now (requests .entry)) (state .counts .steps .0) (state .counts .checks .0) (state .subproblems) ⌝ }
+{
+    let sizes = sizes_refusal(n, d, domains.len(), tables.len(), agenda.len());
+    if sizes != 0 {
+        return sizes;
+    }
+    let list = refusal_of_requests(n, requests.len());
+    if list != 0 {
+        return list;
+    }
+    search_refusal(n, d, domains, tables, agenda, state)
+}

@@ -1,0 +1,3 @@
+pub mod Domains
+pub mod Rows
+pub mod Subproblems

@@ -1,2 +1,0 @@
--- Definitions that mirror a loop or a test of the code. No public contract and no promise cites them.
-pub mod Loops

@@ -1,0 +1,11 @@
+pub mod CheckLimit
+pub mod Consequences
+pub mod Divided
+pub mod Measures
+pub mod Pieces
+pub mod Placed
+pub mod Promises
+pub mod Shortcuts
+pub mod Splitting
+pub mod Valued
+pub mod Weights

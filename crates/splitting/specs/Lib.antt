@@ -1,0 +1,3 @@
+pub mod Measure
+pub mod Promises
+pub mod Shortcuts
