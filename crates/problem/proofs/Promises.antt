@@ -3,10 +3,11 @@
 use mathlib.Core.Path.{ap, _∙_}
 use Prim.Native.Nat.{ℕ}
 use Rattle.problem.specs.Masks.{bit}
-use Rattle.problem.specs.Promises.{No-constraint, Lowest-value, Smaller-half-of, Count-one, Lowest-one, Has-one, Smaller-half-one, Numbers-pass, Problem-pass, Turned-one}
+use Rattle.problem.specs.Promises.{No-constraint, Lowest-value, Smaller-half-of, Count-one, Lowest-one, Has-one, Smaller-half-one, Numbers-pass, Problem-pass, Turned-one, Only-one, Within-one, Allowed-one, Row-one, Bits-of-one, Refusal-of-numbers-one, Sizes-refusal-one, Refusal-one}
 use Rattle.problem.proofs.mask.Masks.{all-set, lowest-member, lowest-least, half-part, half-size, half-below}
 use Rattle.problem.proofs.Answers.{one}
 use Rattle.problem.proofs.matrix.Turning
+use Rattle.problem.proofs.beside.Rows.{one-row}
 use Rattle.problem.proofs.first_checks.Passing.{numbers-none, problem-none}
 
 pub no-constraint : No-constraint
@@ -38,3 +39,27 @@ problem-pass = problem-none
 
 pub turned-one : Turned-one
 turned-one = Turning.turned-same
+
+pub only-one : Only-one
+only-one value = one _
+
+pub within-one : Within-one
+within-one n d tables variable value = one _
+
+pub allowed-one : Allowed-one
+allowed-one n d tables i j a = one _
+
+pub row-one : Row-one
+row-one = one-row
+
+pub bits-of-one : Bits-of-one
+bits-of-one words = one _
+
+pub refusal-of-numbers-one : Refusal-of-numbers-one
+refusal-of-numbers-one n d = one _
+
+pub sizes-refusal-one : Sizes-refusal-one
+sizes-refusal-one n d domains tables = one _
+
+pub refusal-one : Refusal-one
+refusal-one n d domains tables = one _

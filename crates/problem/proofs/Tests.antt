@@ -1,4 +1,4 @@
--- Refusals 7 to 10: what the code's loops and tests find, which number the tests give, and which words of a request they read.
+-- A test at every number below n, and at some: what a loop over them finds, and what the answer says.
 -- Assumes nothing.
 use mathlib.Core.Path.{_≡_, refl, sym, ap, _∙_}
 use mathlib.Core.Bool.{Bool, true, false, _&&_, _||_}
@@ -105,3 +105,8 @@ pub same-test : (a b : Bool) → (a ≡ true → b ≡ true) → (b ≡ true →
 same-test true b h k = sym (h refl)
 same-test false true h k = k refl
 same-test false false h k = refl
+
+-- by cases of a test
+pub either : {A : Type 0} (b : Bool) → (b ≡ true → A) → (b ≡ false → A) → A
+either true f g = f refl
+either false f g = g refl

@@ -7,7 +7,6 @@ use lib.ListN.{getD, length}
 use lib.Dec.{ltb}
 use Rattle.problem.specs.Masks.{bit, _∈_, size}
 use Rattle.problem.specs.Lists.{product}
-use Rattle.splits.specs.Subproblems.{domain}
 
 -- What is allowed: `allowed i j a` is the mask of the values of j allowed beside value a of i.
 abbrev pub Table : Type 0

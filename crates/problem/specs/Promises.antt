@@ -3,7 +3,7 @@ use mathlib.Core.Path.{_≡_}
 use Prim.Native.Nat.{ℕ, _+_, _/_, _^_, _<_}
 use Rattle.problem.specs.Masks.{_∈_, Part, size, lowest, smallerHalf, LowestIn, allValues}
 use Rattle.problem.specs.Problem.{Problem}
-use Rattle.problem.specs.Calls.{Count, Lowest, Has, Smaller-half}
+use Rattle.problem.specs.Calls.{Count, Lowest, Only, Has, Smaller-half, Within, Allowed, Row, Bits-of, Refusal-of-numbers, Sizes-refusal, Refusal}
 use Rattle.problem.specs.Answers.{One}
 use mathlib.Core.Logic.{_↔_}
 use mathlib.Core.List.{List}
@@ -51,6 +51,38 @@ Numbers-pass = (n d : ℕ) → (refusalOfNumbers n d ≡ 0) ↔ ((Deserves-1 n �
 -- The problem passes exactly when neither 4 nor 5 is deserved.
 abbrev pub Problem-pass : Type 0
 Problem-pass = (p : Problem) → (refusalOfProblem p ≡ 0) ↔ ((Deserves-4 p → ⊥) × (Deserves-5 p → ⊥))
+
+-- The mask of one value.
+abbrev pub Only-one : Type 0
+Only-one = (value : ℕ) → One (Only value)
+
+-- Whether the numbers fit the tables.
+abbrev pub Within-one : Type 0
+Within-one = (n d : ℕ) (tables : List ℕ) (variable value : ℕ) → One (Within n d tables variable value)
+
+-- What is allowed beside a value.
+abbrev pub Allowed-one : Type 0
+Allowed-one = (n d : ℕ) (tables : List ℕ) (i j a : ℕ) → One (Allowed n d tables i j a)
+
+-- The row of a value.
+abbrev pub Row-one : Type 0
+Row-one = (n d : ℕ) (tables : List ℕ) (variable value : ℕ) → One (Row n d tables variable value)
+
+-- The bits of all words.
+abbrev pub Bits-of-one : Type 0
+Bits-of-one = (words : List ℕ) → One (Bits-of words)
+
+-- The first checks of the numbers.
+abbrev pub Refusal-of-numbers-one : Type 0
+Refusal-of-numbers-one = (n d : ℕ) → One (Refusal-of-numbers n d)
+
+-- The first checks of how many words are lent.
+abbrev pub Sizes-refusal-one : Type 0
+Sizes-refusal-one = (n d domains tables : ℕ) → One (Sizes-refusal n d domains tables)
+
+-- The first checks of a problem.
+abbrev pub Refusal-one : Type 0
+Refusal-one = (n d : ℕ) (domains tables : List ℕ) → One (Refusal n d domains tables)
 
 -- Rows for columns.
 abbrev pub Turned-one : Type 0

@@ -1,8 +1,8 @@
 // A mask: a set of values, bit v for value v.
 ghost use mathlib.Core.Path.{_≡_};
 ghost use Prim.Native.Nat.{_+_, _-_, _/_, _<_, _≤_};
-ghost use Rattle.problem.specs.Masks.{single, size, smallest};
-ghost use Rattle.problem.specs.Calls.{Count, Lowest, Has, Smaller-half};
+ghost use Rattle.problem.specs.Masks.{size, smallest};
+ghost use Rattle.problem.specs.Calls.{Count, Lowest, Only, Has, Smaller-half};
 
 // The number of values in a mask.
 pub fn count(mask: u16) -> usize
@@ -18,12 +18,14 @@ pub fn lowest(mask: u16) -> usize
     u16::trailing_zeros(mask) as usize
 }
 
-// The mask of one value.
-pub(crate) fn only(value: usize) -> u16
-    requires { ⌜ value < 16 ⌝ }
-    ensures { λ r. ⌜ r ≡ single value ⌝ }
+// The mask of one value; empty for 16 or more.
+pub fn only(value: usize) -> u16
+    ensures { λ r. ⌜ Only value r ⌝ }
 {
-    1 << value
+    if value < 16 {
+        return 1 << value;
+    }
+    0
 }
 
 // Whether a value is in a mask.

@@ -12,10 +12,3 @@ pub mod Refusals
 pub mod Running
 pub mod Runs
 pub mod Verdicts
-pub mod agenda
-pub mod chooser
-pub mod first_checks
-pub mod kept
-pub mod lanes
-pub mod rules
-pub mod step

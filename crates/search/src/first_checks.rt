@@ -14,25 +14,6 @@ ghost use Rattle.search.specs.Tests.FirstChecks.{wholeSlots, refusalOfLe
 ghost use Rattle.search.specs.Loops.FirstTests.{Mirrored};
 ghost use Rattle.problem.specs.Loops.FirstTests.{spanBelow, rowBelow};
 
-// 1 or 2, or none.
-fn refusal_of_numbers(n: usize, d: usize) -> u32
-    ensures { λ r. ⌜ r ≡ refusalOfNumbers n d ⌝ }
-{
-    if n < 1 {
-        return 1;
-    }
-    if 32 < n {
-        return 1;
-    }
-    if d < 1 {
-        return 2;
-    }
-    if 16 < d {
-        return 2;
-    }
-    0
-}
-
 // Whether so many words are 1 to 512 whole slots.
 fn whole_slots(n: usize, words: usize) -> bool
     requires { ⌜ n ≤ 32 ⌝ }
@@ -74,83 +55,6 @@ fn refusal_of_requests(n: usize, words: usize) -> u32
         return 0;
     }
     3
-}
-
-// Whether a mask has no bit at `d` or above.
-fn is_below(mask: u16, d: usize) -> bool
-    requires { ⌜ d ≤ 16 ⌝ }
-    ensures { λ r. ⌜ r ≡ ltb mask (2 ^ d) ⌝ }
-{
-    (mask as u64) < (1 << d)
-}
-
-// The bits of all words together.
-fn bits_of(words: &[u16]) -> u16
-    ensures { λ r. ⌜ r ≡ joined (length (now (words .entry))) (rowIn (now (words .entry))) ⌝ }
-{
-    let mut bits: u16 = 0;
-    let mut k = 0;
-    while k < words.len() {
-        bits = bits | words[k];
-        k += 1;
-    }
-    bits
-}
-
-// Whether no mask of the variable `i` with those from `from` to before `to` has a bit at `d` or above.
-fn span_below(n: usize, d: usize, tables: &[u16], i: usize, from: usize, to: usize) -> bool
-    requires { ⌜ Sized n d (now tables) × ((i < n) × ((from ≤ to) × (to ≤ n))) ⌝ }
-    ensures { λ r. ⌜ r ≡ spanBelow d (tableOf n d (now (tables .entry))) i from (to - from) ⌝ }
-{
-    let start = (i * n + from) * d;
-    let end = (i * n + to) * d;
-    is_below(bits_of(&tables[start..end]), d)
-}
-
-// Whether no mask of the variable `i` with another has one; its places with itself are not read.
-fn row_below(n: usize, d: usize, tables: &[u16], i: usize) -> bool
-    requires { ⌜ Sized n d (now tables) × (i < n) ⌝ }
-    ensures { λ r. ⌜ r ≡ rowBelow n d (tableOf n d (now (tables .entry))) i ⌝ }
-{
-    if !span_below(n, d, tables, i, 0, i) {
-        return false;
-    }
-    span_below(n, d, tables, i, i + 1, n)
-}
-
-// Whether no mask that is read has one; of 16 values none can.
-fn tables_below(n: usize, d: usize, tables: &[u16]) -> bool
-    requires { ⌜ Sized n d (now tables) ⌝ }
-    ensures { λ r. ⌜ r ≡ every n (rowBelow n d (tableOf n d (now (tables .entry)))) ⌝ }
-{
-    if d == 16 {
-        return true;
-    }
-    let mut i = 0;
-    while i < n {
-        if !row_below(n, d, tables, i) {
-            return false;
-        }
-        i += 1;
-    }
-    true
-}
-
-// 4 or 5, or none.
-fn refusal_of_problem(n: usize, d: usize, domains: &[u16], tables: &[u16]) -> u32
-    requires { ⌜ Fitting n d (now domains) (now tables) ⌝ }
-    ensures { λ r. ⌜ r ≡ refusalOfProblem (problemOf n d (now (domains .entry)) (now (tables .entry))) ⌝ }
-{
-    if !is_below(bits_of(domains), d) {
-        return 4;
-    }
-    if !tables_below(n, d, tables) {
-        return 4;
-    }
-    if symmetry::tables_both_ways(n, d, tables) {
-        return 0;
-    }
-    5
 }
 
 // Whether every word at `from` and after it is zero.

@@ -4,7 +4,8 @@ use mathlib.Core.Path.{_≡_, refl, sym, _∙_}
 use mathlib.Core.Bool.{Bool, true, false, not, cond, _&&_, _||_, and-false, or-true}
 use mathlib.Core.List.{List}
 use mathlib.Core.Logic.{_⊎_, inl, inr, ⊎-elim}
-use Prim.Native.Nat.{ℕ, _≤_, _<_}
+use Prim.Native.Nat.{ℕ, _*_, _≤_, _<_}
+use lib.ListN.{length}
 use native.Mathlib.Omega.{arith}
 use native.Mathlib.Nat.{lt-of-not-le}
 use native.Mathlib.Decide.{ℕ-discrete, decLt}
@@ -13,8 +14,9 @@ use borrow.Author.Tests.{eq-eqb, ne-eqb, eqb-true, ltb-false, not-true, not-fals
 use Rattle.problem.specs.Masks.{bit}
 use Rattle.problem.specs.Problem.{Problem, tableOf, problemOf}
 use Rattle.problem.specs.Lists.{every}
-use Rattle.problem.proofs.Tests.{or-left, or-right, or-cases, every-at, every-all, same-test}
-use Rattle.problem.specs.Tests.FirstChecks.{refusalOfNumbers, masksBelow, symmetric, refusalOfProblem, orElse}
+use Rattle.problem.proofs.Tests.{and-left, and-right, or-left, or-right, or-cases, every-at, every-all, same-test}
+use Rattle.problem.specs.Tests.FirstChecks.{refusalOfNumbers, masksBelow, symmetric, refusalOfProblem, problemSizes, orElse}
+use Rattle.problem.specs.Ranges.{Fitting}
 use Rattle.problem.specs.Loops.FirstTests.{domainBelow, maskBelow, pairBelow, rowBelow, bothWays, valueBothWays, pairBothWays, rowBothWays}
 
 -- Every value of i and every value of j are allowed both ways or neither.
@@ -145,3 +147,19 @@ else-pass a b e = elim (ℕ-discrete a 0) [
   | yes z ↦ (z, rw z at e)
   | no f ↦ absurd (f (rw (ne-eqb a 0 f) at e))
 ]
+
+-- where the sizes fit, the problem's words do
+pub problem-fits : (n d : ℕ) (domains tables : List ℕ) → problemSizes n d (length domains) (length tables) ≡ 0 → Fitting n d domains tables
+unfolding problemSizes
+problem-fits n d domains tables e =
+    let both = else-pass (refusalOfNumbers n d) (cond (eqb (length domains) n && eqb (length tables) (n * n * d)) 0 3) e in
+    let in-range = numbers-pass n d (both .0) in
+    let long = given-if (eqb (length domains) n && eqb (length tables) (n * n * d)) 3 (λ z. absurd (omega arith)) (both .1) in
+    record {
+      sized = record {
+        few = in-range .variables;
+        small = in-range .values;
+        words = eqb-true (length tables) (n * n * d) (and-right (eqb (length domains) n) (eqb (length tables) (n * n * d)) long);
+      };
+      words = eqb-true (length domains) n (and-left (eqb (length domains) n) (eqb (length tables) (n * n * d)) long);
+    }

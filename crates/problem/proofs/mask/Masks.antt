@@ -11,6 +11,8 @@ use lib.Arith.{lt-one, bin-ind}
 use lib.Bits.{bitAnd, bitOr, and-step, or-step, and-le-l, and-self, and-zero-l, and-zero-r, or-disjoint}
 use lib.Count.{ones, ones-step, trailingZeros, under}
 use lib.Pow.{pow-mono, pow-lt, pow-pos, shr-shr}
+use borrow.Author.Tests.{lt-ltb}
+use Rattle.problem.specs.Calls.{Only}
 use Rattle.problem.specs.Masks.{bit, _∈_, Part, single, common, minus, size, lowest, smallest, smallerHalf}
 
 -- ---- a mask by its digits
@@ -372,3 +374,7 @@ half-below m u v l = smallest-below ((size m + 1) / 2) m u v l (omega arith)
 -- the bit that the code shifts up
 pub shifted : (n : ℕ) → n ≤ 32 → 1 * 2 ^ n % 2 ^ 64 ≡ 2 ^ n
 shifted n h = let small : n < 64 = omega arith in simp one-mul (mod-eq-of-lt (pow-lt small))
+
+-- the mask that `only` makes of one of the 16 values
+pub only-is : (v r : ℕ) → v < 16 → Only v r → r ≡ single v
+only-is v r h e = e ∙ simp (lt-ltb v 16 h)

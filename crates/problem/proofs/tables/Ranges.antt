@@ -1,7 +1,7 @@
 -- The tests of a call's numbers say what they test, and a place of the tables is inside them.
 -- Assumes nothing.
-use mathlib.Core.Path.{_≡_, refl, sym, subst}
-use mathlib.Core.Bool.{true, _&&_}
+use mathlib.Core.Path.{_≡_, refl, sym, subst, _∙_}
+use mathlib.Core.Bool.{Bool, true, false, not, _&&_}
 use mathlib.Core.List.{List}
 use Prim.Native.Nat.{ℕ, _+_, _*_, _≤_, _<_}
 use native.Mathlib.Omega.{arith}
@@ -9,10 +9,11 @@ use native.Mathlib.Nat.{mul-le-mul}
 use lib.ListN.{length, getD}
 use lib.Arith.{digits-lt}
 use lib.Dec.{leb, ltb, eqb}
-use borrow.Author.Tests.{leb-true, ltb-true, eqb-true, le-leb, lt-ltb, le-ltb, eq-eqb}
+use borrow.Author.Tests.{not-true, not-false, ne-eqb, leb-true, ltb-true, eqb-true, le-leb, lt-ltb, le-ltb, eq-eqb}
 use Rattle.problem.proofs.Tests.{and-left, and-right}
 use Rattle.problem.specs.Problem.{tableOf}
 use Rattle.problem.specs.Ranges.{sized, inside, Sized, Inside, Place}
+use Rattle.problem.specs.Calls.{Allowed}
 
 pub sized-true : (n d : ℕ) (t : List ℕ) → sized n d t ≡ true → Sized n d t
 unfolding sized
@@ -85,3 +86,29 @@ in-row n d i j t s h k =
     let le : i * n + j ≤ 1024 = omega arith in
     let most : (i * n + j) * d ≤ 1024 * 16 = mul-le-mul le (s .small) in
     record { row = omega arith; pair = le; masks = most }
+
+-- what `allowed` gives, by its tests in order
+module _ (n d : ℕ) (t : List ℕ) (i j a : ℕ) where
+  pub given-over : n ≤ j → Allowed n d t i j a 0
+  given-over h = simp (le-ltb j n h)
+
+  module _ (b : Bool) (k : j < n) (e : b ≡ inside n d t i a) where
+    pub given-misfit : not b ≡ true → Allowed n d t i j a 0
+    given-misfit f = simp (lt-ltb j n k, sym e, not-true b f)
+
+    module _ (f : not b ≡ false) where
+      pub given-inside : Inside n d t i a
+      given-inside = inside-true n d t i a (sym e ∙ not-false b f)
+
+      pub given-place : Place n d i j a
+      given-place = record { first = given-inside .a-variable; second = k; third = given-inside .a-value }
+
+      pub given-same : i ≡ j → Allowed n d t i j a 65535
+      given-same s = simp (lt-ltb j n k, sym e, not-false b f, eq-eqb i j s)
+
+      pub given-word : (x : ℕ) → (i ≡ j → ⊥) → x ≡ getD t ((i * n + j) * d + a) 0 → Allowed n d t i j a x
+      given-word x s w = simp (lt-ltb j n k, sym e, not-false b f, ne-eqb i j s) (w ∙ sym (word-at n d t i j a (given-inside .a-value)))
+
+  -- where they fit it is the table's mask
+  pub allowed-is : (x : ℕ) → Inside n d t i a → j < n → (i ≡ j → ⊥) → Allowed n d t i j a x → x ≡ tableOf n d t i j a
+  allowed-is x h k s e = e ∙ simp (lt-ltb j n k, inside-is n d t i a h, ne-eqb i j s)

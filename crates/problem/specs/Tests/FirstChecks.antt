@@ -1,17 +1,18 @@
 -- The tests that decide refusals 1 to 5, worked out. What they give is said exactly by the promises, so that they need not be believed.
 use mathlib.Core.Bool.{Bool, cond, _&&_, _||_}
-use Prim.Native.Nat.{ℕ, _^_}
+use mathlib.Core.List.{List}
+use Prim.Native.Nat.{ℕ, _*_, _^_}
+use lib.ListN.{length}
 use lib.Dec.{eqb, ltb}
 use Rattle.problem.specs.Masks.{bit}
-use Rattle.problem.specs.Problem.{Problem}
+use Rattle.problem.specs.Problem.{Problem, problemOf}
 use Rattle.problem.specs.Lists.{every}
 
 -- The first of two refusals, if it is one.
 abbrev pub orElse : ℕ → ℕ → ℕ
 orElse a b = cond (eqb a 0) b a
 
--- The tests, worked out. What they give is said exactly by Open-refusal-1 to Run-refusal-none of Promises, so that they need not be believed; sizesRefusal alone
--- is to be read. 1 and 2.
+-- 1 and 2.
 unfoldable pub refusalOfNumbers : ℕ → ℕ → ℕ
 refusalOfNumbers n d = cond (ltb n 1 || ltb 32 n) 1 (cond (ltb d 1 || ltb 16 d) 2 0)
 
@@ -28,3 +29,11 @@ symmetric p =
 
 unfoldable pub refusalOfProblem : Problem → ℕ
 refusalOfProblem p = cond (masksBelow p) (cond (symmetric p) 0 5) 4
+
+-- 1 to 3, of the numbers and of how many words are lent as domains and tables; 1 to 5, of a problem alone.
+unfoldable pub problemSizes : ℕ → ℕ → ℕ → ℕ → ℕ
+problemSizes n d domains tables = orElse (refusalOfNumbers n d) (cond (eqb domains n && eqb tables (n * n * d)) 0 3)
+
+unfoldable pub problemRefusal : ℕ → ℕ → List ℕ → List ℕ → ℕ
+problemRefusal n d domains tables =
+    orElse (problemSizes n d (length domains) (length tables)) (refusalOfProblem (problemOf n d domains tables))

@@ -1,12 +1,13 @@
--- `search::rows::made` meets its contract. The invariant: the first j masks are made.
+-- `beside::made` meets its contract. The invariant: the first j masks are made.
 -- Assumes nothing.
-use mathlib.Core.Path.{refl}
 use Prim.Native.Nat.{_≤_, _-_}
+use native.Mathlib.Nat.{le-antisymm}
 use native.Mathlib.Omega.{arith}
-use native.Mathlib.Nat.{one-mul, mod-eq-of-lt}
+use borrow.Author.Needs.{needs}
 use Rattle.problem.specs.Problem.{tableOf}
-use Rattle.problem.proofs.mask.Masks.{single-lt}
-use Rattle.problem.proofs.beside.Made.{Begun, begun-none, begun-more, row-made}
+use Rattle.problem.proofs.mask.Masks.{only-is}
+use Rattle.problem.proofs.tables.Ranges.{allowed-is}
+use Rattle.problem.proofs.beside.Rows.{Begun, begun-none, begun-more, row-made}
 use Rattle.problem.proofs.beside.made.Statement.{statement}
 use Rattle.problem.proofs.beside.made.Tie as tie
 
@@ -17,43 +18,45 @@ abbrev μ-loop : tie.MeasureT-loop
 μ-loop n d tables variable value row₀ j₀ row j = n - j
 
 loop-holds : tie.Need-loop-holds Inv-loop μ-loop
-loop-holds c = (omega arith, begun-none _ _ _ _ refl)
+loop-holds c = (omega arith, begun-none _ _ _)
 
 allowed-requires : tie.Need-allowed-requires Inv-loop μ-loop
-allowed-requires c κs = let k = c .before .before .before .pre in (k .fit, record { first = k .a-variable; second = omega arith; third = k .a-value })
+allowed-requires c κs = search needs
 
 mul-row : tie.Need-mul-row Inv-loop μ-loop
-mul-row c = omega arith
+mul-row c = omega (arith, c .before .before .before .before .pre .fit .few)
 
 array-write-row : tie.Need-array-write-row Inv-loop μ-loop
-array-write-row c = omega arith
+array-write-row c = omega (arith, c .before .before .before .before .pre .fit .few)
 
 add-j : tie.Need-add-j Inv-loop μ-loop
-add-j c = omega arith
+add-j c = omega (arith, c .before .before .before .before .pre .fit .few)
 
 loop-less : tie.Need-loop-less Inv-loop μ-loop
 loop-less c = omega arith
 
 loop-again : tie.Need-loop-again Inv-loop μ-loop
-loop-again c = (omega arith, begun-more _ _ _ _ _ _ (c .before .before .loop .inv .1) (omega arith) (c .allowed .ensures))
+loop-again c =
+    let p = c .before .before .before .before .pre in (
+      omega arith,
+      begun-more _ _ _ _ _ _ (c .before .before .loop .inv .1) (omega (arith, p .fit .few))
+          (λ s. allowed-is _ _ _ _ _ _ _ p (c .before .loop-test .taken) s (c .allowed .ensures)),
+    )
 
-cast-row : tie.Need-cast-row Inv-loop μ-loop
-cast-row c = omega arith
-
-shl-row : tie.Need-shl-row Inv-loop μ-loop
-shl-row c = omega arith
+only-requires : tie.Need-only-requires Inv-loop μ-loop
+only-requires c κs = search needs
 
 mul-row-2 : tie.Need-mul-row-2 Inv-loop μ-loop
-mul-row-2 c = omega arith
+mul-row-2 c = let p = c .before .before .before .before .pre in omega (arith, p .fit .few, p .a-variable)
 
 array-write-row-2 : tie.Need-array-write-row-2 Inv-loop μ-loop
-array-write-row-2 c = omega arith
+array-write-row-2 c = let p = c .before .before .before .before .pre in omega (arith, p .fit .few, p .a-variable)
 
 returns : tie.Need-returns Inv-loop μ-loop
 returns c =
-    let k = c .before .before .before .pre in
-    row-made _ _ _ _ _ _ _ (c .before .loop .inv .1) (c .loop-test .left) (omega (arith, k .a-variable, k .fit .few))
-    (simp one-mul (mod-eq-of-lt (single-lt 16 (c .before .before .before .args .value) (omega (arith, k .a-value, k .fit .small)))))
+    let p = c .before .before .before .before .pre in
+    row-made _ _ _ _ _ _ _ (c .before .before .loop .inv .1) (le-antisymm (c .before .before .loop .inv .0) (c .before .loop-test .left)) (p .fit .few)
+    (p .a-variable) (only-is _ _ (omega (arith, p .a-value, p .fit .small)) (c .only .ensures))
 
 pub made-spec : {M : Type 1} → statement M
 made-spec =
@@ -68,8 +71,7 @@ made-spec =
     add-j
     loop-less
     loop-again
-    cast-row
-    shl-row
+    only-requires
     mul-row-2
     array-write-row-2
     returns)

@@ -2,6 +2,7 @@
 -- Assumes nothing.
 use native.Mathlib.Nat.{lt-of-lt-of-le, le-antisymm}
 use Rattle.problem.proofs.mask.Halves.{turn-lt, turn-kept}
+use Rattle.problem.proofs.mask.Masks.{only-is}
 use Rattle.problem.specs.Masks.{smallest}
 use native.Mathlib.Omega.{arith}
 use Prim.Native.Nat.{_≤_, _-_}
@@ -24,10 +25,7 @@ lowest-requires : tie.Need-lowest-requires Inv-loop μ-loop
 lowest-requires c κs = search needs
 
 only-requires : tie.Need-only-requires Inv-loop μ-loop
-only-requires c κs =
-    let b = c .before .before .before in
-    turn-lt _ _ (b .fits .mask .fits) (lt-of-lt-of-le (c .before .loop-test .taken) (b .pre)) _ _ (c .before .before .loop .inv .1)
-    (c .lowest .ensures)
+only-requires c κs = search needs
 
 add-i : tie.Need-add-i Inv-loop μ-loop
 add-i c = search needs
@@ -37,10 +35,12 @@ loop-less c = search needs
 
 loop-again : tie.Need-loop-again Inv-loop μ-loop
 loop-again c =
-    let b = c .before .before .before .before in (
+    let b = c .before .before .before .before in
+    let more = lt-of-lt-of-le (c .before .before .loop-test .taken) (b .pre) in
+    let next = turn-lt _ _ (b .fits .mask .fits) more _ _ (c .before .before .before .loop .inv .1) (c .before .lowest .ensures) in (
       omega arith,
-      turn-kept _ _ (b .fits .mask .fits) (lt-of-lt-of-le (c .before .before .loop-test .taken) (b .pre)) _ _ _
-          (c .before .before .before .loop .inv .1) (c .before .lowest .ensures) (c .only .ensures),
+      turn-kept _ _ (b .fits .mask .fits) more _ _ _ (c .before .before .before .loop .inv .1) (c .before .lowest .ensures)
+          (only-is _ _ next (c .only .ensures)),
     )
 
 returns : tie.Need-returns Inv-loop μ-loop
