@@ -95,22 +95,10 @@ module _ (n : ℕ) (f g : Table) (P : Subproblem) (V′ v : ℕ) where
     unfolding tried others instantiatedOther
     tried-same = looked-same _ _ _ (λ i m. let (l, e) = kept-lt (instantiatedOther P V′) n i m in other-same i l e)
 
--- ---- the precluded piece
-
 -- of the tables only their length is asked
 inside-same : (n d : ℕ) (tables others : List ℕ) → AgreeApart n d tables others → (V′ v : ℕ) → inside n d tables V′ v ≡ inside n d others V′ v
 unfolding inside sized
 inside-same n d tables others h V′ v = rw (h .words) refl
-
-pub apart-precluded : (n d : ℕ) (tables others : List ℕ) → AgreeApart n d tables others → (P : Subproblem) (V′ v : ℕ)
-    → cond (inside n d tables V′ v) (precluded n (tableOf n d tables) P V′ v) P ≡ cond (inside n d others V′ v) (precluded n (tableOf n d others) P V′ v) P
-apart-precluded n d tables others h P V′ v =
-    cond-same (inside n d tables V′ v)
-    (λ z.
-    let in-range = inside-true n d tables V′ v z in
-    precluded-same n (tableOf n d tables) (tableOf n d others) P V′ v (λ i l q. h .masks V′ i v (in-range .a-variable) l q (in-range .a-value)))
-    (λ z. refl)
-    ∙ ap (λ (b : Bool). cond b (precluded n (tableOf n d others) P V′ v) P) (inside-same n d tables others h V′ v)
 
 -- ---- the two calls
 

@@ -1,10 +1,10 @@
 -- The promises of specs/Promises.antt, proved.
 -- Assumes nothing.
 use mathlib.Core.Path.{_∙_}
-use Rattle.splits.specs.Promises.{One-by-one, By-row, Refusal-7, Refusal-8, Refusal-9, Refusal-10, Refusal-none, Reads-refusal, Reads-pieces, Reads-checks, Diagonal-piece, Diagonal-precluded, Diagonal-checks, Domain-one, Is-instantiated-one, All-instantiated-one, Is-empty-one, Instantiate-one, Without-one, Cut-one, Cut-each-one, Precluded-by-one, Precluded-one, Candidates-one, Piece-one, Checks-one, Refusal-one}
+use Rattle.splits.specs.Promises.{One-by-one, By-row, Refusal-7, Refusal-8, Refusal-9, Refusal-10, Refusal-none, Reads-refusal, Reads-pieces, Reads-checks, Diagonal-piece, Diagonal-checks, Domain-one, Is-instantiated-one, All-instantiated-one, Is-empty-one, Instantiate-one, Without-one, Cut-one, Cut-each-one, Precluded-one, Candidates-one, Piece-one, Checks-one, Refusal-one}
 use Rattle.splits.proofs.split.OneByOne.{all-one-by-one}
 use Rattle.splits.proofs.subproblem.Rows.{row-made}
-use Rattle.splits.proofs.Apart.{apart-piece, apart-precluded, apart-checks}
+use Rattle.splits.proofs.Apart.{apart-piece, apart-checks}
 use Rattle.splits.proofs.refusal.Refusals.{is-7, is-8, is-9, is-10, is-none, same-refusal, same-pieces, same-checks}
 use Rattle.problem.proofs.Answers.{one}
 
@@ -12,7 +12,7 @@ pub one-by-one : One-by-one
 one-by-one = all-one-by-one
 
 pub by-row : By-row
-by-row = row-made
+by-row n allowed P V′ v row few long small h its = row-made n allowed V′ v row few its P long (λ i l. small i) h
 
 pub refusal-7 : Refusal-7
 refusal-7 = is-7
@@ -41,9 +41,6 @@ reads-checks n allowed P r s h = same-checks n P r s h allowed
 pub diagonal-piece : Diagonal-piece
 diagonal-piece P n d tables others request k r h = apart-piece n d tables others h P request k r
 
-pub diagonal-precluded : Diagonal-precluded
-diagonal-precluded P n d tables others V′ v r h e = e ∙ apart-precluded n d tables others h P V′ v
-
 pub diagonal-checks : Diagonal-checks
 diagonal-checks P n d tables others request r h = apart-checks n d tables others h P request r
 
@@ -71,11 +68,8 @@ cut-one P variable mask = one _
 pub cut-each-one : Cut-each-one
 cut-each-one P masks = one _
 
-pub precluded-by-one : Precluded-by-one
-precluded-by-one P variable row = one _
-
 pub precluded-one : Precluded-one
-precluded-one P n d tables variable value = one _
+precluded-one P variable row = one _
 
 pub candidates-one : Candidates-one
 candidates-one n request = one _

@@ -8,7 +8,7 @@ use Rattle.problem.specs.Masks.{bit}
 use Rattle.problem.specs.Problem.{tableOf}
 use Rattle.splits.specs.Subproblems.{domain, empty, allInstantiated}
 use Rattle.splits.specs.Requests.{kindOf, variableOf, valueOf}
-use Rattle.splits.specs.Splits.{instantiate, without, cut, cutEach, precluded, precludedBy, byKind, candidates, candidate}
+use Rattle.splits.specs.Splits.{instantiate, without, cut, cutEach, precludedBy, byKind, candidates, candidate}
 use Rattle.splits.specs.Checks.{checks}
 use Rattle.splits.specs.Tests.Refusals.{refusalOf}
 use Rattle.splits.specs.declared.subproblem.Subproblem.{Subproblem}
@@ -46,13 +46,8 @@ abbrev pub Cut-each : Subproblem → List ℕ → Subproblem → Type 0
 Cut-each P masks r = r ≡ cutEach P masks
 
 -- Outside 32 variables the subproblem comes back as it is.
-abbrev pub Precluded-by : Subproblem → ℕ → List ℕ → Subproblem → Type 0
-Precluded-by P variable row r = r ≡ cond (ltb variable 32) (precludedBy P variable row) P
-
--- Where the numbers or the tables do not fit, the subproblem comes back as it is.
-abbrev pub Precluded : Subproblem → ℕ → ℕ → List ℕ → ℕ → ℕ → Subproblem → Type 0
-Precluded P n d tables variable value r =
-    r ≡ cond (inside n d tables variable value) (precluded n (tableOf n d tables) P variable value) P
+abbrev pub Precluded : Subproblem → ℕ → List ℕ → Subproblem → Type 0
+Precluded P variable row r = r ≡ cond (ltb variable 32) (precludedBy P variable row) P
 
 -- How many candidates the kind of a request has; 0 for more than 32 variables.
 abbrev pub Candidates : ℕ → List ℕ → ℕ → Type 0

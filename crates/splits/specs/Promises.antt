@@ -5,7 +5,7 @@ use mathlib.Core.List.{List, map}
 use Prim.Native.Nat.{ℕ, _≤_, _<_}
 use lib.ListN.{length}
 use Rattle.problem.specs.Masks.{_∈_}
-use Rattle.problem.specs.Problem.{Table, AgreeApart}
+use Rattle.problem.specs.Problem.{Table, Words, AgreeApart}
 use Rattle.splits.specs.Subproblems.{domain}
 use Rattle.splits.specs.Requests.{kindOf, variableOf, valueOf, targetOf}
 use Rattle.problem.specs.Lists.{below}
@@ -15,7 +15,7 @@ use Rattle.splits.specs.Checks.{checks}
 use Rattle.splits.specs.Refusals.{Accepted, Deserves-7, Deserves-8, Deserves-9, Deserves-10}
 use Rattle.splits.specs.Tests.Refusals.{refusalOf}
 use Rattle.splits.specs.declared.subproblem.Subproblem.{Subproblem}
-use Rattle.splits.specs.Calls.{Domain, Is-instantiated, All-instantiated, Is-empty, Instantiate, Without, Cut, Cut-each, Precluded-by, Precluded, Candidates, Piece, Checks-of, Refusal-of}
+use Rattle.splits.specs.Calls.{Domain, Is-instantiated, All-instantiated, Is-empty, Instantiate, Without, Cut, Cut-each, Precluded, Candidates, Piece, Checks-of, Refusal-of}
 use Rattle.problem.specs.Answers.{One}
 
 -- What stands in the places, made one by one, is the split's pieces in order, with empty subproblems in the places that name none.
@@ -24,12 +24,11 @@ One-by-one =
     (n d : ℕ) (allowed : Table) (P : Subproblem) (r : List ℕ) → Accepted n d P r
     → filled n (map (candidate n allowed P r) (below (candidates n r))) ≡ pieces n allowed P r
 
--- By the row of v, a value of V, what a row makes is the precluded piece, of a subproblem with nothing past its n variables.
+-- By the row of v, a value of V, what a row makes is the precluded piece, of a subproblem of 32 words.
 abbrev pub By-row : Type 0
 By-row =
-    (n : ℕ) (allowed : Table) (P : Subproblem) (V′ v : ℕ) (row : List ℕ) → n ≤ 32 → length (P .domains) ≡ 32
-    → ((i : ℕ) → n ≤ i → domain P i ≡ 0) → V′ < n → v ∈ domain P V′ → RowOf n allowed V′ v row
-    → precludedBy P V′ row ≡ precluded n allowed P V′ v
+    (n : ℕ) (allowed : Table) (P : Subproblem) (V′ v : ℕ) (row : List ℕ) → n ≤ 32 → length (P .domains) ≡ 32 → Words (P .domains) → V′ < n
+    → RowOf n allowed V′ v row → precludedBy P V′ row ≡ precluded n allowed P V′ v
 
 -- ---- refusals, in the order 7, 8, 9, 10
 
@@ -86,12 +85,6 @@ Diagonal-piece =
     (P : Subproblem) (n d : ℕ) (tables others request : List ℕ) (k : ℕ) (r : Subproblem) → AgreeApart n d tables others
     → Piece P n d tables request k r → Piece P n d others request k r
 
--- Nor does the precluded piece.
-abbrev pub Diagonal-precluded : Type 0
-Diagonal-precluded =
-    (P : Subproblem) (n d : ℕ) (tables others : List ℕ) (V′ v : ℕ) (r : Subproblem) → AgreeApart n d tables others
-    → Precluded P n d tables V′ v r → Precluded P n d others V′ v r
-
 -- Nor does a count of checks.
 abbrev pub Diagonal-checks : Type 0
 Diagonal-checks =
@@ -132,13 +125,9 @@ Cut-one = (P : Subproblem) (variable mask : ℕ) → One (Cut P variable mask)
 abbrev pub Cut-each-one : Type 0
 Cut-each-one = (P : Subproblem) (masks : List ℕ) → One (Cut-each P masks)
 
--- The precluded piece by a row.
-abbrev pub Precluded-by-one : Type 0
-Precluded-by-one = (P : Subproblem) (variable : ℕ) (row : List ℕ) → One (Precluded-by P variable row)
-
--- The precluded piece.
+-- The precluded piece, by a row.
 abbrev pub Precluded-one : Type 0
-Precluded-one = (P : Subproblem) (n d : ℕ) (tables : List ℕ) (variable value : ℕ) → One (Precluded P n d tables variable value)
+Precluded-one = (P : Subproblem) (variable : ℕ) (row : List ℕ) → One (Precluded P variable row)
 
 -- How many places the kind of a request has.
 abbrev pub Candidates-one : Type 0

@@ -105,9 +105,9 @@ pieces n allowed P r = filled n (named n allowed P r)
 
 -- For the calls that make pieces one by one, or by a row: document 01's splits end above.
 
--- Every domain cut to its own mask of a row, and V marked: by the row of v, a value of V, the precluded piece (By-row).
+-- By the row of v of V: every other domain cut to its own mask, V's is the row's, which is v alone, and V marked. It is the precluded piece (By-row).
 unfoldable pub precludedBy : Subproblem → ℕ → List ℕ → Subproblem
-precludedBy P V′ row = record { domains = cutEach P row .domains; marked = bitOr (P .marked) (single V′) }
+precludedBy P V′ row = record { domains = set (cutEach P row .domains) V′ (getD row V′ 0); marked = bitOr (P .marked) (single V′) }
 
 -- How many candidates for a piece the kind of a request has, counted from 0; some of them may be empty.
 unfoldable pub candidates : ℕ → List ℕ → ℕ

@@ -28,13 +28,10 @@ fn does_forbid(
     value: usize,
     i: usize,
 ) -> bool
-    requires { ⌜ Inside n d (now tables) variable value × (i < n) ⌝ }
+    requires { ⌜ Inside n d (now tables) variable value × ((i < n) × (i ≡ variable → ⊥)) ⌝ }
     ensures { λ r. ⌜ r ≡ forbids (tableOf n d (now (tables .entry))) top variable value i ⌝ }
 {
     let a = mask::lowest(top.domain(i));
-    if d <= a {
-        return true;
-    }
     !mask::has(tables::allowed(n, d, tables, i, variable, a), value)
 }
 

@@ -1,8 +1,6 @@
-// Rules and splits: masks, a subproblem, a request, and the five splits of document 01.
+// The splits: a subproblem, a request, and the five splits.
 pub mod checks;
-pub mod mask;
 pub mod refusal;
 pub mod split;
 pub mod subproblem;
-mod tables;
 mod words;

@@ -1,5 +1,6 @@
 // The five splits: the pieces of a request, one by one.
 use crate::checks;
+use problem::beside;
 use problem::mask;
 use crate::subproblem::Subproblem;
 use problem::tables;
@@ -54,7 +55,7 @@ fn forward_checking(
     if k != 0 {
         return top.without(variable, mask::only(value));
     }
-    top.precluded(n, d, tables, variable, value)
+    top.precluded(variable, beside::row(n, d, tables, variable, value))
 }
 
 // IDC: the precluded piece; then one for each other variable, with V's own place empty.
@@ -70,16 +71,17 @@ fn idc(
     requires { ⌜ Inside n d (now tables) variable value × (k ≤ n) ⌝ }
     ensures { λ r. ⌜ r ≡ inferred n (tableOf n d (now (tables .entry))) top variable value k ⌝ }
 {
+    let row = beside::row(n, d, tables, variable, value);
     if k == 0 {
-        return top.precluded(n, d, tables, variable, value);
+        return top.precluded(variable, row);
     }
     let j = k - 1;
     if j == variable {
         return top.cut(variable, 0);
     }
     top.without(variable, mask::only(value))
-        .cut_beside(n, d, tables, variable, value, j)
-        .without(j, tables::allowed(n, d, tables, variable, j, value))
+        .cut_before(variable, row, j)
+        .without(j, row[j])
 }
 
 // Halving: the variable's smaller half; then the rest. The subproblem itself where the variable is none of the n.

@@ -1,13 +1,11 @@
 // A subproblem: a domain for each variable, and the set of those that a split instantiated.
 use problem::mask;
-use problem::tables;
 use crate::words;
 ghost use mathlib.Core.Path.{_≡_};
 ghost use Prim.Native.Nat.{_+_, _<_, _≤_};
-ghost use Rattle.problem.specs.Problem.{tableOf};
-ghost use Rattle.splits.specs.Splits.{cutBeside, atTargets};
-ghost use Rattle.splits.specs.Calls.{Domain, Is-instantiated, All-instantiated, Is-empty, Instantiate, Without, Cut, Cut-each, Precluded-by, Precluded};
-ghost use Rattle.problem.specs.Ranges.{Inside};
+ghost use Rattle.splits.specs.Splits.{atTargets};
+ghost use Rattle.splits.specs.Calls.{Domain, Is-instantiated, All-instantiated, Is-empty, Instantiate, Without, Cut, Cut-each, Precluded};
+ghost use Rattle.splits.specs.Loops.Kinds.{cutBefore};
 
 pub struct Subproblem {
     pub domains: [u16; 32],
@@ -108,34 +106,29 @@ impl Subproblem {
         self
     }
 
-    // The precluded piece by its row: every domain cut to its own mask, and the variable, whose mask is its value alone, instantiated.
-    pub fn precluded_by(mut self, variable: usize, row: [u16; 32]) -> Subproblem
-        ensures { λ r. ⌜ Precluded-by self variable row r ⌝ }
+    // The precluded piece, by the row beside a value of the variable: every other domain cut to its own mask of the row, the variable's is the row's, which is
+    // the value alone, and it is instantiated.
+    pub fn precluded(self, variable: usize, row: [u16; 32]) -> Subproblem
+        ensures { λ r. ⌜ Precluded self variable row r ⌝ }
     {
         if 32 <= variable {
             return self;
         }
-        self.marked |= 1 << variable;
-        self.cut_each(row)
+        let mut next = self.cut_each(row);
+        next.domains[variable] = row[variable];
+        next.marked |= 1 << variable;
+        next
     }
 
-    // The variables before `j`, except `variable`, cut to the values allowed beside `value`.
-    pub(crate) fn cut_beside(
-        mut self,
-        n: usize,
-        d: usize,
-        tables: &[u16],
-        variable: usize,
-        value: usize,
-        j: usize,
-    ) -> Subproblem
-        requires { ⌜ Inside n d (now tables) variable value × (j ≤ n) ⌝ }
-        ensures { λ r. ⌜ r ≡ cutBeside (tableOf n d (now (tables .entry))) self variable value j ⌝ }
+    // The variables before `j`, except `variable`, cut to their own masks of a row.
+    pub(crate) fn cut_before(mut self, variable: usize, row: [u16; 32], j: usize) -> Subproblem
+        requires { ⌜ j ≤ 32 ⌝ }
+        ensures { λ r. ⌜ r ≡ cutBefore self variable row j ⌝ }
     {
         let mut i = 0;
         while i < j {
             if i != variable {
-                self.domains[i] &= tables::allowed(n, d, tables, variable, i, value);
+                self.domains[i] &= row[i];
             }
             i += 1;
         }
@@ -151,24 +144,6 @@ impl Subproblem {
         while i < j {
             self.domains[i] = words::target(request, i);
             i += 1;
-        }
-        self
-    }
-
-    // The precluded piece: the variable instantiated to the value, every other cut to the values allowed beside it.
-    pub fn precluded(
-        self,
-        n: usize,
-        d: usize,
-        tables: &[u16],
-        variable: usize,
-        value: usize,
-    ) -> Subproblem
-        ensures { λ r. ⌜ Precluded self n d (now (tables .entry)) variable value r ⌝ }
-    {
-        if tables::within(n, d, tables, variable, value) {
-            return self.cut_beside(n, d, tables, variable, value, n)
-                .instantiate(variable, value);
         }
         self
     }

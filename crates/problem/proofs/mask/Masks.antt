@@ -13,7 +13,7 @@ use lib.Count.{ones, ones-step, trailingZeros, under}
 use lib.Pow.{pow-mono, pow-lt, pow-pos, shr-shr}
 use borrow.Author.Tests.{lt-ltb}
 use Rattle.problem.specs.Calls.{Only}
-use Rattle.problem.specs.Masks.{bit, _∈_, Part, single, common, minus, size, lowest, smallest, smallerHalf}
+use Rattle.problem.specs.Masks.{bit, _∈_, Part, single, common, minus, allValues, size, lowest, smallest, smallerHalf}
 
 -- ---- a mask by its digits
 
@@ -150,6 +150,15 @@ not-minus (suc w) a b h k =
     halves _ _
     (common-half a _ ∙ ap (bitAnd (a / 2)) (flip-half w b k) ∙ not-minus w (a / 2) (b / 2) (omega arith) (omega arith) ∙ sym (minus-half a b))
     (common-odd a _ ∙ ap (min (a % 2)) (flip-odd w b k) ∙ flip-min a b ∙ sym (minus-odd a b))
+
+-- a mask cut to all values of its width stays, and has nothing outside them
+pub all-common : (w x : ℕ) → x < 2 ^ w → common x (allValues w) ≡ x
+unfolding minus
+all-common w x h = let whole : (2 ^ w - 1) - 0 ≡ 2 ^ w - 1 = omega arith in rw whole at (not-minus w x 0 h (pow-pos w)) ∙ rw (common-none x) (omega arith)
+
+pub all-minus : (w x : ℕ) → x < 2 ^ w → minus x (allValues w) ≡ 0
+unfolding minus
+all-minus w x h = rw (all-common w x h) (omega arith)
 
 pub single-lt : (w v : ℕ) → v < w → single v < 2 ^ w
 single-lt w v h = pow-lt h

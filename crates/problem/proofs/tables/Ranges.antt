@@ -1,11 +1,12 @@
 -- The tests of a call's numbers say what they test, and a place of the tables is inside them.
 -- Assumes nothing.
 use mathlib.Core.Path.{_≡_, refl, sym, subst, _∙_}
-use mathlib.Core.Bool.{Bool, true, false, not, _&&_}
+use mathlib.Core.Bool.{Bool, true, false, not, _&&_, and-false}
 use mathlib.Core.List.{List}
 use Prim.Native.Nat.{ℕ, _+_, _*_, _≤_, _<_}
 use native.Mathlib.Omega.{arith}
 use native.Mathlib.Nat.{mul-le-mul}
+use native.Mathlib.Decide.{decLt}
 use lib.ListN.{length, getD}
 use lib.Arith.{digits-lt}
 use lib.Dec.{leb, ltb, eqb}
@@ -112,3 +113,11 @@ module _ (n d : ℕ) (t : List ℕ) (i j a : ℕ) where
   -- where they fit it is the table's mask
   pub allowed-is : (x : ℕ) → Inside n d t i a → j < n → (i ≡ j → ⊥) → Allowed n d t i j a x → x ≡ tableOf n d t i j a
   allowed-is x h k s e = e ∙ simp (lt-ltb j n k, inside-is n d t i a h, ne-eqb i j s)
+
+  -- so it is beside what is none of the d values
+  pub allowed-any : (x : ℕ) → Sized n d t → i < n → j < n → (i ≡ j → ⊥) → Allowed n d t i j a x → x ≡ tableOf n d t i j a
+  unfolding inside
+  allowed-any x h k l s e = elim (decLt a d) [
+    | yes b ↦ allowed-is x (record { fit = h; a-variable = k; a-value = b }) l s e
+    | no f ↦ let over : d ≤ a = omega arith in e ∙ simp (le-ltb a d over, and-false) (sym (word-none n d t i j a over))
+  ]

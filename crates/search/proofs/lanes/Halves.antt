@@ -59,16 +59,6 @@ beyond-is i h = record {
 
 -- ---- lanes
 
--- A word cut to all 16 values.
-pub all-common : (x : ℕ) → x < 2 ^ 16 → common x 65535 ≡ x
-unfolding minus
-all-common x h = not-minus 16 x 0 h (omega arith) ∙ rw (common-none x) (omega arith)
-
--- Nothing of it is outside them.
-pub all-minus : (x : ℕ) → x < 2 ^ 16 → minus x 65535 ≡ 0
-unfolding minus
-all-minus x h = rw (all-common x h) (omega arith)
-
 -- No lane yet, and one more.
 pub below-none : Below 0 (replicate 32 0)
 below-none = record { long = refl; all = λ i h. absurd (omega arith); none = λ i h. zeros-at 32 i }

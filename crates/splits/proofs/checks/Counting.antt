@@ -44,12 +44,6 @@ pub forbids-is : (n d : ℕ) (t : List ℕ) (P : Subproblem) (V′ v i m a w : �
 unfolding forbids
 forbids-is n d t P V′ v i m a w q e h s k = rw (k, s, h, e) (not-one _ (bit-le _ v))
 
--- one that has none of the d values does
-pub forbids-none : (n d : ℕ) (t : List ℕ) (P : Subproblem) (V′ v i m a : ℕ) → m ≡ domain P i → a ≡ lowest m → d ≤ a
-    → true ≡ forbids (tableOf n d t) P V′ v i
-unfolding forbids
-forbids-none n d t P V′ v i m a e h l = rw (word-none n d t i V′ (lowest (domain P i)) (rw (h, e) at l), bit-none v) refl
-
 -- whether a variable is looked at: another than V, if it is instantiated; V never
 pub other-looked : (P : Subproblem) (V′ i : ℕ) (q : Bool) → (i ≡ V′ → ⊥) → q ≡ eqb (bit (P .marked) i) 1 → q ≡ instantiatedOther P V′ i
 unfolding instantiatedOther

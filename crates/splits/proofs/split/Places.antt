@@ -2,8 +2,9 @@
 use mathlib.Core.Path.{_≡_, sym, ap, _∙_}
 use mathlib.Core.Bool.{Bool, true, false, cond}
 use mathlib.Core.List.{List}
-use Prim.Native.Nat.{ℕ, _-_}
+use Prim.Native.Nat.{ℕ, _-_, _≤_, _<_}
 use native.Mathlib.Omega.{arith}
+use lib.ListN.{length, getD}
 use lib.Dec.{eqb}
 use borrow.Author.Tests.{eq-eqb, ne-eqb, lt-ltb}
 use Rattle.problem.specs.Masks.{single, smallerHalf}
@@ -12,6 +13,11 @@ use Rattle.splits.specs.Subproblems.{domain}
 use Rattle.splits.specs.Requests.{targetOf}
 use Rattle.splits.specs.Splits.{instantiate, without, cut, cutBeside, atTargets, precluded, disjunct, extract, forbidden, backtracked, checked, inferred, halved, extracted}
 use Rattle.splits.specs.Calls.{Instantiate, Precluded}
+use Rattle.splits.specs.Loops.Kinds.{cutBefore}
+use Rattle.problem.specs.Beside.{RowOf}
+use Rattle.problem.specs.Calls.{Only, Row}
+use Rattle.problem.proofs.mask.Masks.{only-is}
+use Rattle.splits.proofs.subproblem.Rows.{row-made, before-beside}
 use Rattle.problem.specs.Ranges.{Inside}
 use Rattle.splits.specs.declared.subproblem.Subproblem.{Subproblem}
 use Rattle.problem.proofs.tables.Ranges.{inside-is}
@@ -30,12 +36,32 @@ first k x y e = sym (picked (eqb k 0) x y (eq-eqb k 0 e))
 later : {A : Type 0} (k : ℕ) (x y : A) → (k ≡ 0 → ⊥) → y ≡ cond (eqb k 0) x y
 later k x y f = sym (passed (eqb k 0) x y (ne-eqb k 0 f))
 
+-- the mask of v alone
+pub its-only : (n d : ℕ) (t : List ℕ) (V′ v m : ℕ) → Inside n d t V′ v → Only v m → m ≡ single v
+its-only n d t V′ v m h e = only-is v m (omega (arith, h .a-value, h .fit .small)) e
+
 module _ (n d : ℕ) (t : List ℕ) (P : Subproblem) (V′ v k : ℕ) (Q : Subproblem) (h : Inside n d t V′ v) where
   instantiated-is : Instantiate P V′ v Q → Q ≡ instantiate P V′ v
   instantiated-is e = e ∙ rw (lt-ltb V′ 32 (omega (arith, h .a-variable, h .fit .few)), lt-ltb v 16 (omega (arith, h .a-value, h .fit .small)))
 
-  precluded-is : Precluded P n d t V′ v Q → Q ≡ precluded n (tableOf n d t) P V′ v
-  precluded-is e = e ∙ picked _ _ _ (inside-is n d t V′ v h)
+  -- by the row of v
+  module _ (row : List ℕ) (its : Row n d t V′ v row) where
+    pub its-row : RowOf n (tableOf n d t) V′ v row
+    its-row = its .within (inside-is n d t V′ v h)
+
+    module _ (long : length (P .domains) ≡ 32) (small : (i : ℕ) → i < 32 → domain P i < 65536) (e : Precluded P V′ row Q) where
+      precluded-is : Q ≡ precluded n (tableOf n d t) P V′ v
+      precluded-is =
+          e ∙ picked _ _ _ (lt-ltb V′ 32 (omega (arith, h .a-variable, h .fit .few)))
+          ∙ row-made n (tableOf n d t) V′ v row (h .fit .few) its-row P long small (h .a-variable)
+
+      pub checked-first : k ≡ 0 → Q ≡ checked n (tableOf n d t) P V′ v k
+      unfolding checked
+      checked-first z = precluded-is ∙ first k _ _ z
+
+      pub inferred-first : k ≡ 0 → Q ≡ inferred n (tableOf n d t) P V′ v k
+      unfolding inferred
+      inferred-first z = precluded-is ∙ first k _ _ z
 
   pub backtracked-none : k ≡ 0 → (b : Bool) → b ≡ forbidden n (tableOf n d t) P V′ v → b ≡ true → Q ≡ cut P V′ 0
       → Q ≡ backtracked n (tableOf n d t) P V′ v k
@@ -46,14 +72,6 @@ module _ (n d : ℕ) (t : List ℕ) (P : Subproblem) (V′ v k : ℕ) (Q : Subpr
       → Q ≡ backtracked n (tableOf n d t) P V′ v k
   unfolding backtracked
   backtracked-first z b m s e = instantiated-is e ∙ sym (passed _ _ _ (sym m ∙ s)) ∙ first k _ _ z
-
-  pub checked-first : k ≡ 0 → Precluded P n d t V′ v Q → Q ≡ checked n (tableOf n d t) P V′ v k
-  unfolding checked
-  checked-first z e = precluded-is e ∙ first k _ _ z
-
-  pub inferred-first : k ≡ 0 → Precluded P n d t V′ v Q → Q ≡ inferred n (tableOf n d t) P V′ v k
-  unfolding inferred
-  inferred-first z e = precluded-is e ∙ first k _ _ z
 
 module _ (n : ℕ) (allowed : Table) (P : Subproblem) (V′ v k : ℕ) (Q : Subproblem) (f : k ≡ 0 → ⊥) where
   pub backtracked-rest : (m : ℕ) → m ≡ single v → Q ≡ without P V′ m → Q ≡ backtracked n allowed P V′ v k
@@ -68,13 +86,13 @@ module _ (n : ℕ) (allowed : Table) (P : Subproblem) (V′ v k : ℕ) (Q : Subp
   unfolding inferred
   inferred-none s e = e ∙ sym (picked _ _ _ (eq-eqb (k - 1) V′ s)) ∙ later k _ _ f
 
-  pub inferred-later : (k - 1 ≡ V′ → ⊥) → (m : ℕ) → m ≡ single v → (R : Subproblem) → R ≡ without P V′ m → (S : Subproblem)
-      → S ≡ cutBeside allowed R V′ v (k - 1) → (a : ℕ) → a ≡ allowed V′ (k - 1) v → Q ≡ without S (k - 1) a
+  pub inferred-later : n ≤ 32 → k ≤ n → (k - 1 ≡ V′ → ⊥) → (row : List ℕ) → RowOf n allowed V′ v row → (m : ℕ) → m ≡ single v → (R : Subproblem)
+      → R ≡ without P V′ m → (S : Subproblem) → S ≡ cutBefore R V′ row (k - 1) → Q ≡ without S (k - 1) (getD row (k - 1) 0)
       → Q ≡ inferred n allowed P V′ v k
   unfolding inferred disjunct
-  inferred-later g m o R r S s a l e =
-      e ∙ ap (without S (k - 1)) l ∙ ap (λ (X : Subproblem). without X (k - 1) (allowed V′ (k - 1) v))
-      (s ∙ ap (λ (X : Subproblem). cutBeside allowed X V′ v (k - 1)) (r ∙ ap (without P V′) o))
+  inferred-later few up g row its m o R r S s e =
+      e ∙ ap (without S (k - 1)) (its .other (k - 1) (omega (arith, f)) g) ∙ ap (λ (X : Subproblem). without X (k - 1) (allowed V′ (k - 1) v))
+      (s ∙ before-beside n allowed V′ v row few its R (k - 1) (omega arith) ∙ ap (λ (X : Subproblem). cutBeside allowed X V′ v (k - 1)) (r ∙ ap (without P V′) o))
       ∙ sym (passed _ _ _ (ne-eqb (k - 1) V′ g)) ∙ later k _ _ f
 
 module _ (P : Subproblem) (V′ k m h : ℕ) (Q : Subproblem) (own : m ≡ domain P V′) (half : h ≡ smallerHalf m) where

@@ -38,6 +38,14 @@ changed-after (suc j) f [] i h = refl
 changed-after (suc j) f (m ∷ l) zero h = absurd (omega arith)
 changed-after (suc j) f (m ∷ l) (suc i) h = changed-after j (λ i. f (suc i)) l i (le-of-suc-le-suc h)
 
+-- Changes that are alike before j.
+pub changed-same : (j : ℕ) (f g : ℕ → ℕ → ℕ) (l : List ℕ) → ((i m : ℕ) → i < j → f i m ≡ g i m) → changed j f l ≡ changed j g l
+unfolding changed
+changed-same zero f g l h = refl
+changed-same (suc j) f g [] h = refl
+changed-same (suc j) f g (m ∷ l) h =
+    rw (h 0 m (omega arith)) (ap (g 0 m ∷_) (changed-same j (λ i. f (suc i)) (λ i. g (suc i)) l (λ i m k. h (suc i) m (omega arith))))
+
 -- Entries changed to parts of what they were.
 pub within-changed : (j : ℕ) (f : ℕ → ℕ → ℕ) (l : List ℕ) → ((i : ℕ) → i < j → Part (f i (getD l i 0)) (getD l i 0)) → Within (changed j f l) l
 unfolding changed

@@ -53,29 +53,6 @@ instantiate-in P i v m e h k =
     let bit : 1 * 2 ^ i % 2 ^ 32 ≡ single i = simp one-mul (mod-eq-of-lt (single-lt 32 i h)) in
     simp (lt-ltb i 32 h, lt-ltb v 16 k) (λ t. record { domains = set (P .domains) i (e t); marked = bitOr (P .marked) (bit t) })
 
--- one variable more cut to the values allowed beside v, or passed over where it is V
-module _ (allowed : Table) (P : Subproblem) (V′ v : ℕ) where
-  besides : ℕ → ℕ → ℕ
-  besides i m = cond (eqb i V′) m (common m (allowed V′ i v))
-
-  pub beside-next : (Q : Subproblem) (i a : ℕ) → Q ≡ cutBeside allowed P V′ v i → (i ≡ V′ → ⊥) → a ≡ allowed V′ i v
-      → record { domains = set (Q .domains) i (common (domain Q i) a); marked = Q .marked } ≡ cutBeside allowed P V′ v (i + 1)
-  unfolding cutBeside besides
-  beside-next Q i a e h s =
-      let other : besides i (domain P i) ≡ common (domain P i) a = simp (ne-eqb i V′ h, s) in
-      let more = changed-more i besides (P .domains) in
-      rw (e, add-one, changed-next, ← other) (λ t. record { domains = more t; marked = P .marked })
-
-  pub beside-skip : (Q : Subproblem) (i : ℕ) → Q ≡ cutBeside allowed P V′ v i → i ≡ V′ → Q ≡ cutBeside allowed P V′ v (i + 1)
-  unfolding cutBeside besides
-  beside-skip Q i e h =
-      let same : besides i (domain P i) ≡ domain P i = simp (eq-eqb i V′ h) in
-      let kept : changed i besides (P .domains) ≡ changed (suc i) besides (P .domains) =
-      sym (set-getD (changed i besides (P .domains)) i 0)
-      ∙ ap (set (changed i besides (P .domains)) i) (changed-next i besides (P .domains) ∙ sym same)
-      ∙ changed-more i besides (P .domains) in
-      rw (e, add-one) (λ t. record { domains = kept t; marked = P .marked })
-
 -- a loop that looks for an empty domain
 pub empty-at : (n : ℕ) (P : Subproblem) (i : ℕ) → i < n → domain P i ≡ 0 → true ≡ empty n P
 unfolding empty
@@ -94,17 +71,6 @@ pub target-next : (P Q : Subproblem) (r : List ℕ) (i t : ℕ) → Q ≡ atTarg
 unfolding atTargets
 target-next P Q r i t e s =
     let more = changed-more i (λ k m. targetOf r k) (P .domains) in rw (e, add-one, s) (λ x. record { domains = more x; marked = P .marked })
-
--- the precluded piece, made by the methods
-pub precluded-made : (n d : ℕ) (t : List ℕ) (P : Subproblem) (V′ v : ℕ) (Q R : Subproblem) → inside n d t V′ v ≡ true
-    → Q ≡ cutBeside (tableOf n d t) P V′ v n → R ≡ cond (ltb V′ 32 && ltb v 16) (instantiate Q V′ v) Q
-    → R ≡ cond (inside n d t V′ v) (precluded n (tableOf n d t) P V′ v) P
-unfolding precluded
-precluded-made n d t P V′ v Q R h q r =
-    let f = inside-true n d t V′ v h in
-    let a : V′ < 32 = le-trans (f .a-variable) (f .fit .few) in
-    let b : v < 16 = le-trans (f .a-value) (f .fit .small) in
-    rw (r, h, lt-ltb V′ 32 a, lt-ltb v 16 b, q)
 
 -- digit b above r makes all ones exactly where both are
 digit : (b q r : ℕ) → b ≤ 1 → r < q → b * q + r ≡ q + q - 1 → (r ≡ q - 1) × (b ≡ 1)

@@ -4,7 +4,9 @@ use mathlib.Core.Bool.{Bool, cond, _||_}
 use mathlib.Core.List.{List}
 use Prim.Native.Nat.{ℕ}
 use lib.Dec.{eqb, leb}
-use Rattle.problem.specs.Masks.{bit, size}
+use Rattle.problem.specs.Masks.{bit, common, size}
+use Rattle.problem.specs.Lists.{changed}
+use lib.ListN.{getD}
 use Rattle.problem.specs.Problem.{Table, tableOf}
 use Rattle.splits.specs.Subproblems.{domain}
 use Rattle.splits.specs.Splits.{forbidden, candidate}
@@ -30,3 +32,8 @@ refusalOfVariable n d P kind V′ v =
 -- The k-th candidate of a request of kind 1 to 3; the subproblem itself where the words do not fit.
 unfoldable pub aroundValue : Subproblem → ℕ → ℕ → List ℕ → List ℕ → ℕ → Subproblem
 aroundValue P n d tables r k = cond (inside n d tables (variableOf r) (valueOf r)) (candidate n (tableOf n d tables) P r k) P
+
+-- The variables before j, except V, cut to their own masks of a row.
+unfoldable pub cutBefore : Subproblem → ℕ → List ℕ → ℕ → Subproblem
+cutBefore P V′ row j =
+    record { domains = changed j (λ i m. cond (eqb i V′) m (common m (getD row i 0))) (P .domains); marked = P .marked }

@@ -1,19 +1,19 @@
 -- `splits::split::backtracking` meets its contract.
 -- Assumes nothing.
-use Rattle.splits.proofs.split.Places.{backtracked-none, backtracked-first, backtracked-rest}
-use native.Mathlib.Omega.{arith}
+use Rattle.splits.proofs.split.Places.{backtracked-none, backtracked-first, backtracked-rest, its-only}
 use borrow.Author.Needs.{needs}
 use Rattle.splits.proofs.split.backtracking.Statement.{statement}
 use Rattle.splits.proofs.split.backtracking.Tie as tie
 
 only-requires : tie.Need-only-requires
-only-requires c κs = omega (arith, c .before .before .pre .fit .small, c .before .before .pre .a-value)
+only-requires c κs = search needs
 
 without-requires : tie.Need-without-requires
 without-requires c κs = search needs
 
 returns : tie.Need-returns
-returns c = backtracked-rest _ _ _ _ _ _ _ (c .before .before .if1 .taken) _ (c .before .only .ensures) (c .without .ensures)
+returns c = backtracked-rest _ _ _ _ _ _ _ (c .before .before .if1 .taken) _
+    (its-only _ _ _ _ _ _ (c .before .before .before .before .pre) (c .before .only .ensures)) (c .without .ensures)
 
 look-requires : tie.Need-look-requires
 look-requires c κs = c .before .before .pre

@@ -3,6 +3,7 @@
 use Rattle.splits.proofs.subproblem.Subproblems.{instantiate-in}
 use borrow.Author.Tests.{le-ltb}
 use mathlib.Core.Bool.{and-false}
+use Rattle.problem.proofs.mask.Masks.{only-is}
 use borrow.Author.Needs.{needs}
 use Rattle.splits.proofs.subproblem.Subproblem.instantiate.Statement.{statement}
 use Rattle.splits.proofs.subproblem.Subproblem.instantiate.Tie as tie
@@ -23,7 +24,7 @@ shl-self : tie.Need-shl-self
 shl-self c = search needs
 
 returns : tie.Need-returns
-returns c = instantiate-in _ _ _ _ (c .only .ensures) (c .before .before .if1 .taken) (c .before .if2 .taken)
+returns c = instantiate-in _ _ _ _ (only-is _ _ (c .before .if2 .taken) (c .only .ensures)) (c .before .before .if1 .taken) (c .before .if2 .taken)
 
 returns-2 : tie.Need-returns-2
 returns-2 c = simp (le-ltb _ _ (c .if2 .left), and-false)
