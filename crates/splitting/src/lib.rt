@@ -1,0 +1,1 @@
+// What a split keeps: theory alone, no function.
