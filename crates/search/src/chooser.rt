@@ -1,7 +1,7 @@
 // A step of the house chooser, worked out on all masks at once.
 use crate::agenda;
+use crate::kept;
 use crate::lanes;
-use problem::beside;
 use crate::state::State;
 use crate::step;
 use crate::step::Stop;
@@ -42,7 +42,7 @@ fn look(top: Subproblem, n: usize, d: usize, tables: &[u16], rows: &mut [[u16; 3
     let key = lanes::least_key(domains, top.marked | lanes::beyond(n));
     let variable = (key % 32) as usize;
     let value = mask::lowest(top.domain(variable));
-    let row = rows::row(n, d, tables, rows, variable * 16 + value, variable, value);
+    let row = kept::row(n, d, tables, rows, variable * 16 + value, variable, value);
     let lost = lanes::loses(domains, row);
     Choice {
         variable,
@@ -69,7 +69,7 @@ fn precluded(top: Subproblem, choice: Choice) -> Subproblem
     ensures { λ r. ⌜ r ≡ precludedBy top (choice .variable) (choice .row) ⌝ }
 {
     let row = choice.row;
-    top.precluded_by(choice.variable, row)
+    top.precluded(choice.variable, row)
 }
 
 // V without its value.
@@ -125,7 +125,7 @@ fn further_piece(further: Further, sides: &[u16], j: usize) -> Subproblem
     ensures { λ r. ⌜ FurtherPiece further j r ⌝ }
 {
     let row = further.row;
-    further.rest.cut_each(lanes::further(row, sides, j))
+    further.rest.cut_each(lanes::before(row, sides, j)).without(j, row[j])
 }
 
 // Kind 3's pieces, the last named in the place of the top, the others above; the number of subproblems then. `d` and `tables` are for

@@ -1,7 +1,6 @@
 // The first checks: the refusals 1 to 6 that the words handed to a call deserve, before anything is changed.
 use crate::rules;
 use crate::state::State;
-use problem::symmetry;
 ghost use mathlib.Core.Path.{_≡_};
 ghost use Prim.Native.Nat.{_-_, _^_, _≤_, _<_};
 ghost use lib.Dec.{ltb};
@@ -29,23 +28,6 @@ fn whole_slots(n: usize, words: usize) -> bool
     slots <= 512
 }
 
-// 3, or none, of the numbers of words lent as domains, tables and agenda.
-fn refusal_of_lengths(n: usize, d: usize, domains: usize, tables: usize, agenda: usize) -> u32
-    requires { ⌜ (n ≤ 32) × (d ≤ 16) ⌝ }
-    ensures { λ r. ⌜ r ≡ refusalOfLengths n d domains tables agenda ⌝ }
-{
-    if domains != n {
-        return 3;
-    }
-    if tables != n * n * d {
-        return 3;
-    }
-    if whole_slots(n, agenda) {
-        return 0;
-    }
-    3
-}
-
 // 3, or none, of the number of words lent as requests.
 fn refusal_of_requests(n: usize, words: usize) -> u32
     requires { ⌜ n ≤ 32 ⌝ }
@@ -62,7 +44,7 @@ fn zeros_from(words: &[u16], from: usize) -> bool
     requires { ⌜ from ≤ length (now words) ⌝ }
     ensures { λ r. ⌜ r ≡ zerosFrom from (now (words .entry)) ⌝ }
 {
-    bits_of(&words[from..]) == 0
+    problem::first_checks::bits_of(&words[from..]) == 0
 }
 
 // 6, or none.
@@ -96,11 +78,14 @@ fn refusal_of_search(
 pub fn sizes_refusal(n: usize, d: usize, domains: usize, tables: usize, agenda: usize) -> u32
     ensures { λ r. ⌜ r ≡ sizesRefusal n d domains tables agenda ⌝ }
 {
-    let numbers = refusal_of_numbers(n, d);
-    if numbers != 0 {
-        return numbers;
+    let sizes = problem::first_checks::sizes_refusal(n, d, domains, tables);
+    if sizes != 0 {
+        return sizes;
     }
-    refusal_of_lengths(n, d, domains, tables, agenda)
+    if whole_slots(n, agenda) {
+        return 0;
+    }
+    3
 }
 
 // The first checks of opening: 1 to 5, 0 for none.
@@ -111,7 +96,7 @@ pub fn open_refusal(n: usize, d: usize, domains: &[u16], tables: &[u16], agenda:
     if sizes != 0 {
         return sizes;
     }
-    refusal_of_problem(n, d, domains, tables)
+    problem::first_checks::refusal(n, d, domains, tables)
 }
 
 // The first checks of a search, but for a run's requests: 1 to 6, 0 for none.

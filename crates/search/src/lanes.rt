@@ -7,7 +7,7 @@ ghost use lib.ListN.{getD};
 ghost use lib.Dec.{eqb};
 ghost use Rattle.problem.specs.Masks.{bit, minus, size};
 ghost use Rattle.problem.specs.Lists.{total};
-ghost use Rattle.search.specs.Loops.Lanes.{Half, Beyond, Below, Kept, LeastKey, lost, loses, outsideTo, Sides, Share, FurtherTo, filled};
+ghost use Rattle.search.specs.Loops.Lanes.{Half, Beyond, Below, Kept, LeastKey, lost, loses, outsideTo, Sides, Widened, BeforeTo, filled};
 
 fn least(a: u16, b: u16) -> u16
     ensures { λ r. ⌜ r ≡ min a b ⌝ }
@@ -159,23 +159,22 @@ pub(crate) fn sides() -> [u16; 64]
     lanes
 }
 
-// What the further piece of variable `j` keeps of a variable: before `j` its mask, of `j` what is outside, past `j` all. The two lanes have all bits
-// from `j` on and past `j`.
-fn share(mask: u16, from: u16, past: u16) -> u16
-    ensures { λ r. ⌜ Share mask from past r ⌝ }
+// A mask where its lane has no bits, all bits where it has all.
+fn widened(mask: u16, lane: u16) -> u16
+    ensures { λ r. ⌜ Widened mask lane r ⌝ }
 {
-    (mask ^ from) | past
+    mask | lane
 }
 
-// The same of every variable.
-pub(crate) fn further(row: [u16; 32], sides: &[u16], j: usize) -> [u16; 32]
+// The row for the variables before `j`, all values for the others.
+pub(crate) fn before(row: [u16; 32], sides: &[u16], j: usize) -> [u16; 32]
     requires { ⌜ (j < 32) × Sides 64 (now sides) ⌝ }
-    ensures { λ r. ⌜ FurtherTo row j 32 r ⌝ }
+    ensures { λ r. ⌜ BeforeTo row j 32 r ⌝ }
 {
     let mut masks = [0u16; 32];
     let mut i = 0;
     while i < 32 {
-        masks[i] = share(row[i], sides[32 - j + i], sides[31 - j + i]);
+        masks[i] = widened(row[i], sides[32 - j + i]);
         i += 1;
     }
     masks

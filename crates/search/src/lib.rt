@@ -1,14 +1,12 @@
 // The search: the lent agenda, the first checks, opening, a run, the house chooser.
 mod agenda;
-mod choice;
-pub mod first;
+mod chooser;
+pub mod first_checks;
+mod kept;
 mod lanes;
-pub mod matrix;
-mod rows;
 mod rules;
 pub mod state;
 mod step;
-mod symmetry;
 
 use crate::state::Checks;
 use crate::state::Counts;
@@ -33,7 +31,7 @@ ghost use Rattle.search.specs.Loops.Ends.{Openable, Used, requestAt, ref
 pub fn open(n: usize, d: usize, domains: &[u16], tables: &[u16], agenda: &mut [u16]) -> Opened
     ensures { λ r. ⌜ Opens n d (now (domains .entry)) (now (tables .entry)) (now (agenda .entry)) (now (agenda .exit)) r ⌝ }
 {
-    let refusal = first::open_refusal(n, d, domains, tables, agenda);
+    let refusal = first_checks::open_refusal(n, d, domains, tables, agenda);
     if refusal != 0 {
         return Opened {
             refusal,
@@ -86,7 +84,7 @@ pub fn run(
 ) -> Ran
     ensures { λ r. ⌜ Runs n d (now (domains .entry)) (now (tables .entry)) (now (agenda .entry)) (now (agenda .exit)) (now (requests .entry)) state r ⌝ }
 {
-    let refusal = first::run_refusal(n, d, domains, tables, agenda, requests, state);
+    let refusal = first_checks::run_refusal(n, d, domains, tables, agenda, requests, state);
     if refusal != 0 {
         return refused(refusal, state);
     }
@@ -170,7 +168,7 @@ pub fn choose(
 ) -> Ran
     ensures { λ r. ⌜ Chooses n d (now (domains .entry)) (now (tables .entry)) (now (agenda .entry)) (now (agenda .exit)) limit state r ⌝ }
 {
-    let refusal = first::search_refusal(n, d, domains, tables, agenda, state);
+    let refusal = first_checks::search_refusal(n, d, domains, tables, agenda, state);
     if refusal != 0 {
         return refused(refusal, state);
     }
@@ -228,7 +226,7 @@ fn step_chosen(
     if subproblems != 0 {
         let top = agenda::read_lanes(lanes, n, agenda, subproblems - 1);
         if !top.all_instantiated(n) {
-            return choice::take_chosen(top, n, d, tables, agenda, rows, state);
+            return chooser::take_chosen(top, n, d, tables, agenda, rows, state);
         }
     }
     step::stopped(0, state)

@@ -1,7 +1,7 @@
 // The rules for the subproblems in slots, the first check that 6 is about, on the words as they lie there.
 use crate::agenda;
 use crate::lanes;
-use problem::beside;
+use crate::kept;
 use problem::mask;
 ghost use mathlib.Core.Path.{_≡_};
 ghost use Prim.Native.Nat.{_+_, _*_, _≤_, _<_};
@@ -99,7 +99,7 @@ fn marks_obey(
     let held = held_of(slot, marked, n);
     let mut i = next_in(marked, 0);
     while i < n {
-        let row = rows::row(n, d, tables, rows, i, i, mask::lowest(slot[i]));
+        let row = kept::row(n, d, tables, rows, i, i, mask::lowest(slot[i]));
         if missing(held, row) != 0 {
             return false;
         }

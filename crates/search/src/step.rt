@@ -1,7 +1,7 @@
 // A step: the top subproblem gives way to the pieces of a request, in the lent agenda.
 use crate::agenda;
 use crate::lanes;
-use problem::beside;
+use problem::tables;
 use crate::state::Checks;
 use crate::state::Counts;
 use crate::state::State;
@@ -131,7 +131,7 @@ fn keeps_none(
     let j = k - 1;
     let domain = top.domain(j);
     if request[0] == 3 {
-        let beside = rows::allowed(n, d, tables, request[1] as usize, j, request[2] as usize);
+        let beside = tables::allowed(n, d, tables, request[1] as usize, j, request[2] as usize);
         return lanes::outside(domain, beside) == 0;
     }
     if request[0] == 5 {

@@ -187,7 +187,7 @@ module _ (n d : ℕ) (t : List ℕ) (P : Subproblem) (fit : Sized n d t) (reg : 
     -- The precluded piece.
     pub precluded-is : precludedBy P (c .variable) (c .row) ≡ precluded n (tableOf n d t) P (c .variable) (c .value)
     precluded-is =
-        by-row n (tableOf n d t) P (c .variable) (c .value) (c .row) (fit .few) (reg .shape .long) (reg .shape .past) variable-is value-is (h .row)
+        by-row n (tableOf n d t) P (c .variable) (c .value) (c .row) (fit .few) (reg .shape .long) (word n d P (fit .few) (fit .small) reg) variable-is (h .row)
 
     -- One piece at most.
     pub left-is : several c ≡ false → pieces n (tableOf n d t) P (requestBy c (cond (c .lost) 2 3)) ≡ leftBy P c

@@ -19,7 +19,7 @@ use Rattle.splits.specs.Subproblems.{domain, empty}
 use Rattle.splits.specs.Splits.{without, cut, cutEach, cutBeside, precludedBy, disjunct, inferred, pieces, candidates, candidate}
 use Rattle.splits.specs.Calls.{readable, Piece, Candidates}
 use Rattle.splits.specs.declared.subproblem.Subproblem.{Subproblem}
-use Rattle.problem.proofs.mask.Masks.{common-none, none-minus, minus-part, part-lt}
+use Rattle.problem.proofs.mask.Masks.{common-none, none-minus, minus-part, part-lt, all-common, all-minus}
 use Rattle.problem.proofs.Tests.{true-false, some-none, some-all-not}
 use Rattle.problem.proofs.Changed.{changed-next}
 use Rattle.splits.proofs.subproblem.Domains.{length-changed, changed-before, changed-after}
@@ -28,16 +28,20 @@ use Rattle.search.specs.Agenda.{slotWords}
 use Rattle.search.specs.Chooser.{request}
 use Rattle.search.specs.Loops.Slots.{SlotIn}
 use Rattle.search.specs.Loops.Steps.{Replaced}
-use Rattle.search.specs.Loops.Lanes.{outsideTo, filled}
+use Rattle.search.specs.Loops.Lanes.{outsideTo, filled, BeforeTo}
 use Rattle.search.specs.Loops.Found.{AtTop, RoomFor, FurtherOf, FurtherPiece, several}
 use Rattle.search.specs.declared.chooser.Choice.{Choice}
 use Rattle.search.specs.declared.chooser.Further.{Further}
 use Rattle.search.proofs.step.Candidates.{firsts, firsts-start, firsts-drop, firsts-keep, pieces-are}
 use Rattle.search.proofs.step.Gathering.{Gathered, gather-none, gather-drop, gather-slot, gather-keep, gather-replaced}
 use Rattle.search.proofs.lanes.AtOnce.{word}
-use Rattle.search.proofs.lanes.Halves.{all-common, all-minus}
 use Rattle.search.proofs.chooser.Lone.{some-left}
 use Rattle.search.proofs.chooser.Settling.{several-kept, several-more, put-variable, put-member, put-reads, put-precluded, put-kept}
+
+-- A further piece, by the two methods that make it.
+pub piece-made : (f : Further) (j : ℕ) (masks : List ℕ) (R Q : Subproblem) → BeforeTo (f .row) j 32 masks → R ≡ cutEach (f .rest) masks
+    → Q ≡ without R j (getD (f .row) j 0) → FurtherPiece f j Q
+piece-made f j masks R Q b e h = (masks, b, h ∙ ap (λ (X : Subproblem). without X j (getD (f .row) j 0)) e)
 
 module _ (n d : ℕ) (t : List ℕ) (P : Subproblem) (c : Choice) (below words : ℕ) (h : AtTop n d t P c below words) (s : several c ≡ true) where
   abbrev r : List ℕ
@@ -152,7 +156,7 @@ module _ (n d : ℕ) (t : List ℕ) (P : Subproblem) (c : Choice) (below words :
         ∙ ap (λ (l : List ℕ). minus (getD l i 0) (getD (f .row) i 0)) rest-domains
 
     out-own : getD (f .out) (c .variable) 0 ≡ 0
-    out-own = out-by (c .variable) (omega (arith, below-n, few)) ∙ rw row-own (all-minus (getD less (c .variable) 0) (less-word (c .variable)))
+    out-own = out-by (c .variable) (omega (arith, below-n, few)) ∙ rw row-own (all-minus 16 (getD less (c .variable) 0) (less-word (c .variable)))
 
     out-other : (i : ℕ) → i < n → (i ≡ c .variable → ⊥) → getD (f .out) i 0 ≡ minus (getD less i 0) (tableOf n d t (c .variable) i (c .value))
     out-other i l k = out-by i (omega (arith, few)) ∙ rw (row-other i l k) refl
@@ -233,44 +237,49 @@ module _ (n d : ℕ) (t : List ℕ) (P : Subproblem) (c : Choice) (below words :
         abbrev made : List ℕ
         made = changed 32 (λ i m. common m (getD masks i 0)) less
 
-        made-at : (i : ℕ) → i < 32 → getD made i 0 ≡ domain (disjunct (tableOf n d t) P (c .variable) (c .value) (j - 1)) i
+        made-at : (i : ℕ) → i < 32 → getD made i 0 ≡ getD (changed (j - 1) besides less) i 0
         unfolding besides
         made-at i b =
             changed-before 32 (λ i m. common m (getD masks i 0)) less i b (omega (arith, long)) ∙ q .1 .each i b (getD less i 0) (less-word i)
             ∙ elim (decLt i (j - 1)) [
-              | yes u ↦
-                  rw (lt-ltb i (j - 1) u) (cut-at u) ∙ sym (changed-before (j - 1) besides less i u (omega (arith, long))) ∙ sym
-                  (elsewhere i (λ e. omega arith))
-              | no u ↦ rw (le-ltb i (j - 1) (omega arith)) (elim (ℕ-discrete i (j - 1)) [
-                | yes e ↦ rw (eq-eqb i (j - 1) e) (rw (e, row-other (j - 1) (omega arith) (rest-other k)) (sym here))
-                | no w ↦ rw (ne-eqb i (j - 1) w) (sym (changed-after (j - 1) besides less i (omega arith)) ∙ sym (elsewhere i w))
-              ])
+              | yes u ↦ rw (lt-ltb i (j - 1) u) (cut-at u) ∙ sym (changed-before (j - 1) besides less i u (omega (arith, long)))
+              | no u ↦ rw (le-ltb i (j - 1) (omega arith)) (sym (changed-after (j - 1) besides less i (omega arith)))
             ]
           where
             cut-at : i < j - 1
                 → common (getD less i 0) (getD (f .row) i 0) ≡ cond (eqb i (c .variable)) (getD less i 0) (common (getD less i 0) (tableOf n d t (c .variable) i (c .value)))
             cut-at u = elim (ℕ-discrete i (c .variable)) [
-              | yes e ↦ rw (eq-eqb i (c .variable) e) (rw (e, row-own) (all-common (getD less (c .variable) 0) (less-word (c .variable))))
+              | yes e ↦ rw (eq-eqb i (c .variable) e) (rw (e, row-own) (all-common 16 (getD less (c .variable) 0) (less-word (c .variable))))
               | no w ↦ rw (ne-eqb i (c .variable) w, row-other i (omega arith) w) refl
             ]
 
         made-long : length made ≡ 32
         made-long = length-changed 32 (λ i m. common m (getD masks i 0)) less ∙ long
 
-        pub made-domains : length (Q .domains) ≡ 32
-        unfolding cutEach
-        made-domains = ap (λ (R : Subproblem). length (R .domains)) (q .2) ∙ rw rest-domains made-long
+        all : made ≡ changed (j - 1) besides less
+        all = ext-getD 0 _ _ (made-long ∙ sym (length-changed (j - 1) besides less ∙ long)) (λ i b. made-at i (omega (arith, made-long)))
+
+        cut-same : cutEach (f .rest) masks
+            ≡ cutBeside (tableOf n d t) (without P (c .variable) (single (c .value))) (c .variable) (c .value) (j - 1)
+        unfolding cutEach cutBeside
+        cut-same =
+            let marks : f .rest .marked ≡ without P (c .variable) (single (c .value)) .marked = ap (λ (R : Subproblem). R .marked) rest-is in
+            λ i. record { domains = (ap (changed 32 (λ i m. common m (getD masks i 0))) rest-domains ∙ all ∙ sym (cut-is (j - 1))) i; marked = marks i }
 
         pub made-is : Q ≡ candidate n (tableOf n d t) P r j
-        unfolding cutEach disjunct without cutBeside
+        unfolding disjunct
         made-is =
-            let all : made ≡ disjunct (tableOf n d t) P (c .variable) (c .value) (j - 1) .domains =
-            ext-getD 0 _ _ (made-long ∙ sym (length-set (cutDown (j - 1)) (j - 1) _ ∙ rw (cut-is (j - 1), length-changed (j - 1) besides less) long))
-            (λ i b. made-at i (omega (arith, made-long))) in
-            let marks : f .rest .marked ≡ P .marked = ap (λ (R : Subproblem). R .marked) rest-is in
-            let same : cutEach (f .rest) masks ≡ disjunct (tableOf n d t) P (c .variable) (c .value) (j - 1) =
-            λ i. record { domains = (ap (changed 32 (λ i m. common m (getD masks i 0))) rest-domains ∙ all) i; marked = marks i } in
-            q .2 ∙ same ∙ sym (candidate-other (rest-other k))
+            q .2 ∙ ap (λ (R : Subproblem). without R (j - 1) (getD (f .row) (j - 1) 0)) cut-same
+            ∙ ap (without (cutBeside (tableOf n d t) (without P (c .variable) (single (c .value))) (c .variable) (c .value) (j - 1)) (j - 1))
+            (row-other (j - 1) (omega arith) (rest-other k))
+            ∙ sym (candidate-other (rest-other k))
+
+        pub made-domains : length (Q .domains) ≡ 32
+        unfolding without cutEach
+        made-domains =
+            ap (λ (R : Subproblem). length (R .domains)) (q .2) 
+            ∙ length-set (cutEach (f .rest) masks .domains) (j - 1) (minus (domain (cutEach (f .rest) masks) (j - 1)) (getD (f .row) (j - 1) 0))
+            ∙ ap (λ (l : List ℕ). length (changed 32 (λ i m. common m (getD masks i 0)) l)) rest-domains ∙ made-long
 
       -- ---- a turn of the loop
       module _ (before agenda : List ℕ) (at : ℕ) (whole : length before ≡ words) (room : RoomFor n d t P c 3 below words) (so-far : Gathered n d t P r before below agenda at (j + 1)) where

@@ -15,7 +15,7 @@ use Rattle.problem.specs.Lists.{every}
 use Rattle.splits.specs.declared.subproblem.Subproblem.{Subproblem}
 use Rattle.problem.proofs.Tests.{and-left, and-right}
 use Rattle.search.specs.Agenda.{stackOf, slotsIn, slotAt, subproblemOf}
-use Rattle.problem.specs.Tests.FirstChecks.{refusalOfNumbers, refusalOfProblem, orElse}
+use Rattle.problem.specs.Tests.FirstChecks.{refusalOfNumbers, refusalOfProblem, problemSizes, problemRefusal, orElse}
 use Rattle.search.specs.Tests.FirstChecks.{wholeSlots, refusalOfLengths, obeys, allObey, zerosFrom, refusalOfSearch, sizesRefusal, openRefusal}
 use Rattle.problem.specs.Ranges.{Fitting}
 use Rattle.problem.proofs.first_checks.Parts.{else-pass, given-if, and-turn, else-rest, numbers-pass, else-first}
@@ -100,6 +100,48 @@ sizes-first r n d domains tables agenda b e f =
       | yes z ↦ else-rest r (refusalOfNumbers n d) (orElse lengths b) z (else-first r lengths b (rw z at e) f)
       | no g ↦ else-first r (refusalOfNumbers n d) (orElse lengths b) (rw (ne-eqb (refusalOfNumbers n d) 0 g) at e) f
     ]
+
+-- the sizes of the problem's words, then those of the agenda
+else-both : (a : ℕ) (x w : Bool) → orElse (orElse a (cond x 0 3)) (cond w 0 3) ≡ orElse a (cond (x && w) 0 3)
+else-both a x w = elim (ℕ-discrete a 0) [
+  | yes z ↦ rw z (go x w)
+  | no f ↦ simp (ne-eqb a 0 f)
+]
+  where
+    go : (x w : Bool) → orElse (cond x 0 3) (cond w 0 3) ≡ cond (x && w) 0 3
+    go true w = refl
+    go false w = refl
+
+sizes-is : (n d domains tables agenda : ℕ)
+    → orElse (problemSizes n d domains tables) (cond (wholeSlots n agenda) 0 3) ≡ sizesRefusal n d domains tables agenda
+unfolding problemSizes sizesRefusal refusalOfLengths
+sizes-is n d domains tables agenda = else-both (refusalOfNumbers n d) (eqb domains n && eqb tables (n * n * d)) (wholeSlots n agenda)
+
+module _ (n d domains tables agenda r : ℕ) (e : r ≡ problemSizes n d domains tables) where
+  pub sizes-given : (r ≡ 0 → ⊥) → r ≡ sizesRefusal n d domains tables agenda
+  sizes-given f = else-first r _ _ e f ∙ sizes-is n d domains tables agenda
+
+  module _ (z : r ≡ 0) where
+    pub sizes-few : n ≤ 32
+    unfolding problemSizes
+    sizes-few = numbers-pass n d (else-pass (refusalOfNumbers n d) _ (sym e ∙ z) .0) .variables
+
+    module _ (b : Bool) (w : b ≡ wholeSlots n agenda) where
+      pub sizes-whole : b ≡ true → 0 ≡ sizesRefusal n d domains tables agenda
+      sizes-whole s = else-rest 0 _ _ (sym e ∙ z) (rw (← w, s) refl) ∙ sizes-is n d domains tables agenda
+
+      pub sizes-odd : b ≡ false → 3 ≡ sizesRefusal n d domains tables agenda
+      sizes-odd s = else-rest 3 _ _ (sym e ∙ z) (rw (← w, s) refl) ∙ sizes-is n d domains tables agenda
+
+-- what passes them passes those of the problem
+pub sizes-problem : (n d domains tables agenda : ℕ) → sizesRefusal n d domains tables agenda ≡ 0 → problemSizes n d domains tables ≡ 0
+sizes-problem n d domains tables agenda e = else-pass _ _ (sizes-is n d domains tables agenda ∙ e) .0
+
+-- so that what is left of the problem's are 4 and 5
+pub problem-rest : (r n d : ℕ) (domains tables : List ℕ) → problemSizes n d (length domains) (length tables) ≡ 0
+    → r ≡ problemRefusal n d domains tables → r ≡ refusalOfProblem (problemOf n d domains tables)
+unfolding problemRefusal
+problem-rest r n d domains tables z e = rw z at e
 
 -- the sizes pass
 pub sizes-pass : (n d domains tables agenda : ℕ) → sizesRefusal n d domains tables agenda ≡ 0

@@ -8,22 +8,21 @@ use native.Mathlib.Omega.{arith}
 use native.Mathlib.Decide.{decLt, ℕ-discrete}
 use lib.ListN.{length, getD, set, take, drop, replicate, length-set, length-append, length-take, length-drop, length-replicate, List·getD-append}
 use lib.Seq.{length-take-le, getD-set-same, getD-set-other, getD-take, getD-append-add, take-take, ext-getD}
-use lib.Bits.{bitOr, bitXor, xor-zero-r, or-zero-r}
+use lib.Bits.{bitOr, or-zero-r}
 use lib.Pow.{pow-mono, pow-pos}
 use lib.Dec.{eqb, ltb, leb}
 use borrow.Author.Tests.{eq-eqb, ne-eqb, lt-ltb, le-ltb, eqb-true, le-leb, lt-leb}
-use Rattle.problem.specs.Masks.{bit, common, minus, size}
+use Rattle.problem.specs.Masks.{bit, common, size}
 use Rattle.problem.specs.Lists.{every}
-use Rattle.problem.proofs.mask.Masks.{bit-le, bit-ext, bit-above, bit-common, bit-minus, bit-or, all-set, common-none, not-minus, shifted}
+use Rattle.problem.proofs.mask.Masks.{bit-le, bit-ext, bit-above, bit-common, bit-or, all-set, all-common, common-none, shifted}
 use Rattle.problem.proofs.Tests.{every-at}
 use Rattle.search.specs.Agenda.{holding, subproblemOf, slotAt}
 use Rattle.search.specs.Loops.Slots.{SlotIn}
-use Rattle.search.specs.Loops.Lanes.{Half, Beyond, Below, Kept, KeptTo, keyOf, Sides, Share, FurtherTo}
+use Rattle.search.specs.Loops.Lanes.{Half, Beyond, Below, Kept, KeptTo, keyOf, Sides, Widened, BeforeTo}
 use Rattle.problem.proofs.Copies.{zeros-at}
 use Rattle.search.proofs.agenda.Encoding.{slot-lies}
 use Rattle.problem.proofs.first_checks.Joining.{bit-shr}
 use Rattle.problem.proofs.matrix.Turning.{bit-low}
-use Rattle.problem.proofs.matrix.Exchanging.{bit-xor}
 
 -- ---- sets
 
@@ -86,7 +85,7 @@ kept-more lanes words r i x k h e = record {
 
 -- A word kept by all bits, and by none.
 pub kept-is : (x lane : ℕ) → x < 2 ^ 16 → Kept x lane (common x lane)
-kept-is x lane h = (λ e. rw e (all-common x h), λ e. rw e (common-none x))
+kept-is x lane h = (λ e. rw e (all-common 16 x h), λ e. rw e (common-none x))
 
 -- All of them kept are the domains that a slot holds.
 pub kept-holding : (n marked : ℕ) (lanes words D : List ℕ) → n ≤ 32 → n ≤ length words → Below n lanes → KeptTo lanes words 32 D
@@ -143,35 +142,26 @@ sides-more l i s h k = record {
   ];
 }
 
--- A mask that is turned round by all bits, and all bits.
-pub share-is : (mask from past : ℕ) → Share mask from past (bitOr (bitXor mask from) past)
-share-is mask from past = record {
-  before = λ e f. rw (e, f, xor-zero-r, or-zero-r) refl;
-  own =
-      λ e f m h. rw (e, f, or-zero-r)
-      (bit-ext (common m (bitXor mask 65535)) (minus m mask) (λ v. rw (bit-common, bit-xor, bit-minus) (turned m h v)));
-  after = λ f m h. rw f (bit-ext (common m (bitOr (bitXor mask from) 65535)) m (λ v. rw (bit-common, bit-or) (whole m h v)));
-}
+-- A mask that stays by no bits, and is all bits by all.
+pub widened-is : (mask lane : ℕ) → Widened mask lane (bitOr mask lane)
+widened-is mask lane = (
+  λ e. rw (e, or-zero-r) refl,
+  λ e m h. rw e (bit-ext (common m (bitOr mask 65535)) m (λ v. rw (bit-common, bit-or) (whole m h v))),
+)
   where
-    turned : (m : ℕ) → m < 65536 → (v : ℕ) → min (bit m v) ((bit mask v + bit 65535 v) % 2) ≡ bit m v - bit mask v
-    turned m h v = elim (decLt v 16) [
+    whole : (m : ℕ) → m < 65536 → (v : ℕ) → min (bit m v) (max (bit mask v) (bit 65535 v)) ≡ bit m v
+    whole m h v = elim (decLt v 16) [
       | yes k ↦ let all : bit 65535 v ≡ 1 = all-set 16 v k in rw all (omega (arith, bit-le m v, bit-le mask v))
       | no k ↦ rw (bit-above 16 m v h (omega arith)) (omega arith)
     ]
 
-    whole : (m : ℕ) → m < 65536 → (v : ℕ) → min (bit m v) (max (bit (bitXor mask from) v) (bit 65535 v)) ≡ bit m v
-    whole m h v = elim (decLt v 16) [
-      | yes k ↦ let all : bit 65535 v ≡ 1 = all-set 16 v k in rw all (omega (arith, bit-le m v, bit-le (bitXor mask from) v))
-      | no k ↦ rw (bit-above 16 m v h (omega arith)) (omega arith)
-    ]
+-- No variable yet, and one more.
+pub before-none : (row : List ℕ) (j : ℕ) → BeforeTo row j 0 (replicate 32 0)
+before-none row j = record { long = refl; each = λ k h. absurd (omega arith) }
 
--- No variable of a further piece yet, and one more.
-pub further-none : (row : List ℕ) (j : ℕ) → FurtherTo row j 0 (replicate 32 0)
-further-none row j = record { long = refl; each = λ k h. absurd (omega arith) }
-
-pub further-more : (row sides masks : List ℕ) (j i x : ℕ) → FurtherTo row j i masks → Sides 64 sides → i < 32 → j < 32
-    → Share (getD row i 0) (getD sides (32 - j + i) 0) (getD sides (31 - j + i) 0) x → FurtherTo row j (i + 1) (set masks i x)
-further-more row sides masks j i x so-far s h l w = record {
+pub before-more : (row sides masks : List ℕ) (j i x : ℕ) → BeforeTo row j i masks → Sides 64 sides → i < 32 → j < 32
+    → Widened (getD row i 0) (getD sides (32 - j + i) 0) x → BeforeTo row j (i + 1) (set masks i x)
+before-more row sides masks j i x so-far s h l w = record {
   long = length-set masks i x ∙ so-far .long;
   each = λ k q m b. elim (ℕ-discrete k i) [
     | yes e ↦ rw (e, getD-set-same masks i x 0 (omega (arith, so-far .long))) (here m b)
@@ -179,11 +169,8 @@ further-more row sides masks j i x so-far s h l w = record {
   ];
 }
   where
-    here : (m : ℕ) → m < 65536 → common m x ≡ cond (ltb i j) (common m (getD row i 0)) (cond (eqb i j) (minus m (getD row i 0)) m)
+    here : (m : ℕ) → m < 65536 → common m x ≡ cond (ltb i j) (common m (getD row i 0)) m
     here m b = elim (decLt i j) [
-      | yes k ↦ rw (lt-ltb i j k, w .before (s .none (32 - j + i) (omega arith)) (s .none (31 - j + i) (omega arith))) refl
-      | no k ↦ rw (le-ltb i j (omega arith)) (elim (ℕ-discrete i j) [
-        | yes e ↦ rw (eq-eqb i j e) (w .own (s .all (32 - j + i) (omega arith) (omega arith)) (s .none (31 - j + i) (omega arith)) m b)
-        | no e ↦ rw (ne-eqb i j e) (w .after (s .all (31 - j + i) (omega arith) (omega arith)) m b)
-      ])
+      | yes k ↦ rw (lt-ltb i j k, w .0 (s .none (32 - j + i) (omega arith))) refl
+      | no k ↦ rw (le-ltb i j (omega arith)) (w .1 (s .all (32 - j + i) (omega arith) (omega arith)) m b)
     ]

@@ -18,7 +18,7 @@ use Rattle.search.specs.Loops.Slots.{SlotIn}
 use Rattle.search.specs.Loops.Kept.{Regular}
 use Rattle.search.specs.Loops.Choices.{chosenFor}
 use Rattle.search.specs.Loops.Steps.{TakesOne, Replaced}
-use Rattle.search.specs.Loops.Lanes.{outsideTo, FurtherTo}
+use Rattle.search.specs.Loops.Lanes.{outsideTo, BeforeTo}
 use Rattle.search.specs.declared.state.State.{State}
 use Rattle.search.specs.declared.step.Stop.{Stop}
 use Rattle.search.specs.declared.chooser.Choice.{Choice}
@@ -66,7 +66,7 @@ pub record FurtherOf (P : Subproblem) (c : Choice) (f : Further) : Type 0 where
 
 -- The further piece of variable j.
 abbrev pub FurtherPiece : Further → ℕ → Subproblem → Type 0
-FurtherPiece f j Q = (masks : List ℕ) × FurtherTo (f .row) j 32 masks × (Q ≡ cutEach (f .rest) masks)
+FurtherPiece f j Q = (masks : List ℕ) × BeforeTo (f .row) j 32 masks × (Q ≡ without (cutEach (f .rest) masks) j (getD (f .row) j 0))
 
 -- The pieces of the request that the rule chooses in the place of the top, if they have room.
 pub record Puts (n d : ℕ) (tables : List ℕ) (P : Subproblem) (below : ℕ) (before after : List ℕ) (r : Left) : Type 0 where

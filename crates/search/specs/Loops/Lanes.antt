@@ -63,17 +63,14 @@ pub record Sides (i : ℕ) (lanes : List ℕ) : Type 0 where
   pub none : (j : ℕ) → j < 32 → getD lanes j 0 ≡ 0
   pub all : (j : ℕ) → 32 ≤ j → j < i → getD lanes j 0 ≡ 65535
 
--- A mask by two lanes, that of the variables from j on and that of those past j: before j it stays, of j it is turned round, past j it is all bits.
-pub record Share (mask from past r : ℕ) : Type 0 where
-  pub before : from ≡ 0 → past ≡ 0 → r ≡ mask
-  pub own : from ≡ 65535 → past ≡ 0 → (m : ℕ) → m < 65536 → common m r ≡ minus m mask
-  pub after : past ≡ 65535 → (m : ℕ) → m < 65536 → common m r ≡ m
+-- A mask by a lane: it stays where the lane has no bits, and is all bits where it has all.
+abbrev pub Widened : ℕ → ℕ → ℕ → Type 0
+Widened mask lane r = (lane ≡ 0 → r ≡ mask) × (lane ≡ 65535 → (m : ℕ) → m < 65536 → common m r ≡ m)
 
--- What the further piece of variable j is cut to, of the first i variables: before j the row, of j what is outside it, past j everything.
-pub record FurtherTo (row : List ℕ) (j i : ℕ) (masks : List ℕ) : Type 0 where
+-- What is kept of the first i variables: before j what the row has, from j on everything.
+pub record BeforeTo (row : List ℕ) (j i : ℕ) (masks : List ℕ) : Type 0 where
   pub long : length masks ≡ 32
-  pub each : (k : ℕ) → k < i → (m : ℕ) → m < 65536
-      → common m (getD masks k 0) ≡ cond (ltb k j) (common m (getD row k 0)) (cond (eqb k j) (minus m (getD row k 0)) m)
+  pub each : (k : ℕ) → k < i → (m : ℕ) → m < 65536 → common m (getD masks k 0) ≡ cond (ltb k j) (common m (getD row k 0)) m
 
 -- How many of the first i masks have values.
 unfoldable pub filled : List ℕ → ℕ → ℕ

@@ -2,7 +2,7 @@
 -- Assumes nothing.
 use mathlib.Core.Path.{sym, _∙_}
 use Rattle.search.specs.Tests.FirstChecks.{openRefusal}
-use Rattle.search.proofs.first_checks.FirstParts.{lengths-pass, sizes-first, sizes-pass}
+use Rattle.search.proofs.first_checks.FirstParts.{sizes-first, sizes-pass, sizes-problem, problem-rest}
 use Rattle.problem.proofs.first_checks.Parts.{else-rest}
 use Rattle.search.proofs.first_checks.open_refusal.Statement.{statement}
 use Rattle.search.proofs.first_checks.open_refusal.Tie as tie
@@ -14,17 +14,16 @@ returns : tie.Need-returns
 unfolding openRefusal
 returns c = sizes-first _ _ _ _ _ _ _ (c .before .sizes-refusal .ensures) (c .if1 .taken)
 
-refusal-of-problem-requires : tie.Need-refusal-of-problem-requires
-refusal-of-problem-requires c κs =
-    let p = sizes-pass _ _ _ _ _ (sym (c .before .sizes-refusal .ensures) ∙ c .if1 .left) in
-    lengths-pass _ _ _ _ _ (p .0) (p .1)
+refusal-requires : tie.Need-refusal-requires
+refusal-requires c κs = tt
 
 returns-2 : tie.Need-returns-2
 unfolding openRefusal
 returns-2 c =
-    let p = sizes-pass _ _ _ _ _ (sym (c .before .before .sizes-refusal .ensures) ∙ c .before .if1 .left) in
-    else-rest _ _ _ (p .0) (else-rest _ _ _ (p .1) (c .refusal-of-problem .ensures))
+    let none = sym (c .before .before .sizes-refusal .ensures) ∙ c .before .if1 .left in
+    let p = sizes-pass _ _ _ _ _ none in
+    else-rest _ _ _ (p .0) (else-rest _ _ _ (p .1) (problem-rest _ _ _ _ _ (sizes-problem _ _ _ _ _ none) (c .refusal .ensures)))
 
 pub open-refusal-spec : {M : Type 1} → statement M
 open-refusal-spec =
-    tie.close (tie.spec sizes-refusal-requires returns refusal-of-problem-requires returns-2)
+    tie.close (tie.spec sizes-refusal-requires returns refusal-requires returns-2)

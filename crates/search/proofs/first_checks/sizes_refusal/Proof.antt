@@ -1,25 +1,26 @@
--- `first::sizes_refusal` meets its contract: numbers, then lengths.
+-- `first_checks::sizes_refusal` meets its contract: those of the problem, then the agenda.
 -- Assumes nothing.
-use mathlib.Core.Path.{sym, _∙_}
-use Rattle.search.specs.Tests.FirstChecks.{sizesRefusal}
-use Rattle.problem.proofs.first_checks.Parts.{numbers-pass, else-first, else-rest}
+use borrow.Author.Needs.{needs}
+use Rattle.search.proofs.first_checks.FirstParts.{sizes-given, sizes-few, sizes-whole, sizes-odd}
 use Rattle.search.proofs.first_checks.sizes_refusal.Statement.{statement}
 use Rattle.search.proofs.first_checks.sizes_refusal.Tie as tie
 
-refusal-of-numbers-requires : tie.Need-refusal-of-numbers-requires
-refusal-of-numbers-requires c κs = tt
+sizes-refusal-requires : tie.Need-sizes-refusal-requires
+sizes-refusal-requires c κs = search needs
 
 returns : tie.Need-returns
-unfolding sizesRefusal
-returns c = else-first _ _ _ (c .before .refusal-of-numbers .ensures) (c .if1 .taken)
+returns c = sizes-given _ _ _ _ _ _ (c .before .sizes-refusal .ensures) (c .if1 .taken)
 
-refusal-of-lengths-requires : tie.Need-refusal-of-lengths-requires
-refusal-of-lengths-requires c κs = let p = numbers-pass _ _ (sym (c .before .refusal-of-numbers .ensures) ∙ c .if1 .left) in (p .variables, p .values)
+whole-slots-requires : tie.Need-whole-slots-requires
+whole-slots-requires c κs = sizes-few _ _ _ _ 0 _ (c .before .sizes-refusal .ensures) (c .if1 .left)
 
 returns-2 : tie.Need-returns-2
-unfolding sizesRefusal
-returns-2 c = else-rest _ _ _ (sym (c .before .before .refusal-of-numbers .ensures) ∙ c .before .if1 .left) (c .refusal-of-lengths .ensures)
+returns-2 c =
+    sizes-whole _ _ _ _ _ _ (c .before .before .before .sizes-refusal .ensures) (c .before .before .if1 .left) _ (c .before .whole-slots .ensures) (c .if2 .taken)
+
+returns-3 : tie.Need-returns-3
+returns-3 c =
+    sizes-odd _ _ _ _ _ _ (c .before .before .before .sizes-refusal .ensures) (c .before .before .if1 .left) _ (c .before .whole-slots .ensures) (c .if2 .left)
 
 pub sizes-refusal-spec : {M : Type 1} → statement M
-sizes-refusal-spec =
-    tie.close (tie.spec refusal-of-numbers-requires returns refusal-of-lengths-requires returns-2)
+sizes-refusal-spec = tie.close (tie.spec sizes-refusal-requires returns whole-slots-requires returns-2 returns-3)

@@ -1,9 +1,10 @@
--- `search::rows::row` meets its contract: the row is in its place, or is made and put there.
+-- `kept::row` meets its contract: the row is in its place, or is made and put there.
 -- Assumes nothing.
 use mathlib.Core.Logic.{⊎-elim}
 use mathlib.Core.Path.{refl}
 use lib.ListN.{length-set}
 use Rattle.search.proofs.kept.Kept.{row-there, row-put}
+use Rattle.problem.proofs.tables.Ranges.{inside-is}
 use borrow.Author.Needs.{needs}
 use Rattle.search.proofs.kept.row.Statement.{statement}
 use Rattle.search.proofs.kept.row.Tie as tie
@@ -26,8 +27,8 @@ cast-if1 c = search needs
 shl-if1 : tie.Need-shl-if1
 shl-if1 c = search needs
 
-made-requires : tie.Need-made-requires
-made-requires c κs = c .before .before .before .pre .0
+row-requires : tie.Need-row-requires
+row-requires c κs = search needs
 
 mul-t18 : tie.Need-mul-t18
 mul-t18 c = let at = c .before .before .before .before .pre .1 .inside in search needs
@@ -49,7 +50,7 @@ same-length c = ⊎-elim (λ w. rw (w .2, length-set) refl) (λ w. rw (w .1) ref
 returns : tie.Need-returns
 returns c = let p = c .before .before .before .before .pre in
     ⊎-elim
-    (λ w. rw (w .2) (row-put _ _ _ _ _ _ _ (p .1) _ (w .1 .ensures)))
+    (λ w. rw (w .2) (row-put _ _ _ _ _ _ _ (p .1) _ (w .1 .ensures .within (inside-is _ _ _ _ _ (p .0)))))
     (λ w. rw (w .1) (row-there _ _ _ _ _ _ _ (p .1) (p .0 .a-value) (p .0 .fit .small) (w .0 .left)))
     (c .before .if1 .came)
 
@@ -63,7 +64,7 @@ row-spec =
     index-2-if1
     cast-if1
     shl-if1
-    made-requires
+    row-requires
     mul-t18
     slice-set-from-rows
     mul-result

@@ -6,6 +6,7 @@ use native.Mathlib.Omega.{arith}
 use lib.ListN.{length}
 use Rattle.splits.proofs.split.ByKind.{few}
 use Rattle.search.proofs.step.Keeping.{tells-none, place-3, own-variable, keeps-none-3, keeps-none-5}
+use Rattle.problem.proofs.tables.Ranges.{allowed-any}
 use borrow.Author.Needs.{needs}
 use Rattle.search.proofs.step.keeps_none.Statement.{statement}
 use Rattle.search.proofs.step.keeps_none.Tie as tie
@@ -35,10 +36,7 @@ cast-allowed-2 : tie.Need-cast-allowed-2
 cast-allowed-2 c = omega (arith, c .shared-slice-known5 .given 2)
 
 allowed-requires : tie.Need-allowed-requires
-allowed-requires c κs =
-    let k = c .before .before .before .before .before .before .before .before .pre in
-    place-3 _ _ _ _ (k .0) (c .before .before .if2 .taken) _
-    (own-variable _ _ _ _ (k .0) _ (k .1 .1) (inl (c .before .before .if2 .taken)) (c .before .before .before .before .before .if1 .left))
+allowed-requires c κs = search needs
 
 outside-requires : tie.Need-outside-requires
 outside-requires c κs = search needs
@@ -47,9 +45,12 @@ returns-2 : tie.Need-returns-2
 returns-2 c =
     let k = c .before .before .before .before .before .before .before .before .before .before .pre in
     let long : length (c .before .before .before .before .before .before .before .before .before .before .args .top .domains) ≡ 32 = search needs in
-    keeps-none-3 _ _ _ _ (k .0) _ long _ (c .before .before .before .before .before .before .before .if1 .left)
-    (own-variable _ _ _ _ (k .0) _ (k .1 .1) (inl (c .before .before .before .before .if2 .taken)) (c .before .before .before .before .before .before .before .if1 .left))
-    _ _ _ (c .outside .ensures) (c .before .before .before .before .before .before .domain .ensures) (c .before .allowed .ensures) (c .before .before .before .before .if2 .taken)
+    let own =
+    own-variable _ _ _ _ (k .0) _ (k .1 .1) (inl (c .before .before .before .before .if2 .taken)) (c .before .before .before .before .before .before .before .if1 .left) in
+    let at = place-3 _ _ _ _ (k .0) (c .before .before .before .before .if2 .taken) _ own in
+    keeps-none-3 _ _ _ _ (k .0) _ long _ (c .before .before .before .before .before .before .before .if1 .left) own
+    _ _ _ (c .outside .ensures) (c .before .before .before .before .before .before .domain .ensures)
+    (λ s. allowed-any _ _ _ _ _ _ _ (at .0) (at .1 .first) (at .1 .second) s (c .before .allowed .ensures)) (c .before .before .before .before .if2 .taken)
 
 shared-slice-read-if3 : tie.Need-shared-slice-read-if3
 shared-slice-read-if3 c = search needs
