@@ -54,7 +54,7 @@ use Rattle.files.specs.Promises.{
   Cut-choose,
 }
 use Rattle.problem.proofs.Answers.{one}
-use Rattle.search.proofs.agenda.Encoding.{length-stack}
+use Rattle.search.proofs.Encoding.{length-stack}
 use Rattle.search.proofs.first_checks.FirstPassing.{search-is-passed}
 use Rattle.search.proofs.Promises.{reached-solvable, reached-steps, reached-checks, chooser-says}
 use Rattle.files.proofs.Sums

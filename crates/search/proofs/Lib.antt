@@ -1,5 +1,6 @@
 pub mod Cases
 pub mod Ending
+pub mod Encoding
 pub mod Exactly
 pub mod HandedOn
 pub mod Opening
