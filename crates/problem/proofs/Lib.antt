@@ -6,10 +6,5 @@ pub mod FirstLoops
 pub mod Lists
 pub mod Products
 pub mod Promises
+pub mod Refusing
 pub mod Tests
-pub mod beside
-pub mod first_checks
-pub mod mask
-pub mod matrix
-pub mod symmetry
-pub mod tables

@@ -10,7 +10,7 @@ use Rattle.problem.specs.Lists.{every}
 abbrev pub orElse : ℕ → ℕ → ℕ
 orElse a b = cond (eqb a 0) b a
 
--- The tests, worked out. What they give is said exactly by Open-refusal-1 to Run-refusal-none of Promises, so that they need not be believed; sizesRefusal alone
+-- The tests, worked out. What they give is said exactly by Open-refusals, Search-refusals and Run-refusals of Promises, so that they need not be believed; sizesRefusal alone
 -- is to be read. 1 and 2.
 unfoldable pub refusalOfNumbers : ℕ → ℕ → ℕ
 refusalOfNumbers n d = cond (ltb n 1 || ltb 32 n) 1 (cond (ltb d 1 || ltb 16 d) 2 0)

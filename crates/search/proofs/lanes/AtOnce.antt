@@ -22,7 +22,7 @@ use Rattle.splits.specs.Checks.{valuesIn, others}
 use Rattle.splits.specs.declared.subproblem.Subproblem.{Subproblem}
 use Rattle.problem.proofs.mask.Masks.{bit-le, bit-or, bit-single-same, member-some, size-of-none, bit-outside}
 use Rattle.problem.proofs.Changed.{changed-more, changed-next}
-use Rattle.search.specs.Promises.{Fewest}
+use Rattle.searches.specs.Promises.{Fewest}
 use Rattle.search.specs.Loops.Kept.{Regular}
 use Rattle.search.specs.Loops.Lanes.{keyOf, LeastKey, lost, outsideTo}
 
@@ -60,11 +60,6 @@ module _ (l : List ℕ) (set i best x y r s : ℕ) (few : i < 16) (so-far : Leas
     some = ⊎-elim (λ (q : s ≡ best). ⊎-elim (λ (z : best ≡ 2047). inl (q ∙ z)) (λ w. inr (w .0, w .1, q ∙ w .2)) (so-far .some))
         (⊎-elim (λ (q : s ≡ x). inr (i, omega arith, q ∙ first)) (λ (q : s ≡ y). inr (i + 16, omega arith, q ∙ second))) one-of;
   }
-
--- A sum of one more.
-pub total-turn : (g : ℕ → ℕ) (i sum s : ℕ) → sum ≡ total i g → s ≡ g i → sum + s ≡ total (i + 1) g
-unfolding total
-total-turn g i sum s e f = rw (e, f, add-one) refl
 
 -- A mask that is empty loses nothing; another does if nothing is left of it.
 module _ (m mask : ℕ) where
