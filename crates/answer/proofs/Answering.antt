@@ -13,16 +13,19 @@ use lib.Dec.{eqb}
 use borrow.Author.Tests.{eq-eqb, ne-eqb}
 use Rattle.problem.specs.Problem.{Problem, problemOf}
 use Rattle.search.specs.Agenda.{stackOf, slotsIn}
+use Rattle.search.specs.Slots.{slots, Search, Stopped}
 use Rattle.search.specs.Tests.FirstChecks.{searchRefusal}
-use Rattle.search.specs.Runs.{Search, Stopped, run}
-use Rattle.search.specs.Verdicts.{numberOf, verdictOf}
-use Rattle.search.specs.Chooser.{choose}
+use Rattle.searches.specs.Runs.{run}
+use Rattle.searches.specs.Verdicts.{numberOf, verdictOf}
+use Rattle.searches.specs.Chooser.{choose}
 use Rattle.search.specs.Calls.{searchOf, Chooses}
-use Rattle.search.specs.Promises.{Leaves, picks}
+use Rattle.search.specs.Promises.{Leaves}
+use Rattle.searches.specs.Promises.{picks}
 use Rattle.search.specs.declared.state.Ran.{Ran}
 use Rattle.search.proofs.first_checks.FirstPassing.{search-is-passed}
-use Rattle.search.specs.declared.state.Verdict.the-variants.{Solved}
-use Rattle.search.proofs.Promises.{chooser-leaves, chooser-refusals, handed-passes, stops, picks as picks-run}
+use Rattle.searches.specs.declared.verdict.Verdict.the-variants.{Solved}
+use Rattle.search.proofs.Promises.{chooser-leaves, handed-passes}
+use Rattle.searches.proofs.Promises.{chooser-refusals, stops, picks as picks-run}
 use Rattle.files.specs.Reading.{saidN, saidSearch, refusalOfFile, refusalOfWords}
 use Rattle.files.specs.Calls.{loadRefusal, Loads}
 use Rattle.files.specs.Promises.{Bytes, Left-by-load}
@@ -71,24 +74,24 @@ unfolding answer
 answer-refused file k e h = rw (← e) (rw (ne-eqb k 0 h) refl)
 
 -- The text of what a run returns and leaves is that of where it stopped.
-from-stopped : (n : ℕ) (after : List ℕ) (ran : Ran) (x : Stopped) → ran .verdict ≡ verdictOf n (x .search .stack)
-    → stackOf n after (ran .state .subproblems) ≡ x .search .stack → ran .state .counts .steps .0 ≡ x .search .steps
+from-stopped : (n : ℕ) (after : List ℕ) (ran : Ran) (x : Stopped) → ran .verdict ≡ verdictOf n (x .search .memory)
+    → stackOf n after (ran .state .subproblems) ≡ x .search .memory → ran .state .counts .steps .0 ≡ x .search .steps
     → ran .state .counts .checks .0 ≡ x .search .checks → ran .refusal ≡ x .refusal → textFrom n after ran ≡ textOf n x
 unfolding textFrom textOf
 from-stopped n after ran x verdict stack steps checks refusal = rw (verdict, stack, steps, checks, refusal) refl
 
 -- A chooser that stops solved was not refused.
-chooser-solved : (p : Problem) (room limit : ℕ) (s : Search) → verdictOf (p .n) (choose p room limit s .search .stack) ≡ Solved
-    → choose p room limit s .refusal ≡ 0
+chooser-solved : (p : Problem) (room limit : ℕ) (s : Search) → verdictOf (p .n) (choose p (slots room) limit s .search .memory) ≡ Solved
+    → choose p (slots room) limit s .refusal ≡ 0
 chooser-solved p room limit s e =
-    let x : Stopped = run p room (picks p room limit s) s in
-    let is : choose p room limit s ≡ x = picks-run p room limit s in
-    ap (λ y. y .refusal) is ∙ elim (stops p room (picks p room limit s) s .1) [
+    let x : Stopped = run p (slots room) (picks p (slots room) limit s) s in
+    let is : choose p (slots room) limit s ≡ x = picks-run p (slots room) limit s in
+    ap (λ y. y .refusal) is ∙ elim (stops p (slots room) (picks p (slots room) limit s) s .1) [
       | inl finished ↦ finished .refusal
       | inr more ↦ elim more [
         | inl refused ↦
             absurd
-            (let two = ap numberOf (sym (ap (λ y. verdictOf (p .n) (y .search .stack)) is) ∙ e) in let one = refused .verdict in omega
+            (let two = ap numberOf (sym (ap (λ y. verdictOf (p .n) (y .search .memory)) is) ∙ e) in let one = refused .verdict in omega
             (arith, two, one))
         | inr ended ↦ ended .refusal
       ]
@@ -105,7 +108,7 @@ module _ (file domains domains′ tables tables′ agenda agenda′ : List ℕ) 
   left = load-leaves file domains domains′ tables tables′ agenda agenda′ l bytes loads accepted
 
   stopped : Stopped
-  stopped = choose (problemOf (l .n) (l .d) domains′ tables′) (slotsIn (l .n) (length agenda′)) 1000000 (searchOf (l .n) agenda′ (l .state))
+  stopped = choose (problemOf (l .n) (l .d) domains′ tables′) (slots (slotsIn (l .n) (length agenda′))) 1000000 (searchOf (l .n) agenda′ (l .state))
 
   leaves : Leaves (l .n) (l .d) domains′ tables′ agenda′ after (ran .state) (stopped .search)
   unfolding stopped
@@ -123,20 +126,20 @@ module _ (file domains domains′ tables tables′ agenda agenda′ : List ℕ) 
   same : stopped ≡ ranOf file
   unfolding stopped ranOf
   same =
-      ap (choose (problemOf (l .n) (l .d) domains′ tables′) (slotsIn (l .n) (length agenda′)) 1000000) (left .search)
-      ∙ ap (λ k. choose (problemOf (l .n) (l .d) domains′ tables′) k 1000000 (saidSearch file)) slots
-      ∙ ap (λ p. choose p 512 1000000 (saidSearch file))
+      ap (choose (problemOf (l .n) (l .d) domains′ tables′) (slots (slotsIn (l .n) (length agenda′))) 1000000) (left .search)
+      ∙ ap (λ k. choose (problemOf (l .n) (l .d) domains′ tables′) (slots k) 1000000 (saidSearch file)) slots
+      ∙ ap (λ p. choose p (slots 512) 1000000 (saidSearch file))
       (let problem : problemOf (l .n) (l .d) domains′ tables′ ≡ loadedProblem file = rw (left .its-n, left .its-d, left .its-domains, left .its-tables)
       refl in problem)
 
-  stack : stackOf (l .n) after (ran .state .subproblems) ≡ stopped .search .stack
-  stack = ap (λ x. x .stack) (leaves .search)
+  stack : stackOf (l .n) after (ran .state .subproblems) ≡ stopped .search .memory
+  stack = ap (λ x. x .memory) (leaves .search)
 
   -- Nothing was refused by the first checks.
   first : eqb (searchRefusal (l .n) (l .d) domains′ tables′ agenda′ (l .state .counts .steps .0) (l .state .counts .checks .0) (l .state .subproblems)) 0 ≡ true
   first = eq-eqb _ 0 (left .handed .passes)
 
-  verdict : ran .verdict ≡ verdictOf (l .n) (stopped .search .stack)
+  verdict : ran .verdict ≡ verdictOf (l .n) (stopped .search .memory)
   unfolding stopped
   verdict = rw first at (chooses .verdict)
 
@@ -184,7 +187,7 @@ module _ (file domains domains′ tables tables′ agenda agenda′ : List ℕ) 
   pub chosen-refusal : ran .refusal < 2 ^ 64
   unfolding stopped
   chosen-refusal =
-      let known = chooser-refusals (problemOf (l .n) (l .d) domains′ tables′) (slotsIn (l .n) (length agenda′)) 1000000
+      let known = chooser-refusals (problemOf (l .n) (l .d) domains′ tables′) (slots (slotsIn (l .n) (length agenda′))) 1000000
       (searchOf (l .n) agenda′ (l .state))
       (handed-passes (l .n) (l .d) domains′ tables′ agenda′ (l .state) (left .handed)) in
       rw refusal (elim known [ inl e ↦ rw e (omega arith) | inr more ↦ elim more [ inl e ↦ rw e (omega arith) | inr e ↦ rw e (omega arith) ] ])

@@ -14,10 +14,12 @@ use Rattle.splits.specs.Splits.{instantiate, without, cutBeside, forbids, insta
 use Rattle.splits.specs.Checks.{lookedAt, others, tried, valuesIn, checks}
 use Rattle.splits.specs.Tests.Refusals.{refused-7, refused-8, refused-9, bad, someBad, allSame, refused-10, refusalOf}
 use Rattle.search.specs.Agenda.{holding}
+use Rattle.search.specs.Slots.{slots, Search}
 use Rattle.search.specs.Tests.FirstChecks.{wholeSlots, refusalOfLengths}
-use Rattle.search.specs.Verdicts.{ascii, wordOf, verdictOf, finished}
-use Rattle.search.specs.Runs.{Search, splitTop, step, refusalOfTop, refusalOfRequest}
-use Rattle.search.specs.Chooser.{fewestOf, chosen, chooseFrom, choose}
+use Rattle.searches.specs.Verdicts.{ascii, wordOf, verdictOf, finished}
+use Rattle.searches.specs.Runs.{step, refusalOfTop, refusalOfRequest}
+use Rattle.searches.specs.Machines.{splitTop}
+use Rattle.searches.specs.Chooser.{fewestOf, chosen, chooseFrom, choose}
 use Rattle.search.specs.Calls.{opening, begun}
 use Rattle.search.proofs.Promises.{open-leaves}
 use Rattle.files.specs.Content.{each}
@@ -36,7 +38,7 @@ fresh = begun 2 printed-domains
 
 -- What the chooser makes of it, of any limit that is enough, and its text.
 run-text : (more : ℕ)
-    → textOf 2 (choose (problemOf 2 2 printed-domains printed-tables) 512 (suc (suc (suc more))) fresh) ≡ ascii "solved\nsteps 2 checks 3\n0 0\n1 1\n"
+    → textOf 2 (choose (problemOf 2 2 printed-domains printed-tables) (slots 512) (suc (suc (suc more))) fresh) ≡ ascii "solved\nsteps 2 checks 3\n0 0\n1 1\n"
 unfolding textOf wholeText verdictLine countsLine planLines planLine decimal decimalOf ascii wordOf verdictOf finished chooseFrom chosen fewestOf opening holding
     refusalOfRequest refusalOfTop refusalOf refused-7 refused-8 refused-9 refused-10 bad someBad allSame step splitTop pieces filled named keep below
     forwardChecking idc instantiate without cutBeside forbids instantiatedOther forbidden precluded disjunct changed empty some every allInstantiated
@@ -63,11 +65,11 @@ module _ (file : List ℕ) (x : Search) (says : Says file 2 2 printed-domains (t
   unfolding refusalOfLoad loadRefusal refusalOfLengths wholeSlots opening holding some
   none = rw (says .whole, says .accepted, says .its-n, says .its-d, says .its-subproblems, is-fresh) refl
 
-  runs : ranOf file ≡ choose (problemOf 2 2 printed-domains printed-tables) 512 1000000 fresh
+  runs : ranOf file ≡ choose (problemOf 2 2 printed-domains printed-tables) (slots 512) 1000000 fresh
   unfolding ranOf
   runs =
-      ap (choose (loadedProblem file) 512 1000000) (says .its-search ∙ is-fresh)
-      ∙ ap (λ p. choose p 512 1000000 fresh)
+      ap (choose (loadedProblem file) (slots 512) 1000000) (says .its-search ∙ is-fresh)
+      ∙ ap (λ p. choose p (slots 512) 1000000 fresh)
       (ap (λ l. problemOf (saidN file) (saidD file) l (tableWords (saidN file) (saidD file) (saidAllowed file))) (says .its-domains)
       ∙ ap (λ n. problemOf n (saidD file) printed-domains (tableWords n (saidD file) (saidAllowed file))) (says .its-n)
       ∙ ap (λ d. problemOf 2 d printed-domains (tableWords 2 d (saidAllowed file))) (says .its-d) ∙ ap (problemOf 2 2 printed-domains) tables-are)

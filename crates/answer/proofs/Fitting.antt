@@ -13,7 +13,7 @@ use Rattle.problem.specs.Masks.{lowest}
 use Rattle.splits.specs.Subproblems.{domain}
 use Rattle.splits.specs.declared.subproblem.Subproblem.{Subproblem}
 use Rattle.search.specs.Agenda.{stackOf}
-use Rattle.search.specs.Verdicts.{ascii, numberOf, verdictOf}
+use Rattle.searches.specs.Verdicts.{ascii, numberOf, verdictOf}
 use Rattle.files.specs.Reading.{saidN, refusalOfFile, refusalOfWords}
 use Rattle.files.specs.Promises.{Bytes}
 use Rattle.files.proofs.Whole.{file-either, refusal-14, refusal-not-14}

@@ -13,8 +13,8 @@ use Rattle.problem.specs.Masks.{lowest}
 use Rattle.splits.specs.Subproblems.{domain}
 use Rattle.problem.specs.Lists.{below}
 use Rattle.search.specs.Agenda.{holding, subproblemOf, slotAt, stackOf}
-use Rattle.search.specs.Verdicts.{numberOf, verdictOf}
-use Rattle.search.specs.declared.state.Verdict.{Verdict}
+use Rattle.searches.specs.Verdicts.{numberOf, verdictOf}
+use Rattle.searches.specs.declared.verdict.Verdict.{Verdict}
 use Rattle.files.specs.Content.{each}
 use Rattle.files.proofs.Lists.{each-more, each-none, each-same}
 use Rattle.answer.specs.Text.{planLine, planOf, planLines}

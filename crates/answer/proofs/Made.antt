@@ -7,7 +7,7 @@ use Prim.Native.Nat.{ℕ, _≤_}
 use lib.ListN.{length}
 use borrow.Author.Tests.{eq-eqb, ne-eqb}
 use Rattle.search.specs.Agenda.{stackOf}
-use Rattle.search.specs.declared.state.Verdict.{Verdict}
+use Rattle.searches.specs.declared.verdict.Verdict.{Verdict}
 use Rattle.search.specs.declared.state.Ran.{Ran}
 use Rattle.answer.specs.Text.{verdictLine, countsLine, planLines, refusedLine, wholeText, textFrom}
 use Rattle.answer.specs.Work.Writing.{Holds, Adds}

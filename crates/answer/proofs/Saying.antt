@@ -16,15 +16,15 @@ use Rattle.problem.specs.Problem.{Solution, tableOf, problemOf}
 use Rattle.splits.specs.Subproblems.{domain}
 use Rattle.splits.specs.declared.subproblem.Subproblem.{Subproblem}
 use Rattle.search.specs.Agenda.{stackOf, slotsIn, agendaOf}
+use Rattle.search.specs.Slots.{slots, Stopped}
 use Rattle.search.specs.Tests.FirstChecks.{searchRefusal}
-use Rattle.search.specs.Runs.{Stopped}
-use Rattle.search.specs.Verdicts.{ascii, wordOf, numberOf, verdictOf}
-use Rattle.search.specs.Chooser.{choose}
+use Rattle.searches.specs.Verdicts.{ascii, wordOf, numberOf, verdictOf}
+use Rattle.searches.specs.Chooser.{choose}
 use Rattle.search.specs.Calls.{searchOf, Chooses}
 use Rattle.search.specs.Promises.{Verdict-says}
 use Rattle.search.specs.declared.state.Ran.{Ran}
-use Rattle.search.specs.declared.state.Verdict.{Verdict}
-use Rattle.search.specs.declared.state.Verdict.the-variants.{None, Running, Solved, Unsolvable}
+use Rattle.searches.specs.declared.verdict.Verdict.{Verdict}
+use Rattle.searches.specs.declared.verdict.Verdict.the-variants.{None, Running, Solved, Unsolvable}
 use Rattle.search.proofs.first_checks.FirstPassing.{search-is-passed}
 use Rattle.search.proofs.Promises.{chooser-says}
 use Rattle.files.specs.Reading.{saidN, saidD, saidSteps, saidChecks, saidSubproblems, saidDomains, saidAllowed, saidSearch, tableWords, Deserves-14, Deserves-15}
@@ -178,9 +178,9 @@ calls-of file =
     } in
     let x′ : List ℕ = cond (eqb k 0) (saidDomains file) x in
     let y′ : List ℕ = cond (eqb k 0) (tableWords (saidN file) (saidD file) (saidAllowed file)) y in
-    let z′ : List ℕ = cond (eqb k 0) (agendaOf (saidN file) (length z) (saidSearch file .stack)) z in
+    let z′ : List ℕ = cond (eqb k 0) (agendaOf (saidN file) (length z) (saidSearch file .memory)) z in
     let first : ℕ = searchRefusal (l .n) (l .d) x′ y′ z′ (l .state .counts .steps .0) (l .state .counts .checks .0) (l .state .subproblems) in
-    let stopped : Stopped = choose (problemOf (l .n) (l .d) x′ y′) (slotsIn (l .n) (length z′)) 1000000 (searchOf (l .n) z′ (l .state)) in
+    let stopped : Stopped = choose (problemOf (l .n) (l .d) x′ y′) (slots (slotsIn (l .n) (length z′))) 1000000 (searchOf (l .n) z′ (l .state)) in
     record {
       domains = x;
       domains′ = x′;
@@ -188,10 +188,10 @@ calls-of file =
       tables′ = y′;
       agenda = z;
       agenda′ = z′;
-      after = cond (eqb first 0) (agendaOf (l .n) (length z′) (stopped .search .stack)) z′;
+      after = cond (eqb first 0) (agendaOf (l .n) (length z′) (stopped .search .memory)) z′;
       loaded = l;
       ran = record {
-        verdict = cond (eqb first 0) (verdictOf (l .n) (stopped .search .stack)) None;
+        verdict = cond (eqb first 0) (verdictOf (l .n) (stopped .search .memory)) None;
         refusal = cond (eqb first 0) (stopped .refusal) first;
         taken = cond (eqb first 0) (stopped .taken) 0;
         state = record {
@@ -199,7 +199,7 @@ calls-of file =
             steps = record { 0 = cond (eqb first 0) (stopped .search .steps) (l .state .counts .steps .0) };
             checks = record { 0 = cond (eqb first 0) (stopped .search .checks) (l .state .counts .checks .0) };
           };
-          subproblems = cond (eqb first 0) (length (stopped .search .stack)) (l .state .subproblems);
+          subproblems = cond (eqb first 0) (length (stopped .search .memory)) (l .state .subproblems);
         };
       };
       loads = record {

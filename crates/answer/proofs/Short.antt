@@ -6,9 +6,9 @@ use Prim.Native.Nat.{ℕ, zero, suc, _+_, _*_, _^_, _≤_, _<_}
 use lib.ListN.{length, length-append}
 use lib.Count.{trailing-le}
 use Rattle.problem.specs.Masks.{lowest}
-use Rattle.search.specs.Verdicts.{ascii, wordOf}
-use Rattle.search.specs.declared.state.Verdict.{Verdict}
-use Rattle.search.specs.declared.state.Verdict.the-variants.{None, Running, Solved, Unsolvable}
+use Rattle.searches.specs.Verdicts.{ascii, wordOf}
+use Rattle.searches.specs.declared.verdict.Verdict.{Verdict}
+use Rattle.searches.specs.declared.verdict.Verdict.the-variants.{None, Running, Solved, Unsolvable}
 use Rattle.files.proofs.Lists.{each-more, each-none}
 use Rattle.answer.specs.Text.{decimal, verdictLine, countsLine, planLine, planOf, refusedLine}
 use Rattle.answer.proofs.Decimals.{two-digits, twenty-digits}

@@ -6,8 +6,8 @@ use Prim.Native.Nat.{ℕ, _+_, _-_, _*_}
 use lib.ListN.{length, replicate}
 use lib.Dec.{eqb}
 use Rattle.problem.specs.Problem.{Problem, problemOf}
-use Rattle.search.specs.Runs.{Stopped}
-use Rattle.search.specs.Chooser.{choose}
+use Rattle.search.specs.Slots.{slots, Stopped}
+use Rattle.searches.specs.Chooser.{choose}
 use Rattle.files.specs.Reading.{saidN, saidD, saidDomains, saidAllowed, saidSearch, tableWords}
 use Rattle.files.specs.Calls.{loadRefusal}
 use Rattle.answer.specs.Text.{textOf, refusedLine}
@@ -23,7 +23,7 @@ loadedProblem file = problemOf (saidN file) (saidD file) (saidDomains file) (tab
 
 -- Where the chooser stops: up to 1,000,000 steps with 512 slots.
 unfoldable pub ranOf : List ℕ → Stopped
-ranOf file = choose (loadedProblem file) 512 1000000 (saidSearch file)
+ranOf file = choose (loadedProblem file) (slots 512) 1000000 (saidSearch file)
 
 -- The text for a file: a refused load gives the one line of the refusal.
 unfoldable pub answer : List ℕ → List ℕ

@@ -5,9 +5,9 @@ use Prim.Native.Nat.{ℕ, _*_, _+_, _/_, _%_, _≤_, _<_}
 use lib.ListN.{length, getD, take}
 use Rattle.problem.specs.Problem.{Solution, problemOf}
 use Rattle.problem.specs.Answers.{One}
-use Rattle.search.specs.Verdicts.{ascii}
+use Rattle.searches.specs.Verdicts.{ascii}
 use Rattle.search.specs.Calls.{Opens, Chooses}
-use Rattle.search.specs.Promises.{Has-solution}
+use Rattle.searches.specs.Promises.{Has-solution}
 use Rattle.search.specs.declared.state.State.{State}
 use Rattle.search.specs.declared.state.Opened.{Opened}
 use Rattle.search.specs.declared.state.Ran.{Ran}

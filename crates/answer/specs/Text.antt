@@ -8,10 +8,10 @@ use Rattle.splits.specs.Subproblems.{domain}
 use Rattle.problem.specs.Lists.{below}
 use Rattle.splits.specs.declared.subproblem.Subproblem.{Subproblem}
 use Rattle.search.specs.Agenda.{stackOf}
-use Rattle.search.specs.Verdicts.{numberOf, ascii, wordOf, verdictOf}
-use Rattle.search.specs.Runs.{Stopped}
+use Rattle.search.specs.Slots.{Stopped}
+use Rattle.searches.specs.Verdicts.{numberOf, ascii, wordOf, verdictOf}
 use Rattle.search.specs.declared.state.Ran.{Ran}
-use Rattle.search.specs.declared.state.Verdict.{Verdict}
+use Rattle.searches.specs.declared.verdict.Verdict.{Verdict}
 use Rattle.files.specs.Content.{each}
 
 -- A number in decimal, no zero in front, of at most so many digits after the first. The digit 0 is byte 48.
@@ -56,7 +56,7 @@ wholeText n verdict steps checks refusal stack =
 -- Of one that stops so.
 unfoldable pub textOf : ℕ → Stopped → List ℕ
 textOf n stopped =
-    wholeText n (verdictOf n (stopped .search .stack)) (stopped .search .steps) (stopped .search .checks) (stopped .refusal) (stopped .search .stack)
+    wholeText n (verdictOf n (stopped .search .memory)) (stopped .search .steps) (stopped .search .checks) (stopped .refusal) (stopped .search .memory)
 
 -- Of one that returns this and leaves these words in the agenda.
 unfoldable pub textFrom : ℕ → List ℕ → Ran → List ℕ

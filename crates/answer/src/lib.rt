@@ -11,7 +11,7 @@ ghost use lib.Dec.{eqb};
 ghost use Rattle.problem.specs.Masks.{lowest};
 ghost use Rattle.splits.specs.Subproblems.{domain};
 ghost use Rattle.search.specs.Agenda.{subproblemOf, slotAt};
-ghost use Rattle.search.specs.Verdicts.{numberOf};
+ghost use Rattle.searches.specs.Verdicts.{numberOf};
 ghost use Rattle.answer.specs.Text.{planOf, textFrom};
 ghost use Rattle.answer.specs.Calls.{Answers};
 ghost use Rattle.answer.specs.Work.Writing.{Holds, Adds, Shows};

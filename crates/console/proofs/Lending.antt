@@ -9,7 +9,7 @@ use native.Mathlib.Decide.{ℕ-discrete, decLt}
 use lib.ListN.{length, getD, take, drop, length-append, length-drop, take-append-drop, drop-of-length-le, List·getD-eq-default}
 use lib.Seq.{take-at, take-all, take-take, length-take-le, getD-drop, ext-getD}
 use borrow.Author.Tests.{ne-eqb}
-use Rattle.search.specs.Runs.{requestsIn}
+use Rattle.searches.specs.Runs.{requestsIn}
 use Rattle.search.specs.Calls.{Opens, Runs, Chooses}
 use Rattle.search.specs.declared.state.State.{State}
 use Rattle.search.specs.declared.state.Opened.{Opened}

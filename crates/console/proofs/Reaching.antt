@@ -20,12 +20,14 @@ use Rattle.splits.specs.Splits.{forbidden, instantiate, disjunct, extract, back
 use Rattle.splits.specs.declared.subproblem.Subproblem.{Subproblem}
 use Rattle.problem.proofs.Tests.{every-at, every-all, same-test}
 use Rattle.search.specs.Agenda.{subproblemOf, slotAt, stackOf, slotsIn, stackWords, agendaOf}
-use Rattle.search.specs.Runs.{Search, Stopped, splitTop, step, refusalOfTop, refusalOfRequest, runFrom, run, requestsIn}
+use Rattle.search.specs.Slots.{slots, Search, Stopped}
+use Rattle.searches.specs.Runs.{step, refusalOfTop, refusalOfRequest, runFrom, run, requestsIn}
+use Rattle.searches.specs.Machines.{splitTop}
 use Rattle.search.specs.Tests.FirstChecks.{refusalOfLengths, zerosFrom, refusalOfSearch, runRefusal}
 use Rattle.search.specs.Calls.{searchOf, Ends, Runs}
 use Rattle.search.specs.declared.state.State.{State}
 use Rattle.search.specs.declared.state.Ran.{Ran}
-use Rattle.search.proofs.Runs.{after, stop, run-finished, run-taken, run-refused, run-ind}
+use Rattle.searches.proofs.Runs.{after, stop, run-finished, run-taken, run-refused, run-ind}
 use Rattle.search.proofs.Encoding.{length-stackOf}
 use Rattle.search.proofs.first_checks.Deserved.{slots-is}
 use Rattle.problem.proofs.Copies.{zeros-at}
@@ -88,23 +90,23 @@ module _ (p : Problem) where
         let few : length (splitTop p r (P ∷ S)) ≤ suc (length S) + (p .n + 1) = split-few r (P ∷ S) in
         rw (le-ltb room′ (length (splitTop p r (P ∷ S))) (omega arith), le-ltb room (length (splitTop p r (P ∷ S))) (omega arith)) refl
 
-    refusal-roomy : (r : List ℕ) (s : Search) → length (s .stack) + (p .n + 1) ≤ room → refusalOfRequest p room′ r s ≡ refusalOfRequest p room r s
+    refusal-roomy : (r : List ℕ) (s : Search) → length (s .memory) + (p .n + 1) ≤ room → refusalOfRequest p (slots room′) r s ≡ refusalOfRequest p (slots room) r s
     unfolding refusalOfRequest
-    refusal-roomy r s h = ap (cond (eqb (s .steps) 4294967295) 11) (top-roomy r (s .stack) h)
+    refusal-roomy r s h = ap (cond (eqb (s .steps) 4294967295) 11) (top-roomy r (s .memory) h)
 
     -- Room for n + 1 more subproblems a request is as good as any.
-    pub run-roomy : (rs : List (List ℕ)) (s : Search) → length (s .stack) + (p .n + 1) * length rs ≤ room → run p room′ rs s ≡ run p room rs s
+    pub run-roomy : (rs : List (List ℕ)) (s : Search) → length (s .memory) + (p .n + 1) * length rs ≤ room → run p (slots room′) rs s ≡ run p (slots room) rs s
     unfolding runFrom step
     run-roomy =
-        run-ind p room (λ rs s x. length (s .stack) + (p .n + 1) * length rs ≤ room → run p room′ rs s ≡ x)
+        run-ind p (slots room) (λ rs s x. length (s .memory) + (p .n + 1) * length rs ≤ room → run p (slots room′) rs s ≡ x)
         (λ s h. refl)
-        (λ r rs s e h. run-finished p room′ (r ∷ rs) s e)
+        (λ r rs s e h. run-finished p (slots room′) (r ∷ rs) s e)
         (λ r rs s e k h.
         let same = refusal-roomy r s (omega (arith, turn (length rs))) in
-        run-refused p room′ r rs s e (λ z. k (sym same ∙ z)) ∙ ap (stop s) same)
+        run-refused p (slots room′) r rs s e (λ z. k (sym same ∙ z)) ∙ ap (stop s) same)
         (λ r rs s x e k ih h.
-        run-taken p room′ r rs s e (refusal-roomy r s (omega (arith, turn (length rs))) ∙ k)
-        ∙ ap (after 1) (ih (omega (arith, turn (length rs), split-few r (s .stack)))))
+        run-taken p (slots room′) r rs s e (refusal-roomy r s (omega (arith, turn (length rs))) ∙ k)
+        ∙ ap (after 1) (ih (omega (arith, turn (length rs), split-few r (s .memory)))))
       where
         turn : (k : ℕ) → (p .n + 1) * suc k ≡ (p .n + 1) + (p .n + 1) * k
         turn k = omega arith
@@ -197,9 +199,9 @@ ends-front first n a y z s x r kept h ends = record {
   agenda = go (eqb first 0) (ends .agenda);
 }
   where
-    go : (b : Bool) → y ≡ cond b (agendaOf n (length a) (x .search .stack)) a
-        → y ++ z ≡ cond b (agendaOf n (length (a ++ z)) (x .search .stack)) (a ++ z)
-    go true e = agenda-front n (x .search .stack) a y z kept h e
+    go : (b : Bool) → y ≡ cond b (agendaOf n (length a) (x .search .memory)) a
+        → y ++ z ≡ cond b (agendaOf n (length (a ++ z)) (x .search .memory)) (a ++ z)
+    go true e = agenda-front n (x .search .memory) a y z kept h e
     go false e = ap (λ (l : List ℕ). l ++ z) e
 
 -- A run in the front, of whole slots, more than the requests can use, of an agenda of whole slots that has only zeros after it.
@@ -208,7 +210,7 @@ pub runs-front : (n d : ℕ) (domains tables a y z requests : List ℕ) (s : Sta
     → s .subproblems + (n + 1) * length (requestsIn n requests) ≤ slots
     → Runs n d domains tables a y requests s r → Runs n d domains tables (a ++ z) (y ++ z) requests s r
 runs-front n d domains tables a y z requests s r slots all its whole some within few kept h room runs =
-    subst (λ (k : ℕ). Ends k n (a ++ z) (y ++ z) s (run p (slotsIn n (length (a ++ z))) rs (searchOf n (a ++ z) s)) r) (sym first-same)
+    subst (λ (k : ℕ). Ends k n (a ++ z) (y ++ z) s (run p (slots (slotsIn n (length (a ++ z)))) rs (searchOf n (a ++ z) s)) r) (sym first-same)
     (subst (λ (x : Stopped). Ends (first a) n (a ++ z) (y ++ z) s x r) (sym run-same) (ends-front (first a) n a y z s _ r kept h runs))
   where
     p : Problem
@@ -237,11 +239,11 @@ runs-front n d domains tables a y z requests s r slots all its whole some within
         first-front n d domains tables a z requests (s .counts .steps .0) (s .counts .checks .0) (s .subproblems) slots all its whole some within few
         (omega arith) h
 
-    run-same : run p (slotsIn n (length (a ++ z))) rs (searchOf n (a ++ z) s) ≡ run p (slotsIn n (length a)) rs (searchOf n a s)
+    run-same : run p (slots (slotsIn n (length (a ++ z)))) rs (searchOf n (a ++ z) s) ≡ run p (slots (slotsIn n (length a))) rs (searchOf n a s)
     run-same =
         ap
-        (λ (S : List Subproblem). run p (slotsIn n (length (a ++ z))) rs
-        (record { stack = S; steps = s .counts .steps .0; checks = s .counts .checks .0 }))
+        (λ (S : List Subproblem). run p (slots (slotsIn n (length (a ++ z)))) rs
+        (record { memory = S; steps = s .counts .steps .0; checks = s .counts .checks .0 }))
         stack-same
         ∙ run-roomy p (slotsIn n (length a)) (slotsIn n (length (a ++ z))) (omega (arith, few-slots, all-slots)) rs (searchOf n a s)
         (omega (arith, few-slots, length-stackOf n a (s .subproblems)))

@@ -14,7 +14,7 @@ use Rattle.problem.specs.Lists.{some}
 use Rattle.problem.proofs.Tests.{true-false}
 use Rattle.search.specs.Tests.FirstChecks.{refusalOfRequests, openRefusal, runRefusal}
 use Rattle.search.specs.Agenda.{holding}
-use Rattle.search.specs.Runs.{Stopped}
+use Rattle.search.specs.Slots.{Stopped}
 use Rattle.search.specs.Calls.{opening, Opens, Ends}
 use Rattle.search.specs.declared.state.State.{State}
 use Rattle.search.specs.declared.state.Opened.{Opened}

@@ -17,22 +17,25 @@ use Rattle.problem.specs.Problem.{Problem, problemOf}
 use Rattle.splits.specs.Splits.{pieces}
 use Rattle.splits.specs.declared.subproblem.Subproblem.{Subproblem}
 use Rattle.search.specs.Agenda.{stackOf, stackWords, slotsIn, agendaOf}
-use Rattle.search.specs.Verdicts.{numberOf, finished, verdictOf}
-use Rattle.search.specs.Runs.{Search, Stopped, splitTop, step, run, requestsIn}
+use Rattle.search.specs.Slots.{slots, Search, Stopped}
+use Rattle.searches.specs.Verdicts.{numberOf, finished, verdictOf}
+use Rattle.searches.specs.Runs.{step, run, requestsIn}
+use Rattle.searches.specs.Machines.{splitTop}
 use Rattle.search.specs.FirstChecks.{WholeRequests}
 use Rattle.search.specs.Tests.FirstChecks.{runRefusal}
 use Rattle.search.specs.Calls.{searchOf, Ends, Runs, Chooses}
-use Rattle.search.specs.Promises.{Handed, Leaves, picks}
+use Rattle.search.specs.Promises.{Handed, Leaves}
+use Rattle.searches.specs.Promises.{picks}
 use Rattle.search.specs.declared.state.State.{State}
 use Rattle.search.specs.declared.state.Ran.{Ran}
-use Rattle.search.specs.declared.state.Verdict.the-variants.{Running}
-use Rattle.search.proofs.Verdicts.{running}
-use Rattle.search.proofs.Runs.{after, after-none, run-finished, run-taken, run-refused, run-ind, stops}
+use Rattle.searches.specs.declared.verdict.Verdict.the-variants.{Running}
+use Rattle.searches.proofs.Verdicts.{running}
+use Rattle.searches.proofs.Runs.{after, after-none, run-finished, run-taken, run-refused, run-ind, stops}
 use Rattle.search.proofs.Encoding.{length-stackOf, stack-of-words}
 use Rattle.search.proofs.first_checks.FirstPassing.{requests-none, search-is-passed, run-is-passed}
-use Rattle.search.proofs.Picking.{picked}
+use Rattle.searches.proofs.Picking.{picked}
 use Rattle.search.proofs.HandedOn.{known, run-leaves-so, chooser-leaves-so}
-use Rattle.search.proofs.Promises.{steps-count}
+use Rattle.searches.proofs.Promises.{steps-count}
 use Rattle.files.proofs.Stacks.{slots-in}
 use Rattle.files.proofs.Requests.{whole-append, requests-append}
 use Rattle.files.proofs.LoadOutcomes.{given, not-given}
@@ -44,35 +47,35 @@ module _ (p : Problem) (room : ℕ) where
   after-more : (k : ℕ) (x : Stopped) → after 1 (after k x) ≡ after (1 + k) x
   after-more k x =
       let e : 1 + (k + x .taken) ≡ 1 + k + x .taken = omega arith in
-      λ i. record { search = x .search; refusal = x .refusal; taken = e i }
+      λ i. stop (x .search) (x .refusal) (e i)
 
   -- A list that is taken whole is gone on from.
-  pub run-on : (qs rs : List (List ℕ)) (s : Search) → run p room rs s .refusal ≡ 0 → run p room rs s .taken ≡ length rs
-      → run p room (rs ++ qs) s ≡ after (run p room rs s .taken) (run p room qs (run p room rs s .search))
+  pub run-on : (qs rs : List (List ℕ)) (s : Search) → run p (slots room) rs s .refusal ≡ 0 → run p (slots room) rs s .taken ≡ length rs
+      → run p (slots room) (rs ++ qs) s ≡ after (run p (slots room) rs s .taken) (run p (slots room) qs (run p (slots room) rs s .search))
   run-on qs =
-      run-ind p room (λ rs s x. x .refusal ≡ 0 → x .taken ≡ length rs → run p room (rs ++ qs) s ≡ after (x .taken) (run p room qs (x .search)))
-      (λ s e t. after-none (run p room qs s))
+      run-ind p (slots room) (λ rs s x. x .refusal ≡ 0 → x .taken ≡ length rs → run p (slots room) (rs ++ qs) s ≡ after (x .taken) (run p (slots room) qs (x .search)))
+      (λ s e t. after-none (run p (slots room) qs s))
       (λ r rs s e f t. absurd (omega (arith, t)))
       (λ r rs s e h f t. absurd (h f))
       (λ r rs s x e h same f t.
-      run-taken p room r (rs ++ qs) s e h ∙ ap (after 1) (same f (omega (arith, t))) ∙ after-more (x .taken) (run p room qs (x .search)))
+      run-taken p (slots room) r (rs ++ qs) s e h ∙ ap (after 1) (same f (omega (arith, t))) ∙ after-more (x .taken) (run p (slots room) qs (x .search)))
 
-  is-finished : (s : Search) → (verdictOf (p .n) (s .stack) ≡ Running → ⊥) → finished (p .n) (s .stack) ≡ true
-  is-finished s f = go (finished (p .n) (s .stack)) refl
+  is-finished : (s : Search) → (verdictOf (p .n) (s .memory) ≡ Running → ⊥) → finished (p .n) (s .memory) ≡ true
+  is-finished s f = go (finished (p .n) (s .memory)) refl
     where
-      go : (b : Bool) → finished (p .n) (s .stack) ≡ b → b ≡ true
+      go : (b : Bool) → finished (p .n) (s .memory) ≡ b → b ≡ true
       go true e = refl
-      go false e = absurd (f (running (p .n) (s .stack) e))
+      go false e = absurd (f (running (p .n) (s .memory) e))
 
   -- A run that stops in its list stops there, whatever follows.
   pub run-stopped : (qs rs : List (List ℕ)) (s : Search)
-      → (run p room rs s .refusal ≡ 0 → verdictOf (p .n) (run p room rs s .search .stack) ≡ Running → ⊥) → run p room (rs ++ qs) s ≡ run p room rs s
+      → (run p (slots room) rs s .refusal ≡ 0 → verdictOf (p .n) (run p (slots room) rs s .search .memory) ≡ Running → ⊥) → run p (slots room) (rs ++ qs) s ≡ run p (slots room) rs s
   run-stopped qs =
-      run-ind p room (λ rs s x. (x .refusal ≡ 0 → verdictOf (p .n) (x .search .stack) ≡ Running → ⊥) → run p room (rs ++ qs) s ≡ x)
-      (λ s f. run-finished p room qs s (is-finished s (f refl)))
-      (λ r rs s e f. run-finished p room (r ∷ rs ++ qs) s e)
-      (λ r rs s e h f. run-refused p room r (rs ++ qs) s e h)
-      (λ r rs s x e h same f. run-taken p room r (rs ++ qs) s e h ∙ ap (after 1) (same f))
+      run-ind p (slots room) (λ rs s x. (x .refusal ≡ 0 → verdictOf (p .n) (x .search .memory) ≡ Running → ⊥) → run p (slots room) (rs ++ qs) s ≡ x)
+      (λ s f. run-finished p (slots room) qs s (is-finished s (f refl)))
+      (λ r rs s e f. run-finished p (slots room) (r ∷ rs ++ qs) s e)
+      (λ r rs s e h f. run-refused p (slots room) r (rs ++ qs) s e h)
+      (λ r rs s x e h same f. run-taken p (slots room) r (rs ++ qs) s e h ∙ ap (after 1) (same f))
 
   -- One less of a list.
   drop-one : (t : ℕ) (S : List Subproblem) → (A : List Subproblem) × (drop t S ≡ A ++ drop (suc t) S)
@@ -95,20 +98,20 @@ module _ (p : Problem) (room : ℕ) where
 
   -- Each request taken replaces one subproblem: those under them stay.
   pub run-under : (rs : List (List ℕ)) (s : Search)
-      → (T : List Subproblem) × (run p room rs s .search .stack ≡ T ++ drop (run p room rs s .taken) (s .stack))
+      → (T : List Subproblem) × (run p (slots room) rs s .search .memory ≡ T ++ drop (run p (slots room) rs s .taken) (s .memory))
   unfolding step
   run-under =
-      run-ind p room (λ rs s x. (T : List Subproblem) × (x .search .stack ≡ T ++ drop (x .taken) (s .stack)))
+      run-ind p (slots room) (λ rs s x. (T : List Subproblem) × (x .search .memory ≡ T ++ drop (x .taken) (s .memory)))
       (λ s. ([], refl)) (λ r rs s e. ([], refl)) (λ r rs s e h. ([], refl))
       (λ r rs s x e h same.
-      let (U, f) = split-under r (x .taken) (s .stack) in
-      (same .0 ++ U, same .1 ∙ ap (λ (l : List Subproblem). same .0 ++ l) f ∙ sym (append-assoc (same .0) U (drop (1 + x .taken) (s .stack)))))
+      let (U, f) = split-under r (x .taken) (s .memory) in
+      (same .0 ++ U, same .1 ∙ ap (λ (l : List Subproblem). same .0 ++ l) f ∙ sym (append-assoc (same .0) U (drop (1 + x .taken) (s .memory)))))
 
   -- Still running with none refused, it took all.
-  pub run-whole : (rs : List (List ℕ)) (s : Search) → run p room rs s .refusal ≡ 0 → verdictOf (p .n) (run p room rs s .search .stack) ≡ Running
-      → run p room rs s .taken ≡ length rs
+  pub run-whole : (rs : List (List ℕ)) (s : Search) → run p (slots room) rs s .refusal ≡ 0 → verdictOf (p .n) (run p (slots room) rs s .search .memory) ≡ Running
+      → run p (slots room) rs s .taken ≡ length rs
   run-whole rs s e v =
-      ⊎-elim (λ f. absurd (f .verdict (ap numberOf v))) (λ k. ⊎-elim (λ f. absurd (f .refused e)) (λ f. f .taken) k) (stops p room rs s .1)
+      ⊎-elim (λ f. absurd (f .verdict (ap numberOf v))) (λ k. ⊎-elim (λ f. absurd (f .refused e)) (λ f. f .taken) k) (stops p (slots room) rs s .1)
 
 -- ---- in lent words
 
@@ -176,7 +179,7 @@ module _ (n d : ℕ) (domains tables before : List ℕ) (s : State) (small : (i 
   run-narrow left requests r whole few runs =
       ends-narrow _ n d domains tables before left s _ r runs few
       (λ e. run-leaves-so n d domains tables before left requests s r (run-handed requests e) runs .0 whole)
-      (steps-count (problemOf n d domains tables) (slotsIn n (length before)) (requestsIn n requests) (searchOf n before s))
+      (steps-count (problemOf n d domains tables) (slots (slotsIn n (length before))) (requestsIn n requests) (searchOf n before s))
 
   -- The steps that a run leaves fit their counter.
   pub run-stepped : (left requests : List ℕ) (r : Ran) → WholeRequests n (length requests) → Runs n d domains tables before left requests s r
@@ -208,7 +211,7 @@ module _ (n d : ℕ) (domains tables before : List ℕ) (s : State) (small : (i 
       → take ((s .subproblems - r .taken) * (n + 2)) left ≡ take ((s .subproblems - r .taken) * (n + 2)) before
   run-lower left requests r whole runs =
       let first : ℕ = runRefusal n d domains tables before requests (s .counts .steps .0) (s .counts .checks .0) (s .subproblems) in
-      let x : Stopped = run (problemOf n d domains tables) (slotsIn n (length before)) (requestsIn n requests) (searchOf n before s) in
+      let x : Stopped = run (problemOf n d domains tables) (slots (slotsIn n (length before))) (requestsIn n requests) (searchOf n before s) in
       elim (ℕ-discrete first 0) [
         | yes e ↦
             let handed = run-handed requests e in
@@ -221,7 +224,7 @@ module _ (n d : ℕ) (domains tables before : List ℕ) (s : State) (small : (i 
             let (T, under) = run-under (problemOf n d domains tables) (slotsIn n (length before)) (requestsIn n requests) (searchOf n before s) in
             let taken : r .taken ≡ x .taken = rw e at (runs .taken) in
             let same : stackOf n left (r .state .subproblems) ≡ T ++ stackOf n before k =
-            ap (λ (y : Search). y .stack) (l .search) ∙ under
+            ap (λ (y : Search). y .memory) (l .search) ∙ under
             ∙ ap (λ (j : ℕ). T ++ drop j (stackOf n before (s .subproblems))) (sym taken)
             ∙ ap (λ (S : List Subproblem). T ++ S) (drop-stack n before (r .taken) (s .subproblems)) in
             let sum : r .state .subproblems ≡ length T + k =
@@ -241,12 +244,12 @@ module _ (n d : ℕ) (domains tables before : List ℕ) (s : State) (small : (i 
   pub choose-narrow : (left : List ℕ) (limit : ℕ) (r : Ran) → s .subproblems < 4294967296 → Chooses n d domains tables before left limit s r
       → Narrow r
   choose-narrow left limit r few chooses =
-      let as-run = picked (problemOf n d domains tables) (slotsIn n (length before)) limit (searchOf n before s) 0 in
+      let as-run = picked (problemOf n d domains tables) (slots (slotsIn n (length before))) limit (searchOf n before s) 0 in
       ends-narrow _ n d domains tables before left s _ r chooses few
       (λ e. chooser-leaves-so n d domains tables before left limit s r (record { words = small; stepped = stepped; passes = e }) chooses)
       (rw as-run
-      (steps-count (problemOf n d domains tables) (slotsIn n (length before))
-      (picks (problemOf n d domains tables) (slotsIn n (length before)) limit (searchOf n before s)) (searchOf n before s)))
+      (steps-count (problemOf n d domains tables) (slots (slotsIn n (length before)))
+      (picks (problemOf n d domains tables) (slots (slotsIn n (length before))) limit (searchOf n before s)) (searchOf n before s)))
 
   module _ (mid a b : List ℕ) (r : Ran) (wa : WholeRequests n (length a)) (wb : WholeRequests n (length b)) (runs : Runs n d domains tables before mid a s r) where
     first : List ℕ → ℕ
@@ -269,7 +272,7 @@ module _ (n d : ℕ) (domains tables before : List ℕ) (s : State) (small : (i 
     x0 = searchOf n before s
 
     x1 : Stopped
-    x1 = run p room (requestsIn n a) x0
+    x1 = run p (slots room) (requestsIn n a) x0
 
     -- The run of both lists, where the first was taken whole.
     pub run-joined : r .refusal ≡ 0 → r .taken ≡ length (requestsIn n a) → (left : List ℕ) (q : Ran) → Runs n d domains tables mid left b (r .state) q
@@ -281,26 +284,26 @@ module _ (n d : ℕ) (domains tables before : List ℕ) (s : State) (small : (i 
         let none : runRefusal n d domains tables mid b (r .state .counts .steps .0) (r .state .counts .checks .0) (r .state .subproblems) ≡ 0 =
         run-is-passed n d domains tables mid (r .state .counts .steps .0) (r .state .counts .checks .0) (r .state .subproblems) b .1
         (known n d domains tables mid (r .state) (l .handed) .passed, wb) in
-        let x2 : Stopped = run p (slotsIn n (length mid)) (requestsIn n b) (searchOf n mid (r .state)) in
-        let same : x2 ≡ run p room (requestsIn n b) (x1 .search) =
-        ap₂ (λ (k : ℕ) (y : Search). run p k (requestsIn n b) y) (ap (slotsIn n) (l .length-kept)) (l .search) in
+        let x2 : Stopped = run p (slots (slotsIn n (length mid))) (requestsIn n b) (searchOf n mid (r .state)) in
+        let same : x2 ≡ run p (slots room) (requestsIn n b) (x1 .search) =
+        ap₂ (λ (k : ℕ) (y : Search). run p (slots k) (requestsIn n b) y) (ap (slotsIn n) (l .length-kept)) (l .search) in
         let refused : x1 .refusal ≡ 0 = sym (rw zero at (runs .refusal)) ∙ e in
         let taken : r .taken ≡ x1 .taken = rw zero at (runs .taken) in
-        let whole : run p room (requestsIn n (a ++ b)) x0 ≡ after (x1 .taken) x2 =
-        ap (λ (rs : List (List ℕ)). run p room rs x0) (requests-append n a b wa wb)
+        let whole : run p (slots room) (requestsIn n (a ++ b)) x0 ≡ after (x1 .taken) x2 =
+        ap (λ (rs : List (List ℕ)). run p (slots room) rs x0) (requests-append n a b wa wb)
         ∙ run-on p room (requestsIn n b) (requestsIn n a) x0 refused (sym taken ∙ t) ∙ ap (after (x1 .taken)) (sym same) in
         let all : first (a ++ b) ≡ 0 = first-same ∙ zero in
         record {
           verdict =
-              given (first (a ++ b)) _ _ _ all ((rw none at (more .verdict)) ∙ sym (ap (λ (y : Stopped). verdictOf n (y .search .stack)) whole));
+              given (first (a ++ b)) _ _ _ all ((rw none at (more .verdict)) ∙ sym (ap (λ (y : Stopped). verdictOf n (y .search .memory)) whole));
           refusal = given (first (a ++ b)) _ _ _ all ((rw none at (more .refusal)) ∙ sym (ap (λ (y : Stopped). y .refusal) whole));
           taken = given (first (a ++ b)) _ _ _ all (ap₂ _+_ taken (rw none at (more .taken)) ∙ sym (ap (λ (y : Stopped). y .taken) whole));
           steps = given (first (a ++ b)) _ _ _ all ((rw none at (more .steps)) ∙ sym (ap (λ (y : Stopped). y .search .steps) whole));
           checks = given (first (a ++ b)) _ _ _ all ((rw none at (more .checks)) ∙ sym (ap (λ (y : Stopped). y .search .checks) whole));
           subproblems =
-              given (first (a ++ b)) _ _ _ all ((rw none at (more .subproblems)) ∙ sym (ap (λ (y : Stopped). length (y .search .stack)) whole));
-          agenda = given (first (a ++ b)) _ _ _ all ((rw none at (more .agenda)) ∙ ap (λ (k : ℕ). agendaOf n k (x2 .search .stack)) (l .length-kept)
-              ∙ sym (ap (λ (y : Stopped). agendaOf n (length before) (y .search .stack)) whole));
+              given (first (a ++ b)) _ _ _ all ((rw none at (more .subproblems)) ∙ sym (ap (λ (y : Stopped). length (y .search .memory)) whole));
+          agenda = given (first (a ++ b)) _ _ _ all ((rw none at (more .agenda)) ∙ ap (λ (k : ℕ). agendaOf n k (x2 .search .memory)) (l .length-kept)
+              ∙ sym (ap (λ (y : Stopped). agendaOf n (length before) (y .search .memory)) whole));
         }
 
     -- It is the run of the first, where this was refused or is not running any more.
@@ -309,11 +312,11 @@ module _ (n d : ℕ) (domains tables before : List ℕ) (s : State) (small : (i 
     run-ended f = elim (ℕ-discrete (first a) 0) [
       | yes nothing ↦
           let refused : r .refusal ≡ x1 .refusal = rw nothing at (runs .refusal) in
-          let verdict : r .verdict ≡ verdictOf n (x1 .search .stack) = rw nothing at (runs .verdict) in
-          let same : run p room (requestsIn n (a ++ b)) x0 ≡ x1 =
-          ap (λ (rs : List (List ℕ)). run p room rs x0) (requests-append n a b wa wb)
+          let verdict : r .verdict ≡ verdictOf n (x1 .search .memory) = rw nothing at (runs .verdict) in
+          let same : run p (slots room) (requestsIn n (a ++ b)) x0 ≡ x1 =
+          ap (λ (rs : List (List ℕ)). run p (slots room) rs x0) (requests-append n a b wa wb)
           ∙ run-stopped p room (requestsIn n b) (requestsIn n a) x0 (λ e v. f (refused ∙ e) (verdict ∙ v)) in
-          subst (λ (k : ℕ). Ends k n before mid s (run p room (requestsIn n (a ++ b)) x0) r) (sym first-same)
+          subst (λ (k : ℕ). Ends k n before mid s (run p (slots room) (requestsIn n (a ++ b)) x0) r) (sym first-same)
           (subst (λ (y : Stopped). Ends (first a) n before mid s y r) (sym same) runs)
       | no some ↦
           let test : eqb (first a) 0 ≡ false = ne-eqb (first a) 0 some in

@@ -13,16 +13,17 @@ use lib.Dec.{eqb}
 use borrow.Author.Tests.{not-true, not-false, eqb-true, eq-eqb}
 use Rattle.problem.proofs.Tests.{and-left, and-right, true-false}
 use Rattle.search.specs.FirstChecks.{WholeRequests}
-use Rattle.search.specs.Verdicts.{numberOf}
-use Rattle.search.specs.Runs.{Stopped, run, requestsIn}
+use Rattle.searches.specs.Verdicts.{numberOf}
+use Rattle.searches.specs.Runs.{run, requestsIn}
 use Rattle.problem.specs.Problem.{problemOf}
 use Rattle.search.specs.Agenda.{slotsIn}
+use Rattle.search.specs.Slots.{slots, Stopped}
 use Rattle.search.specs.Calls.{searchOf, Ends, Runs}
-use Rattle.search.proofs.Verdicts.{is-run-on}
-use Rattle.search.proofs.Runs.{stops}
+use Rattle.searches.proofs.Verdicts.{is-run-on}
+use Rattle.searches.proofs.Runs.{stops}
 use Rattle.search.specs.declared.state.State.{State}
 use Rattle.search.specs.declared.state.Ran.{Ran}
-use Rattle.search.specs.declared.state.Verdict.the-variants.{Running}
+use Rattle.searches.specs.declared.verdict.Verdict.the-variants.{Running}
 use Rattle.files.proofs.Requests.{cut-length, whole-append}
 use Rattle.console.specs.Bytes.{Whole, wordsOf}
 use Rattle.console.specs.Work.Parts.{goesOn, WholeAt, Listed, Part, Narrow}
@@ -175,9 +176,9 @@ module _ {n d : ℕ} {domains tables before requests : List ℕ} {s : State} {mi
   pub part-taken : q .taken ≤ end - at
   unfolding here
   part-taken =
-      let few : run (problemOf n d domains tables) (slotsIn n (length mid)) (requestsIn n (wordsOf here)) (searchOf n mid state) .taken ≤ length
+      let few : run (problemOf n d domains tables) (slots (slotsIn n (length mid))) (requestsIn n (wordsOf here)) (searchOf n mid state) .taken ≤ length
       (requestsIn n (wordsOf here)) =
-      stops (problemOf n d domains tables) (slotsIn n (length mid)) (requestsIn n (wordsOf here)) (searchOf n mid state) .0 in
+      stops (problemOf n d domains tables) (slots (slotsIn n (length mid))) (requestsIn n (wordsOf here)) (searchOf n mid state) .0 in
       ends-taken _ n (end - at) mid left state _ q runs (omega (arith, few, requests-few n (wordsOf here), words-length here, here-length))
 
   -- The list up to the end of this part, and the whole list.

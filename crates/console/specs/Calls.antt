@@ -3,13 +3,13 @@
 use mathlib.Core.Path.{_≡_}
 use mathlib.Core.List.{List}
 use Prim.Native.Nat.{ℕ}
-use Rattle.search.specs.Verdicts.{numberOf}
+use Rattle.searches.specs.Verdicts.{numberOf}
 use Rattle.problem.specs.Tests.FirstChecks.{orElse, refusalOfNumbers}
 use Rattle.search.specs.Calls.{Opens, Runs, Chooses}
 use Rattle.search.specs.declared.state.State.{State}
 use Rattle.search.specs.declared.state.Opened.{Opened}
 use Rattle.search.specs.declared.state.Ran.{Ran}
-use Rattle.search.specs.declared.state.Verdict.the-variants.{None}
+use Rattle.searches.specs.declared.verdict.Verdict.the-variants.{None}
 use Rattle.files.specs.Reading.{refusalOfFile, refusalOfWords}
 use Rattle.files.specs.Calls.{Saves, Loads}
 use Rattle.files.specs.declared.saved.Saved.{Saved}

@@ -4,8 +4,8 @@ use mathlib.Core.Logic.{_↔_}
 use mathlib.Core.List.{List, _++_}
 use Prim.Native.Nat.{ℕ, _+_, _≤_}
 use lib.ListN.{length}
-use Rattle.search.specs.Verdicts.{numberOf}
-use Rattle.search.specs.Runs.{requestsIn}
+use Rattle.searches.specs.Verdicts.{numberOf}
+use Rattle.searches.specs.Runs.{requestsIn}
 use Rattle.problem.specs.FirstChecks.{Deserves-1, Deserves-2}
 use Rattle.search.specs.FirstChecks.{WholeRequests}
 use Rattle.search.specs.Calls.{Opens, Runs, Chooses}

@@ -9,7 +9,7 @@ use search::state::Steps;
 use search::state::Verdict;
 ghost use mathlib.Core.Path.{_≡_};
 ghost use Prim.Native.Nat.{_<_};
-ghost use Rattle.search.specs.Verdicts.{numberOf};
+ghost use Rattle.searches.specs.Verdicts.{numberOf};
 ghost use Rattle.console.specs.Calls.{stateOf, unwhole, unopened, refused, unsaved};
 
 // The state of the three numbers.

@@ -44,7 +44,7 @@ pub record Accepts (file : List ℕ) : Type 0 where
   pub zeros : (k : ℕ) → saidWords file ≤ k → k < blocksIn file * 253 → contentWord file k ≡ 0
   pub domains : (i : ℕ) → i < saidN file → saidProblem file .domain i < 2 ^ saidD file
   pub masks : (i j a : ℕ) → i < j → j < saidN file → a < saidD file → saidAllowed file i j a < 2 ^ saidD file
-  pub rules : (P : Subproblem) → List·Memᴰ P (saidSearch file .stack) → Rules (saidProblem file) P
+  pub rules : (P : Subproblem) → List·Memᴰ P (saidSearch file .memory) → Rules (saidProblem file) P
   pub counted : saidChecks file ≤ 496 * saidSteps file
 
 module _ (file : List ℕ) where
@@ -114,7 +114,7 @@ module _ (file : List ℕ) where
   t-masks = masksBelowTriangle file
 
   t-rules : Bool
-  t-rules = allObey (saidProblem file) (saidSearch file .stack)
+  t-rules = allObey (saidProblem file) (saidSearch file .memory)
 
   t-count : Bool
   t-count = leb (saidChecks file) (496 * saidSteps file)
@@ -210,7 +210,7 @@ module _ (file : List ℕ) where
         domains = doms;
         masks = masks;
         rules =
-            all-rules (saidProblem file) (saidSearch file .stack) (proper-said n₁ n₂ d₁ d₂ doms masks)
+            all-rules (saidProblem file) (saidSearch file .memory) (proper-said n₁ n₂ d₁ d₂ doms masks)
             (and-right (t-one && t-vars && t-val && t-vals && t-few && t-fills && t-zero && t-doms && t-masks) t-rules e10);
         counted =
             leb-true (saidChecks file) (496 * saidSteps file)
@@ -224,7 +224,7 @@ module _ (file : List ℕ) where
       (λ k l. eq-eqb (contentWord file (saidWords file + k)) 0 (a .zeros (saidWords file + k) (omega arith) (omega arith))) in
       let doms : t-doms ≡ true = every-all (λ i. ltb (saidProblem file .domain i) (2 ^ saidD file)) (saidN file)
       (λ i l. lt-ltb (saidProblem file .domain i) (2 ^ saidD file) (a .domains i l)) in
-      let rules : t-rules ≡ true = all-obey (saidProblem file) (saidSearch file .stack) (said-proper a) (a .rules) in
+      let rules : t-rules ≡ true = all-obey (saidProblem file) (saidSearch file .memory) (said-proper a) (a .rules) in
       rw (
         le-leb 1 (saidN file) (a .some-variable),
         le-leb (saidN file) 32 (a .variables),
@@ -258,7 +258,7 @@ module _ (file : List ℕ) where
       rules a b c d f g h i j (inr x) =
           let proper = proper-said (leb-true 1 (saidN file) a) (leb-true (saidN file) 32 b) (leb-true 1 (saidD file) c) (leb-true (saidD file) 16 d)
           (domains-say i) (masks-say j) in
-          inr (inr (inr (inr (inr (inr (inl (refutes-rules (saidProblem file) (saidSearch file .stack) proper .holds x)))))))
+          inr (inr (inr (inr (inr (inr (inl (refutes-rules (saidProblem file) (saidSearch file .memory) proper .holds x)))))))
 
       masks : t-one ≡ true → t-vars ≡ true → t-val ≡ true → t-vals ≡ true → t-few ≡ true → t-fills ≡ true → t-zero ≡ true → t-doms ≡ true
           → Way t-masks → Deserves-15 file

@@ -23,14 +23,17 @@ use Rattle.problem.proofs.Products.{last}
 use Rattle.splitting.proofs.Pieces.{Held}
 use Rattle.splitting.proofs.Splitting.{lowest-in}
 use Rattle.splits.proofs.Apart.{precluded-same}
-use Rattle.search.specs.Verdicts.{finished}
-use Rattle.search.specs.Runs.{Search, Stopped, splitTop, step, refusalOfTop, refusalOfRequest, runFrom, run}
-use Rattle.search.specs.Chooser.{fewestOf, fewest, request, chosen, chooseFrom, choose}
-use Rattle.search.specs.Promises.{Passes}
-use Rattle.search.proofs.Verdicts.{running-top, finished-top, instantiated-all}
-use Rattle.search.proofs.Runs.{stop, after, run-finished, run-taken, run-refused, run-ind}
-use Rattle.splits.proofs.Promises.{refusal-none}
-use Rattle.search.proofs.Passing.{step-is, splits, step-passes}
+use Rattle.search.specs.Slots.{slots, Search, Stopped}
+use Rattle.searches.specs.Verdicts.{finished}
+use Rattle.searches.specs.Runs.{stop, step, refusalOfTop, refusalOfRequest, runFrom, run}
+use Rattle.searches.specs.Machines.{splitTop}
+use Rattle.searches.specs.Chooser.{fewestOf, fewest, request, chosenOf, chosen, chooseFrom, choose}
+use Rattle.searches.specs.Reached.{Passes}
+use Rattle.searches.proofs.Verdicts.{running-top, finished-top, instantiated-all}
+use Rattle.searches.proofs.Runs.{after, run-finished, run-taken, run-refused, run-ind}
+use Rattle.splits.proofs.Promises.{request-accepted}
+use Rattle.searches.proofs.Passing.{splits, step-passes}
+use Rattle.search.proofs.Slots.{slots-lawful, step-is}
 use Rattle.files.proofs.Agreeing.{pieces-same, checks-same}
 
 -- ---- the variable chosen
@@ -72,50 +75,50 @@ module _ (p : Problem) (g : Table) (agree : Allow-same (p .n) (p .d) (p .allowed
 
   -- ---- a request
 
-  top-same : (P : Subproblem) (S : List Subproblem) (s : Search) (r : List ℕ) → Passes p room s → s .stack ≡ P ∷ S
-      → refusalOfTop p room r (P ∷ S) ≡ refusalOfTop other room r (P ∷ S)
+  top-same : (P : Subproblem) (S : List Subproblem) (s : Search) (r : List ℕ) → Passes p (slots room) s → s .memory ≡ P ∷ S
+      → refusalOfTop p (slots room .full p r (P ∷ S)) r (P ∷ S) ≡ refusalOfTop other (slots room .full other r (P ∷ S)) r (P ∷ S)
   unfolding refusalOfTop splitTop
   top-same P S s r h top = elim (ℕ-discrete (refusalOf (p .n) (p .d) P r) 0) [
     | yes e ↦
         let split : Splits p P r = record
-        { proper = h .proper; rules = h .rules P (rw top (List·Memᴰ·head refl)); accepted = refusal-none (p .n) (p .d) P r .0 e } in
+        { proper = h .proper; rules = h .rules P (rw top (List·Memᴰ·head refl)); accepted = request-accepted (p .n) (p .d) P r .0 e } in
         rw (pieces-same split g agree) refl
     | no f ↦ rw (ne-eqb (refusalOf (p .n) (p .d) P r) 0 f) refl
   ]
 
-  request-same : (P : Subproblem) (S : List Subproblem) (s : Search) (r : List ℕ) → Passes p room s → s .stack ≡ P ∷ S
-      → refusalOfRequest p room r s ≡ refusalOfRequest other room r s
+  request-same : (P : Subproblem) (S : List Subproblem) (s : Search) (r : List ℕ) → Passes p (slots room) s → s .memory ≡ P ∷ S
+      → refusalOfRequest p (slots room) r s ≡ refusalOfRequest other (slots room) r s
   unfolding refusalOfRequest
   request-same P S s r h top = rw top (ap (λ (x : ℕ). cond (eqb (s .steps) 4294967295) 11 x) (top-same P S s r h top))
 
-  step-same : (P : Subproblem) (S : List Subproblem) (s : Search) (r : List ℕ) → Passes p room s → s .stack ≡ P ∷ S → refusalOfRequest p room r s ≡ 0
-      → step p r s ≡ step other r s
+  step-same : (P : Subproblem) (S : List Subproblem) (s : Search) (r : List ℕ) → Passes p (slots room) s → s .memory ≡ P ∷ S → refusalOfRequest p (slots room) r s ≡ 0
+      → step p (slots room) r s ≡ step other (slots room) r s
   step-same P S s r h top e =
-      let split : Splits p P r = splits p room P S s r h top e in
-      step-is p P S s r top
+      let split : Splits p P r = splits p (slots room) (slots-lawful room) P S s r h top e in
+      step-is p room P S s r top
       ∙ (λ i. record {
-        stack = pieces-same split g agree i ++ S;
+        memory = pieces-same split g agree i ++ S;
         steps = s .steps + 1;
         checks = s .checks + checks-same split g agree i;
       })
-      ∙ sym (step-is other P S s r top)
+      ∙ sym (step-is other room P S s r top)
 
   -- ---- a run
 
   -- A run stops alike.
-  pub run-same : (rs : List (List ℕ)) (s : Search) → Passes p room s → run p room rs s ≡ run other room rs s
+  pub run-same : (rs : List (List ℕ)) (s : Search) → Passes p (slots room) s → run p (slots room) rs s ≡ run other (slots room) rs s
   unfolding runFrom
   run-same =
-      run-ind p room (λ rs s x. Passes p room s → x ≡ run other room rs s) (λ s h. refl)
-      (λ r rs s e h. sym (run-finished other room (r ∷ rs) s e))
+      run-ind p (slots room) (λ rs s x. Passes p (slots room) s → x ≡ run other (slots room) rs s) (λ s h. refl)
+      (λ r rs s e h. sym (run-finished other (slots room) (r ∷ rs) s e))
       (λ r rs s e k h.
-      let (P, S, top) = running-top (p .n) (s .stack) e in
+      let (P, S, top) = running-top (p .n) (s .memory) e in
       let same = request-same P S s r h top in
-      ap (stop s) same ∙ sym (run-refused other room r rs s e (λ z. k (same ∙ z))))
+      ap (λ (k : ℕ). stop s k 0) same ∙ sym (run-refused other (slots room) r rs s e (λ z. k (same ∙ z))))
       (λ r rs s x e k more h.
-      let (P, S, top) = running-top (p .n) (s .stack) e in
+      let (P, S, top) = running-top (p .n) (s .memory) e in
       let same = request-same P S s r h top in
-      ap (after 1) (more (step-passes p room P S s r h top k) ∙ ap (run other room rs) (step-same P S s r h top k)) ∙ sym (run-taken other room r rs s e (sym same ∙ k)))
+      ap (after 1) (more (step-passes p (slots room) (slots-lawful room) P S s r h top k) ∙ ap (run other (slots room) rs) (step-same P S s r h top k)) ∙ sym (run-taken other (slots room) r rs s e (sym same ∙ k)))
 
   -- ---- the chooser
 
@@ -132,9 +135,9 @@ module _ (p : Problem) (g : Table) (agree : Allow-same (p .n) (p .d) (p .allowed
     not-10 = λ x. absurd (omega (arith, x .0));
   }
 
-  chosen-same : (P : Subproblem) (S : List Subproblem) (s : Search) → Passes p room s → s .stack ≡ P ∷ S → allInstantiated (p .n) P ≡ false
-      → chosen p room (P ∷ S) ≡ chosen other room (P ∷ S)
-  unfolding chosen splitTop
+  chosen-same : (P : Subproblem) (S : List Subproblem) (s : Search) → Passes p (slots room) s → s .memory ≡ P ∷ S → allInstantiated (p .n) P ≡ false
+      → chosen p (slots room) (P ∷ S) ≡ chosen other (slots room) (P ∷ S)
+  unfolding chosen chosenOf splitTop
   chosen-same P S s h top e =
       let V′ = fewest (p .n) P in
       let v = lowest (domain P V′) in
@@ -146,56 +149,56 @@ module _ (p : Problem) (g : Table) (agree : Allow-same (p .n) (p .d) (p .allowed
       let split : Splits p P (request 3 V′ v) = record { proper = h .proper; rules = rules; accepted = three-accepted P V′ v l free m has } in
       rw (precluded-same (p .n) (p .allowed) g P V′ v (λ i k f. agree V′ i v l k f m), pieces-same split g agree) refl
 
-  choose-from : (m : ℕ) (s : Search) (k : ℕ) → Passes p room s → chooseFrom p room m s k ≡ chooseFrom other room m s k
+  choose-from : (m : ℕ) (s : Search) (k : ℕ) → Passes p (slots room) s → chooseFrom p (slots room) m s k ≡ chooseFrom other (slots room) m s k
   unfolding chooseFrom
   choose-from zero s k h = refl
-  choose-from (suc m) s k h = go (choose-from m) (finished (p .n) (s .stack)) refl
+  choose-from (suc m) s k h = go (choose-from m) (finished (p .n) (s .memory)) refl
     where
       r : List ℕ
-      r = chosen p room (s .stack)
+      r = chosen p (slots room) (s .memory)
 
       r′ : List ℕ
-      r′ = chosen other room (s .stack)
+      r′ = chosen other (slots room) (s .memory)
 
       first : Stopped
       first =
-          cond (eqb (refusalOfRequest p room r s) 0) (chooseFrom p room m (step p r s) (k + 1))
-          (record { search = s; refusal = refusalOfRequest p room r s; taken = k })
+          cond (eqb (refusalOfRequest p (slots room) r s) 0) (chooseFrom p (slots room) m (step p (slots room) r s) (k + 1))
+          (stop s (refusalOfRequest p (slots room) r s) k)
 
       second : Stopped
       second =
-          cond (eqb (refusalOfRequest other room r′ s) 0) (chooseFrom other room m (step other r′ s) (k + 1))
-          (record { search = s; refusal = refusalOfRequest other room r′ s; taken = k })
+          cond (eqb (refusalOfRequest other (slots room) r′ s) 0) (chooseFrom other (slots room) m (step other (slots room) r′ s) (k + 1))
+          (stop s (refusalOfRequest other (slots room) r′ s) k)
 
-      request-is : (P : Subproblem) (S : List Subproblem) → s .stack ≡ P ∷ S → allInstantiated (p .n) P ≡ false → r ≡ r′
+      request-is : (P : Subproblem) (S : List Subproblem) → s .memory ≡ P ∷ S → allInstantiated (p .n) P ≡ false → r ≡ r′
       request-is P S top e = rw top (chosen-same P S s h top e)
 
-      free : (P : Subproblem) (S : List Subproblem) → s .stack ≡ P ∷ S → finished (p .n) (s .stack) ≡ false → allInstantiated (p .n) P ≡ false
+      free : (P : Subproblem) (S : List Subproblem) → s .memory ≡ P ∷ S → finished (p .n) (s .memory) ≡ false → allInstantiated (p .n) P ≡ false
       free P S top e = sym (finished-top (p .n) P S) ∙ rw top at e
 
-      next : ((t : Search) (j : ℕ) → Passes p room t → chooseFrom p room m t j ≡ chooseFrom other room m t j) → finished (p .n) (s .stack) ≡ false
+      next : ((t : Search) (j : ℕ) → Passes p (slots room) t → chooseFrom p (slots room) m t j ≡ chooseFrom other (slots room) m t j) → finished (p .n) (s .memory) ≡ false
           → first ≡ second
       next more e =
-          let (P, S, top) = running-top (p .n) (s .stack) e in
+          let (P, S, top) = running-top (p .n) (s .memory) e in
           let same : r ≡ r′ = request-is P S top (free P S top e) in
-          let refusals : refusalOfRequest p room r s ≡ refusalOfRequest other room r′ s = request-same P S s r h top ∙ ap
-          (λ (x : List ℕ). refusalOfRequest other room x s) same in
-          elim (ℕ-discrete (refusalOfRequest p room r s) 0) [
+          let refusals : refusalOfRequest p (slots room) r s ≡ refusalOfRequest other (slots room) r′ s = request-same P S s r h top ∙ ap
+          (λ (x : List ℕ). refusalOfRequest other (slots room) x s) same in
+          elim (ℕ-discrete (refusalOfRequest p (slots room) r s) 0) [
             | yes z ↦
-                rw (eq-eqb (refusalOfRequest p room r s) 0 z, eq-eqb (refusalOfRequest other room r′ s) 0 (sym refusals ∙ z))
-                (more (step p r s) (k + 1) (step-passes p room P S s r h top z)
-                ∙ ap (λ (t : Search). chooseFrom other room m t (k + 1)) (step-same P S s r h top z ∙ ap (λ (x : List ℕ). step other x s) same))
+                rw (eq-eqb (refusalOfRequest p (slots room) r s) 0 z, eq-eqb (refusalOfRequest other (slots room) r′ s) 0 (sym refusals ∙ z))
+                (more (step p (slots room) r s) (k + 1) (step-passes p (slots room) (slots-lawful room) P S s r h top z)
+                ∙ ap (λ (t : Search). chooseFrom other (slots room) m t (k + 1)) (step-same P S s r h top z ∙ ap (λ (x : List ℕ). step other (slots room) x s) same))
             | no f ↦
-                rw (ne-eqb (refusalOfRequest p room r s) 0 f, ne-eqb (refusalOfRequest other room r′ s) 0 (λ z. f (refusals ∙ z)))
-                (ap (λ (x : ℕ). record { search = s; refusal = x; taken = k }) refusals)
+                rw (ne-eqb (refusalOfRequest p (slots room) r s) 0 f, ne-eqb (refusalOfRequest other (slots room) r′ s) 0 (λ z. f (refusals ∙ z)))
+                (ap (λ (x : ℕ). stop s x k) refusals)
           ]
 
-      go : ((t : Search) (j : ℕ) → Passes p room t → chooseFrom p room m t j ≡ chooseFrom other room m t j) → (b : Bool)
-          → finished (p .n) (s .stack) ≡ b
-          → cond b (record { search = s; refusal = 0; taken = k }) first ≡ cond b (record { search = s; refusal = 0; taken = k }) second
+      go : ((t : Search) (j : ℕ) → Passes p (slots room) t → chooseFrom p (slots room) m t j ≡ chooseFrom other (slots room) m t j) → (b : Bool)
+          → finished (p .n) (s .memory) ≡ b
+          → cond b (stop s 0 k) first ≡ cond b (stop s 0 k) second
       go more true e = refl
       go more false e = next more e
 
   -- The chooser stops alike.
-  pub choose-same : (limit : ℕ) (s : Search) → Passes p room s → choose p room limit s ≡ choose other room limit s
+  pub choose-same : (limit : ℕ) (s : Search) → Passes p (slots room) s → choose p (slots room) limit s ≡ choose other (slots room) limit s
   choose-same limit s h = choose-from limit s 0 h

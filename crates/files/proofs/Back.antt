@@ -10,9 +10,9 @@ use borrow.Author.Tests.{le-ltb}
 use Rattle.problem.specs.Problem.{Table, Allow-same, tableOf, Words}
 use Rattle.splits.specs.declared.subproblem.Subproblem.{Subproblem}
 use Rattle.search.specs.Agenda.{Shape, slotsIn, agendaOf}
+use Rattle.search.specs.Slots.{Search}
 use Rattle.search.specs.FirstChecks.{WholeSlots}
 use Rattle.search.specs.Tests.FirstChecks.{refusalOfLengths, searchRefusal}
-use Rattle.search.specs.Runs.{Search}
 use Rattle.search.specs.Calls.{searchOf}
 use Rattle.search.specs.declared.state.State.{State}
 use Rattle.search.proofs.Encoding.{length-stackOf, agenda-back}
@@ -35,7 +35,7 @@ use Rattle.files.proofs.Refusals.{save-none}
 
 -- The state that says a search.
 unfoldable pub stateOf : Search → State
-stateOf x = record { counts = record { steps = record { 0 = x .steps }; checks = record { 0 = x .checks } }; subproblems = length (x .stack) }
+stateOf x = record { counts = record { steps = record { 0 = x .steps }; checks = record { 0 = x .checks } }; subproblems = length (x .memory) }
 
 -- What load returns and leaves.
 pub record Lent (file : List ℕ) (n d : ℕ) (domains : List ℕ) (x : Search) (words : ℕ) (r : Loaded) (domains′ tables′ agenda′ : List ℕ) : Type 0 where
@@ -44,12 +44,12 @@ pub record Lent (file : List ℕ) (n d : ℕ) (domains : List ℕ) (x : Search) 
   pub its-d : r .d ≡ d
   pub its-domains : domains′ ≡ domains
   pub its-tables : tables′ ≡ tableWords n d (saidAllowed file)
-  pub its-agenda : agenda′ ≡ agendaOf n words (x .stack)
+  pub its-agenda : agenda′ ≡ agendaOf n words (x .memory)
   pub its-state : r .state ≡ stateOf x
 
 module _ (file : List ℕ) (n d : ℕ) (domains : List ℕ) (allowed : Table) (x : Search) (says : Says file n d domains allowed x) where
   -- Into buffers that fit it is not refused.
-  load-passes : (domains₀ tables₀ agenda₀ : ℕ) → Fits n d domains₀ tables₀ agenda₀ → length (x .stack) ≤ slotsIn n agenda₀
+  load-passes : (domains₀ tables₀ agenda₀ : ℕ) → Fits n d domains₀ tables₀ agenda₀ → length (x .memory) ≤ slotsIn n agenda₀
       → loadRefusal file domains₀ tables₀ agenda₀ ≡ 0
   unfolding loadRefusal
   load-passes domains₀ tables₀ agenda₀ fits room =
@@ -61,14 +61,14 @@ module _ (file : List ℕ) (n d : ℕ) (domains : List ℕ) (allowed : Table) (x
   -- What it returns and leaves is what the file says.
   pub lent : (domains₀ domains′ tables₀ tables′ agenda₀ agenda′ : List ℕ) (r : Loaded)
       → Loads file domains₀ domains′ tables₀ tables′ agenda₀ agenda′ r
-      → Fits n d (length domains₀) (length tables₀) (length agenda₀) → length (x .stack) ≤ slotsIn n (length agenda₀)
+      → Fits n d (length domains₀) (length tables₀) (length agenda₀) → length (x .memory) ≤ slotsIn n (length agenda₀)
       → Lent file n d domains x (length agenda₀) r domains′ tables′ agenda′
   unfolding stateOf
   lent domains₀ domains′ tables₀ tables′ agenda₀ agenda′ r h fits room =
       let none = load-passes (length domains₀) (length tables₀) (length agenda₀) fits room in
       let steps : r .state .counts .steps .0 ≡ x .steps = (rw none at (h .steps)) ∙ ap (λ (y : Search). y .steps) (says .its-search) in
       let checks : r .state .counts .checks .0 ≡ x .checks = (rw none at (h .checks)) ∙ ap (λ (y : Search). y .checks) (says .its-search) in
-      let subproblems : r .state .subproblems ≡ length (x .stack) = (rw none at (h .subproblems)) ∙ says .its-subproblems in
+      let subproblems : r .state .subproblems ≡ length (x .memory) = (rw none at (h .subproblems)) ∙ says .its-subproblems in
       record {
         refusal = h .refusal ∙ none;
         its-n = (rw none at (h .its-n)) ∙ says .its-n;
@@ -76,7 +76,7 @@ module _ (file : List ℕ) (n d : ℕ) (domains : List ℕ) (allowed : Table) (x
         its-domains = (rw none at (h .its-domains)) ∙ says .its-domains;
         its-tables = (rw none at (h .its-tables)) ∙ ap₂ (λ (n d : ℕ). tableWords n d (saidAllowed file)) (says .its-n) (says .its-d);
         its-agenda =
-            (rw none at (h .its-agenda)) ∙ ap₂ (λ (n : ℕ) (y : Search). agendaOf n (length agenda₀) (y .stack)) (says .its-n) (says .its-search);
+            (rw none at (h .its-agenda)) ∙ ap₂ (λ (n : ℕ) (y : Search). agendaOf n (length agenda₀) (y .memory)) (says .its-n) (says .its-search);
         its-state = λ i. record { counts = record { steps = record { 0 = steps i }; checks = record { 0 = checks i } }; subproblems = subproblems i };
       }
 
@@ -96,12 +96,12 @@ module _ (n d : ℕ) (domains tables agenda : List ℕ) (s : State) (before afte
       ∙ take-at (fileOf c) (drop (length (fileOf c)) before) (512 * blocksFor (length c)) (file-length c)
 
 -- Its memory and state say it.
-state-search : (n : ℕ) → n ≤ 32 → (words : ℕ) (x : Search) → ((P : Subproblem) → List·Memᴰ P (x .stack) → Shape n 16 P)
-    → searchOf n (agendaOf n words (x .stack)) (stateOf x) ≡ x
+state-search : (n : ℕ) → n ≤ 32 → (words : ℕ) (x : Search) → ((P : Subproblem) → List·Memᴰ P (x .memory) → Shape n 16 P)
+    → searchOf n (agendaOf n words (x .memory)) (stateOf x) ≡ x
 unfolding stateOf
 state-search n few words x shape =
-    let stack = agenda-back n 16 words (x .stack) few shape in
-    λ i. record { stack = stack i; steps = x .steps; checks = x .checks }
+    let stack = agenda-back n 16 words (x .memory) few shape in
+    λ i. record { memory = stack i; steps = x .steps; checks = x .checks }
 
 -- Load of what save wrote returns and leaves the search that was saved.
 module _ (n d : ℕ) (domains tables agenda : List ℕ) (s : State) (before after : List ℕ) (saved : Saved)
@@ -127,8 +127,8 @@ module _ (n d : ℕ) (domains tables agenda : List ℕ) (s : State) (before afte
       let given : Loads file domains₀ domains′ tables₀ tables′ agenda₀ agenda′ r = rw
       (written-blocks n d domains tables agenda s before after saved h none) at l in
       let fits : Fits n d (length domains₀) (length tables₀) (length agenda₀) = record { domain-words = ds; table-words = ts; slots = ws } in
-      let size : length (x .stack) ≡ s .subproblems = length-stackOf n agenda (s .subproblems) in
-      let slots : length (x .stack) ≤ slotsIn n (length agenda₀) = omega arith in
+      let size : length (x .memory) ≡ s .subproblems = length-stackOf n agenda (s .subproblems) in
+      let slots : length (x .memory) ≤ slotsIn n (length agenda₀) = omega arith in
       lent file n d domains (tableOf n d tables) x says-it domains₀ domains′ tables₀ tables′ agenda₀ agenda′ r given fits slots
 
   -- It gives the search back.
@@ -172,7 +172,7 @@ module _ (file domains₀ domains tables₀ tables agenda₀ agenda : List ℕ) 
   tables′ = tableWords (saidN file) (saidD file) (saidAllowed file)
 
   agenda′ : List ℕ
-  agenda′ = agendaOf (saidN file) (length agenda₀) (saidSearch file .stack)
+  agenda′ = agendaOf (saidN file) (length agenda₀) (saidSearch file .memory)
 
   -- Its content is the file's.
   content-is : fileOf (handedContent (saidN file) (saidD file) (saidDomains file) tables′ agenda′ state) ≡ file
@@ -191,7 +191,7 @@ module _ (file domains₀ domains tables₀ tables agenda₀ agenda : List ℕ) 
   first-passes =
       let t = load-taken file (length domains₀) (length tables₀) (length agenda₀) passes in
       search-is-passed (saidN file) (saidD file) (saidDomains file) (tableWords (saidN file) (saidD file) (saidAllowed file))
-      (agendaOf (saidN file) (length agenda₀) (saidSearch file .stack)) (saidSteps file) (saidChecks file) (saidSubproblems file) .1
+      (agendaOf (saidN file) (length agenda₀) (saidSearch file .memory)) (saidSteps file) (saidChecks file) (saidSubproblems file) .1
       (said-passing file (t .accepts) bytes (length agenda₀) (t .lengths .slots) (t .room))
 
   saves-again : (before after : List ℕ) (saved : Saved) → Saves (saidN file) (saidD file) (saidDomains file) tables′ agenda′ state before after saved

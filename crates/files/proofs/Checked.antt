@@ -61,7 +61,7 @@ words-said file n from m small =
 -- With zeros after them they are the agenda of the stack that the file says.
 pub agenda-said : (file : List ℕ) (words : ℕ) → Bytes file
     → contentFrom file (agendaFrom (saidN file) (saidD file)) (saidSubproblems file * (saidN file + 2)) ++ replicate (words - saidSubproblems file * (saidN file + 2)) 0
-    ≡ agendaOf (saidN file) words (saidSearch file .stack)
+    ≡ agendaOf (saidN file) words (saidSearch file .memory)
 unfolding agendaOf saidAgenda
 agenda-said file words small =
     let n : ℕ = saidN file in
@@ -100,7 +100,7 @@ module _ (file : List ℕ) (small : Bytes file) (whole : Whole file) (sized : si
 
   -- The largest agenda.
   abbrev memory : List ℕ
-  memory = agendaOf (saidN file) (512 * (saidN file + 2)) (saidSearch file .stack)
+  memory = agendaOf (saidN file) (512 * (saidN file + 2)) (saidSearch file .memory)
 
   slots : WholeSlots (saidN file) (512 * (saidN file + 2))
   slots = (512, omega arith, omega arith, refl)
@@ -125,11 +125,11 @@ module _ (file : List ℕ) (small : Bytes file) (whole : Whole file) (sized : si
       ∙ ap (λ (t : List ℕ). contentFrom file (agendaFrom (saidN file) (saidD file)) used ++ t) zeros ∙ agenda-said file (512 * (n + 2)) small
 
   -- It holds the stack that the file says.
-  memory-read : stackOf (saidN file) memory (saidSubproblems file) ≡ saidSearch file .stack
+  memory-read : stackOf (saidN file) memory (saidSubproblems file) ≡ saidSearch file .memory
   memory-read =
       let few = numbers .0 .variables in
       ap (stackOf (saidN file) memory) (sym (said-length file small few))
-      ∙ agenda-back (saidN file) 16 (512 * (saidN file + 2)) (saidSearch file .stack) few (said-shape file small few)
+      ∙ agenda-back (saidN file) 16 (512 * (saidN file + 2)) (saidSearch file .memory) few (said-shape file small few)
 
   -- The refusal of the first checks.
   abbrev checked : ℕ
@@ -187,7 +187,7 @@ module _ (file words tables ds slots : List ℕ) (small : Bytes file) (ready : R
   domains-read : ds ≡ saidDomains file
   domains-read = is-ds ∙ part-read file words (ready .read) 9 n (omega (arith, fitting .0 .variables)) ∙ ap (contentFrom file 9) is-n
 
-  slots-read : slots ≡ agendaOf (saidN file) (512 * (saidN file + 2)) (saidSearch file .stack)
+  slots-read : slots ≡ agendaOf (saidN file) (512 * (saidN file + 2)) (saidSearch file .memory)
   slots-read =
       is-slots ∙ part-read file words (ready .read) (agendaFrom (saidN file) (saidD file)) (512 * (saidN file + 2))
       (omega (arith, triangle-few (saidN file) (saidD file) (fitting .0), fitting .0 .variables))

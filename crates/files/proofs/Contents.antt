@@ -12,7 +12,7 @@ use Rattle.problem.specs.Masks.{bit}
 use Rattle.problem.specs.Problem.{Table}
 use Rattle.splits.specs.declared.subproblem.Subproblem.{Subproblem}
 use Rattle.search.specs.Agenda.{Shape, stackOf, stackWords}
-use Rattle.search.specs.Runs.{Search}
+use Rattle.search.specs.Slots.{Search}
 use Rattle.search.proofs.Encoding.{stack-back}
 use Rattle.files.specs.Content.{triangle, contentOf}
 use Rattle.files.specs.Reading.{contentWord, contentFrom, saidN, saidD, saidSteps, saidChecks, saidSubproblems, saidDomains, saidAllowed, saidAgenda, saidSearch, saidWords, triangleWords, trianglePlace, gathered}
@@ -45,24 +45,24 @@ four-words x =
 
 -- How many words a content has.
 pub content-words : (n d : ℕ) (domains : List ℕ) (allowed : Table) (s : Search) → length domains ≡ n
-    → length (contentOf n d domains allowed s) ≡ 9 + n + triangleWords n d + length (stackWords n (s .stack))
+    → length (contentOf n d domains allowed s) ≡ 9 + n + triangleWords n d + length (stackWords n (s .memory))
 unfolding contentOf
 content-words n d domains allowed s words =
     omega (
       arith,
-      length-append (domains ++ triangle n d allowed) (stackWords n (s .stack)),
+      length-append (domains ++ triangle n d allowed) (stackWords n (s .memory)),
       length-append domains (triangle n d allowed),
       triangle-length n d allowed,
     )
 
 module _ (n d : ℕ) (domains : List ℕ) (allowed : Table) (s : Search) (few : n ≤ 32) (words : length domains ≡ n)
-    (shape : (P : Subproblem) → List·Memᴰ P (s .stack) → Shape n 16 P) where
+    (shape : (P : Subproblem) → List·Memᴰ P (s .memory) → Shape n 16 P) where
   -- So many where its stack is as memory holds it.
-  pub content-length : length (contentOf n d domains allowed s) ≡ 9 + n + triangleWords n d + length (s .stack) * (n + 2)
-  content-length = omega (arith, content-words n d domains allowed s words, shape-length n few (s .stack) shape)
+  pub content-length : length (contentOf n d domains allowed s) ≡ 9 + n + triangleWords n d + length (s .memory) * (n + 2)
+  content-length = omega (arith, content-words n d domains allowed s words, shape-length n few (s .memory) shape)
 
   -- After nine words the domains, then the tables, then the agenda.
-  content-tail : (k : ℕ) → getD (contentOf n d domains allowed s) (9 + k) 0 ≡ getD (domains ++ triangle n d allowed ++ stackWords n (s .stack)) k 0
+  content-tail : (k : ℕ) → getD (contentOf n d domains allowed s) (9 + k) 0 ≡ getD (domains ++ triangle n d allowed ++ stackWords n (s .memory)) k 0
   unfolding contentOf
   content-tail k =
       let at : 9 + k ≡ suc (suc (suc (suc (suc (suc (suc (suc (suc k)))))))) = omega arith in
@@ -70,23 +70,23 @@ module _ (n d : ℕ) (domains : List ℕ) (allowed : Table) (s : Search) (few : 
 
   -- The domains.
   pub content-domain : (k : ℕ) → k < n → getD (contentOf n d domains allowed s) (9 + k) 0 ≡ getD domains k 0
-  content-domain k l = content-tail k ∙ first-at domains (triangle n d allowed) (stackWords n (s .stack)) k (omega arith)
+  content-domain k l = content-tail k ∙ first-at domains (triangle n d allowed) (stackWords n (s .memory)) k (omega arith)
 
   -- The masks of the tables.
   pub content-mask : (i j a : ℕ) → i < j → j < n → a < d → getD (contentOf n d domains allowed s) (9 + n + trianglePlace n d i j a) 0 ≡ allowed i j a
   content-mask i j a h l m =
       let at : 9 + n + trianglePlace n d i j a ≡ 9 + (n + trianglePlace n d i j a) = omega arith in
       ap (λ (x : ℕ). getD (contentOf n d domains allowed s) x 0) at ∙ content-tail (n + trianglePlace n d i j a)
-      ∙ second-at domains (triangle n d allowed) (stackWords n (s .stack)) n (trianglePlace n d i j a) words
+      ∙ second-at domains (triangle n d allowed) (stackWords n (s .memory)) n (trianglePlace n d i j a) words
       (rw (triangle-length n d allowed) (place-lt n d i j a h l m))
       ∙ triangle-at n d allowed i j a h l m
 
   -- The agenda.
-  pub content-agenda : (k : ℕ) → getD (contentOf n d domains allowed s) (9 + n + triangleWords n d + k) 0 ≡ getD (stackWords n (s .stack)) k 0
+  pub content-agenda : (k : ℕ) → getD (contentOf n d domains allowed s) (9 + n + triangleWords n d + k) 0 ≡ getD (stackWords n (s .memory)) k 0
   content-agenda k =
       let at : 9 + n + triangleWords n d + k ≡ 9 + (n + triangleWords n d + k) = omega arith in
       ap (λ (x : ℕ). getD (contentOf n d domains allowed s) x 0) at ∙ content-tail (n + triangleWords n d + k)
-      ∙ third-at domains (triangle n d allowed) (stackWords n (s .stack)) n (triangleWords n d) k words (triangle-length n d allowed)
+      ∙ third-at domains (triangle n d allowed) (stackWords n (s .memory)) n (triangleWords n d) k words (triangle-length n d allowed)
 
   -- ---- a file that holds it
 
@@ -119,7 +119,7 @@ module _ (n d : ℕ) (domains : List ℕ) (allowed : Table) (s : Search) (few : 
         (four-words (s .checks))
 
     -- It says the number of subproblems.
-    pub says-subproblems : saidSubproblems file ≡ length (s .stack)
+    pub says-subproblems : saidSubproblems file ≡ length (s .memory)
     unfolding contentOf
     says-subproblems = holds 8 (omega (arith, content-length))
 
@@ -134,22 +134,22 @@ module _ (n d : ℕ) (domains : List ℕ) (allowed : Table) (s : Search) (few : 
     says-words = rw (says-n, says-d, says-subproblems) (sym content-length)
 
     -- It says the words of the stack.
-    pub says-agenda : saidAgenda file ≡ stackWords n (s .stack)
+    pub says-agenda : saidAgenda file ≡ stackWords n (s .memory)
     unfolding saidAgenda contentFrom
     says-agenda =
         rw (says-n, says-d, says-subproblems)
-        (map-is (λ k. contentWord file (9 + n + triangleWords n d + k)) (length (s .stack) * (n + 2)) (stackWords n (s .stack))
-        (shape-length n few (s .stack) shape) (λ k l. holds (9 + n + triangleWords n d + k) (omega (arith, content-length)) ∙ content-agenda k))
+        (map-is (λ k. contentWord file (9 + n + triangleWords n d + k)) (length (s .memory) * (n + 2)) (stackWords n (s .memory))
+        (shape-length n few (s .memory) shape) (λ k l. holds (9 + n + triangleWords n d + k) (omega (arith, content-length)) ∙ content-agenda k))
 
     -- It says the stack.
-    pub says-stack : saidSearch file .stack ≡ s .stack
+    pub says-stack : saidSearch file .memory ≡ s .memory
     says-stack =
         rw (says-n, says-agenda, says-subproblems)
-        (ap (λ (l : List ℕ). stackOf n l (length (s .stack))) (sym (append-nil (stackWords n (s .stack)))) ∙ stack-back n 16 (s .stack) [] few shape)
+        (ap (λ (l : List ℕ). stackOf n l (length (s .memory))) (sym (append-nil (stackWords n (s .memory)))) ∙ stack-back n 16 (s .memory) [] few shape)
 
     -- It says the search.
     pub says-search : saidSearch file ≡ s
-    says-search = λ i. record { stack = says-stack i; steps = says-steps i; checks = says-checks i }
+    says-search = λ i. record { memory = says-stack i; steps = says-steps i; checks = says-checks i }
 
     -- What is allowed, of a table that is symmetric.
     mask-at : (i j a : ℕ) → i < j → j < n → a < d

@@ -11,11 +11,12 @@ use lib.Dec.{eqb}
 use borrow.Author.Tests.{ne-eqb}
 use Rattle.problem.specs.Problem.{tableOf, AgreeApart, problemOf}
 use Rattle.search.specs.Agenda.{slotsIn}
+use Rattle.search.specs.Slots.{slots, Stopped}
 use Rattle.search.specs.Tests.FirstChecks.{openRefusal, searchRefusal, runRefusal}
-use Rattle.search.specs.Runs.{Stopped, run, requestsIn}
-use Rattle.search.specs.Chooser.{choose}
+use Rattle.searches.specs.Runs.{run, requestsIn}
+use Rattle.searches.specs.Chooser.{choose}
 use Rattle.search.specs.Calls.{searchOf, Opens, Ends, Runs, Chooses}
-use Rattle.search.specs.Promises.{Passes}
+use Rattle.searches.specs.Reached.{Passes}
 use Rattle.search.specs.declared.state.State.{State}
 use Rattle.search.specs.declared.state.Opened.{Opened}
 use Rattle.search.specs.declared.state.Ran.{Ran}
@@ -31,7 +32,7 @@ use Rattle.files.proofs.AgreeingRuns.{run-same, choose-same}
 -- A search that passed the first checks, as the search crate says it (its promise Handed-passes asks that the agenda holds words).
 passed-passes : (n d : ℕ) (domains tables agenda : List ℕ) (s : State) → s .counts .steps .0 ≤ 4294967295
     → PassedSearch n d domains tables agenda (s .counts .steps .0) (s .counts .checks .0) (s .subproblems)
-    → Passes (problemOf n d domains tables) (slotsIn n (length agenda)) (searchOf n agenda s)
+    → Passes (problemOf n d domains tables) (slots (slotsIn n (length agenda))) (searchOf n agenda s)
 passed-passes n d domains tables agenda s l h = record {
   proper = h .passed .proper;
   rules = h .rules;
@@ -98,8 +99,8 @@ module _ (n d : ℕ) (domains tables tables′ : List ℕ) (same : AgreeApart n 
   diagonal-run before after requests s r l h =
       rw (← run-refusal-same before requests (s .counts .steps .0) (s .counts .checks .0) (s .subproblems)) (ends-swap
       (runRefusal n d domains tables before requests (s .counts .steps .0) (s .counts .checks .0) (s .subproblems)) n before after s
-      (run (problemOf n d domains tables) (slotsIn n (length before)) (requestsIn n requests) (searchOf n before s))
-      (run (problemOf n d domains tables′) (slotsIn n (length before)) (requestsIn n requests) (searchOf n before s)) r
+      (run (problemOf n d domains tables) (slots (slotsIn n (length before))) (requestsIn n requests) (searchOf n before s))
+      (run (problemOf n d domains tables′) (slots (slotsIn n (length before))) (requestsIn n requests) (searchOf n before s)) r
       (λ e. run-same (problemOf n d domains tables) (tableOf n d tables′) (same .masks) (slotsIn n (length before)) (requestsIn n requests) (searchOf n before s)
       (passed-passes n d domains tables before s l
       (run-is-passed n d domains tables before (s .counts .steps .0) (s .counts .checks .0) (s .subproblems) requests .0 e .0))) h)
@@ -111,8 +112,8 @@ module _ (n d : ℕ) (domains tables tables′ : List ℕ) (same : AgreeApart n 
   diagonal-choose before after limit s r l h =
       rw (← search-same before (s .counts .steps .0) (s .counts .checks .0) (s .subproblems)) (ends-swap
       (searchRefusal n d domains tables before (s .counts .steps .0) (s .counts .checks .0) (s .subproblems)) n before after s
-      (choose (problemOf n d domains tables) (slotsIn n (length before)) limit (searchOf n before s))
-      (choose (problemOf n d domains tables′) (slotsIn n (length before)) limit (searchOf n before s)) r
+      (choose (problemOf n d domains tables) (slots (slotsIn n (length before))) limit (searchOf n before s))
+      (choose (problemOf n d domains tables′) (slots (slotsIn n (length before))) limit (searchOf n before s)) r
       (λ e. choose-same (problemOf n d domains tables) (tableOf n d tables′) (same .masks) (slotsIn n (length before)) limit (searchOf n before s)
       (passed-passes n d domains tables before s l
       (search-is-passed n d domains tables before (s .counts .steps .0) (s .counts .checks .0) (s .subproblems) .0 e))) h)

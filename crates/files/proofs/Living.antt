@@ -11,20 +11,25 @@ use lib.Dec.{eqb}
 use borrow.Author.Tests.{ne-eqb}
 use Rattle.problem.specs.Problem.{Allow-same, Proper, tableOf, AgreeApart, problemOf}
 use Rattle.search.specs.Agenda.{stackOf, slotsIn, agendaOf}
-use Rattle.search.specs.Runs.{requestsIn}
+use Rattle.search.specs.Slots.{slots}
+use Rattle.searches.specs.Runs.{requestsIn}
 use Rattle.search.specs.FirstChecks.{WholeSlots}
 use Rattle.search.specs.Tests.FirstChecks.{runRefusal}
-use Rattle.search.specs.Verdicts.{numberOf, verdictOf}
+use Rattle.searches.specs.Verdicts.{numberOf, verdictOf}
 use Rattle.search.specs.Calls.{searchOf, Runs}
-use Rattle.search.specs.Promises.{Shown, Handed, Leaves, Reached, Has-solution}
+use Rattle.searches.specs.Promises.{Shown, Has-solution}
+use Rattle.search.specs.Promises.{Handed, Leaves, Reached}
 use Rattle.search.specs.declared.state.State.{State}
 use Rattle.search.specs.declared.state.Ran.{Ran}
-use Rattle.search.specs.declared.state.Verdict.{Verdict}
-use Rattle.search.specs.declared.state.Verdict.the-variants.{None}
+use Rattle.searches.specs.declared.verdict.Verdict.{Verdict}
+use Rattle.searches.specs.declared.verdict.Verdict.the-variants.{None}
 use Rattle.search.proofs.first_checks.FirstPassing.{Passed, run-is-passed}
 use Rattle.search.proofs.Encoding.{length-stackOf}
 use Rattle.search.proofs.HandedOn.{known, leaves, some-slots, whole-requests}
-use Rattle.search.proofs.Promises.{open-leaves, run-leaves, chooser-leaves, run-says, reached-passes, reached-unsolvable, solved-shows}
+use Rattle.search.proofs.Promises.{open-leaves, run-leaves, chooser-leaves, run-says}
+use Rattle.search.proofs.Reaching.{reached-opened, reached-moved, reached-passes, reached-unsolvable}
+use Rattle.searches.specs.Reached.{Reached as ReachedBy}
+use Rattle.searches.proofs.Promises.{solved-shows}
 use Rattle.files.specs.Blocks.{fileOf}
 use Rattle.files.specs.Reading.{saidAllowed, tableWords}
 use Rattle.files.specs.Calls.{handedContent, saveRefusal, Saves, Loads}
@@ -75,7 +80,7 @@ module _ (n d : ℕ) (domains opened-tables tables agenda : List ℕ) (s : State
       (written-blocks n d domains tables agenda s before after saved saves passes) at loads in
       let t = load-taken file (length domains₀) (length tables₀) (length agenda₀) (sym (given .refusal) ∙ accepted) in
       let fits : Fits n d (length domains₀) (length tables₀) (length agenda₀) = rw (says .its-n, says .its-d) at (t .lengths) in
-      let room : length (x .stack) ≤ slotsIn n (length agenda₀) = rw (says .its-subproblems, says .its-n) at (t .room) in
+      let room : length (x .memory) ≤ slotsIn n (length agenda₀) = rw (says .its-subproblems, says .its-n) at (t .room) in
       let back = lent file n d domains (tableOf n d tables) x says domains₀ domains′ tables₀ tables′ agenda₀ agenda′ r given fits room in
       let agree : Allow-same n d (tableOf n d tables) (tableOf n d tables′) =
       rw (back .its-tables)
@@ -83,7 +88,7 @@ module _ (n d : ℕ) (domains opened-tables tables agenda : List ℕ) (s : State
       let proper : Proper (problemOf n d domains tables′) = proper-agree n d (λ i. getD domains i 0) (tableOf n d tables) (tableOf n d tables′) agree
       (life .proper) in
       let reached : Reached n d domains tables′ (slotsIn n (length agenda₀)) x =
-      reached-agree n d domains tables (life .proper) tables′ agree (Reached.moved (life .reached) room) in
+      reached-agree n d domains tables (life .proper) tables′ agree (reached-moved (life .reached) room) in
       let long : length tables′ ≡ n * n * d = ap length (back .its-tables) ∙ table-length n d (saidAllowed file) in
       let passed : Passed n d domains tables′ agenda₀ = record
       { proper = proper; domains-words = life .words; tables-words = long; slots = fits .slots } in
@@ -110,17 +115,17 @@ module _ (n d : ℕ) (domains opened-tables tables agenda : List ℕ) (s : State
   moved-to =
       let k = known n d domains tables agenda s (life .handed) in
       let x = searchOf n agenda s in
-      let count : length (x .stack) ≡ s .subproblems = length-stackOf n agenda (s .subproblems) in
+      let count : length (x .memory) ≡ s .subproblems = length-stackOf n agenda (s .subproblems) in
       let other : List ℕ = replicate words 0 in
       let long : length other ≡ words = length-replicate words 0 in
-      let room : length (x .stack) ≤ slotsIn n words = omega arith in
-      let reached : Reached n d domains tables (slotsIn n words) x = Reached.moved (life .reached) room in
+      let room : length (x .memory) ≤ slotsIn n words = omega arith in
+      let reached : Reached n d domains tables (slotsIn n words) x = reached-moved (life .reached) room in
       let passed : Passed n d domains tables other =
       record { proper = life .proper; domains-words = life .words; tables-words = k .passed .passed .tables-words; slots = rw long slots } in
       let passes = reached-passes n d domains tables (slotsIn n words) x (life .proper) reached in
       let l =
-      leaves n d domains tables other (agendaOf n words (x .stack)) s x passed (rw long passes) (k .shaped)
-      (ap (λ (w : ℕ). agendaOf n w (x .stack)) (sym long)) refl refl (sym count) in
+      leaves n d domains tables other (agendaOf n words (x .memory)) s x passed (rw long passes) (k .shaped)
+      (ap (λ (w : ℕ). agendaOf n w (x .memory)) (sym long)) refl refl (sym count) in
       record {
         handed = l .handed;
         same = life .same;
@@ -140,21 +145,21 @@ lived {n} {d} {domains} {opened-tables} (opened {before} {after} {r} opens none)
       same = record { words = refl; masks = λ i j a h k f m. refl };
       proper = passed .proper;
       words = passed .domains-words;
-      reached = rw (l .search) (Reached.opened (some-slots n (length after) (passed .slots)));
+      reached = rw (l .search) (reached-opened n d domains opened-tables (slotsIn n (length after)) (some-slots n (length after) (passed .slots)));
     }
 lived {n} {d} {domains} {opened-tables} (ran {tables} {before} {after} {s} {r} h requests runs) =
     let life = lived h in
     let both = run-leaves n d domains tables before after requests s r (life .handed) runs in
     elim (whole-requests n (length requests)) [
       | yes w ↦
-          gone-on n d domains opened-tables tables before after s (r .state) life (both .0 w) (Reached.ran (life .reached) (requestsIn n requests))
+          gone-on n d domains opened-tables tables before after s (r .state) life (both .0 w) (ReachedBy.ran (life .reached) (requestsIn n requests))
       | no w ↦ gone-on n d domains opened-tables tables before after s (r .state) life (both .1 w) (life .reached)
     ]
 lived {n} {d} {domains} {opened-tables} (chose {tables} {before} {after} {s} {r} h limit chooses) =
     let life = lived h in
     gone-on n d domains opened-tables tables before after s (r .state) life
     (chooser-leaves n d domains tables before after limit s r (life .handed) chooses)
-    (Reached.chose (life .reached) limit)
+    (ReachedBy.chose (life .reached) limit)
 lived {n} {d} {domains} {opened-tables}
     (loaded {tables} {agenda} {before} {after} {domains₀} {domains′} {tables₀} {tables′} {agenda₀} {agenda′} {s} {saved} {r} h saves none loads accepted) =
     loaded-on n d domains opened-tables tables agenda s (lived h) before after saved saves none domains₀ domains′ tables₀ tables′ agenda₀ agenda′ r
@@ -182,7 +187,7 @@ module _ {n d : ℕ} {domains opened-tables tables agenda : List ℕ} {s : State
   pub says-solved : (v : Verdict) → v ≡ verdictOf n (stackOf n agenda (s .subproblems)) → numberOf v ≡ 2
       → Shown (problemOf n d domains opened-tables) (stackOf n agenda (s .subproblems))
   says-solved v e h =
-      solved-shows (problemOf n d domains opened-tables) (slotsIn n (length agenda)) (searchOf n agenda s)
+      solved-shows (problemOf n d domains opened-tables) (slots (slotsIn n (length agenda))) (searchOf n agenda s)
       (reached-passes n d domains opened-tables (slotsIn n (length agenda)) (searchOf n agenda s) proper₀ reached₀) (ap numberOf (sym e) ∙ h)
 
 -- A run that returns a verdict was handed whole requests, and its verdict is that of what it leaves.

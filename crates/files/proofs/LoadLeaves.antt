@@ -29,11 +29,11 @@ load-leaves file domains domains′ tables tables′ agenda agenda′ r bytes lo
     let d-is : r .d ≡ saidD file = rw test at (loads .its-d) in
     let domains-are : domains′ ≡ saidDomains file = rw test at (loads .its-domains) in
     let tables-are : tables′ ≡ tableWords (saidN file) (saidD file) (saidAllowed file) = rw test at (loads .its-tables) in
-    let agenda-is : agenda′ ≡ agendaOf (saidN file) (length agenda) (saidSearch file .stack) = rw test at (loads .its-agenda) in
+    let agenda-is : agenda′ ≡ agendaOf (saidN file) (length agenda) (saidSearch file .memory) = rw test at (loads .its-agenda) in
     let steps-are : r .state .counts .steps .0 ≡ saidSteps file = rw test at (loads .steps) in
     let checks-are : r .state .counts .checks .0 ≡ saidChecks file = rw test at (loads .checks) in
     let count-is : r .state .subproblems ≡ saidSubproblems file = rw test at (loads .subproblems) in
-    let shaped : Shaped (saidN file) 16 (saidSearch file .stack) = said-shape file bytes (t .accepts .variables) in
+    let shaped : Shaped (saidN file) 16 (saidSearch file .memory) = said-shape file bytes (t .accepts .variables) in
     let passes = search-is-passed _ _ _ _ _ _ _ _ .1 (said-passing file (t .accepts) bytes (length agenda) (t .lengths .slots) (t .room)) in
     let high = content-word-small file bytes 2 in
     let low = content-word-small file bytes 3 in
@@ -43,14 +43,14 @@ load-leaves file domains domains′ tables tables′ agenda agenda′ r bytes lo
       its-domains = domains-are;
       its-tables = tables-are;
       handed = record {
-        words = rw agenda-is (agenda-small (saidN file) 16 (length agenda) (saidSearch file .stack) (omega arith) shaped);
+        words = rw agenda-is (agenda-small (saidN file) 16 (length agenda) (saidSearch file .memory) (omega arith) shaped);
         stepped = rw steps-are (omega (arith, high, low));
         passes = rw (n-is, d-is, domains-are, tables-are, agenda-is, steps-are, checks-are, count-is) passes;
       };
       search = λ i. record {
-        stack = (ap (λ k. stackOf k agenda′ (r .state .subproblems)) n-is
+        memory = (ap (λ k. stackOf k agenda′ (r .state .subproblems)) n-is
             ∙ ap (λ l. stackOf (saidN file) l (r .state .subproblems)) agenda-is
-            ∙ ap (stackOf (saidN file) (agendaOf (saidN file) (length agenda) (saidSearch file .stack))) count-is
+            ∙ ap (stackOf (saidN file) (agendaOf (saidN file) (length agenda) (saidSearch file .memory))) count-is
             ∙ memory-read file (t .accepts) bytes (length agenda) (t .lengths .slots) (t .room)) i;
         steps = steps-are i;
         checks = checks-are i;

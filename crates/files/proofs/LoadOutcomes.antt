@@ -158,7 +158,7 @@ module _ (file domains tables agenda : List ℕ) (r : ℕ) (is-r : r ≡ loadRef
         subproblems = not-given refusal (saidSubproblems file) 0 (s .state .subproblems) g (z .subproblems);
         its-domains = not-given refusal (saidDomains file) domains domains g refl;
         its-tables = not-given refusal (tableWords (saidN file) (saidD file) (saidAllowed file)) tables tables g refl;
-        its-agenda = not-given refusal (agendaOf (saidN file) (length agenda) (saidSearch file .stack)) agenda agenda g refl;
+        its-agenda = not-given refusal (agendaOf (saidN file) (length agenda) (saidSearch file .memory)) agenda agenda g refl;
       }
 
   -- Accepted: what the file says.
@@ -193,7 +193,7 @@ module _ (file domains tables agenda : List ℕ) (r : ℕ) (is-r : r ≡ loadRef
         let few : used ≤ 17408 = slots-few n (saidSubproblems file) 512 (fitted .numbers .variables) (fitted .few) (omega arith) in
         let front : partIn words 9 n ≡ saidDomains file = part-read file words (ready .read) 9 n (omega (arith, fitted .numbers .variables)) in
         let back : partIn words from used ≡ contentFrom file from used = part-read file words (ready .read) from used (omega arith) in
-        let slots : agenda′ ≡ agendaOf n (length agenda) (saidSearch file .stack) = as′ ∙ rw back (agenda-said file (length agenda) small) in
+        let slots : agenda′ ≡ agendaOf n (length agenda) (saidSearch file .memory) = as′ ∙ rw back (agenda-said file (length agenda) small) in
         record {
           refusal = told .its ∙ sym z;
           its-n = given refusal n 0 (s .n) z (told .its-n);
@@ -203,5 +203,5 @@ module _ (file domains tables agenda : List ℕ) (r : ℕ) (is-r : r ≡ loadRef
           subproblems = given refusal (saidSubproblems file) 0 (s .state .subproblems) z (told .state .subproblems);
           its-domains = given refusal (saidDomains file) domains domains′ z (ds ∙ front);
           its-tables = given refusal (tableWords n (saidD file) (saidAllowed file)) tables tables′ z (ts ∙ ready .made);
-          its-agenda = given refusal (agendaOf n (length agenda) (saidSearch file .stack)) agenda agenda′ z slots;
+          its-agenda = given refusal (agendaOf n (length agenda) (saidSearch file .memory)) agenda agenda′ z slots;
         }

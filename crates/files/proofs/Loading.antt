@@ -78,24 +78,24 @@ module _ (file : List ℕ) (a : Accepts file) where
     within = le-trans (mul-le-mul-right (saidN file + 2) fits) (div-mul-le-self words (saidN file + 2))
 
     -- The agenda that load leaves is as long as the one lent.
-    pub memory-length : length (agendaOf (saidN file) words (saidSearch file .stack)) ≡ words
+    pub memory-length : length (agendaOf (saidN file) words (saidSearch file .memory)) ≡ words
     memory-length =
-        length-agenda (saidN file) words (saidSearch file .stack)
+        length-agenda (saidN file) words (saidSearch file .memory)
         (rw (
-          shape-length (saidN file) (a .variables) (saidSearch file .stack) (said-shape file bytes (a .variables)),
+          shape-length (saidN file) (a .variables) (saidSearch file .memory) (said-shape file bytes (a .variables)),
           said-length file bytes (a .variables),
         )
         within)
 
     -- It holds the stack that the file says.
-    pub memory-read : stackOf (saidN file) (agendaOf (saidN file) words (saidSearch file .stack)) (saidSubproblems file) ≡ saidSearch file .stack
+    pub memory-read : stackOf (saidN file) (agendaOf (saidN file) words (saidSearch file .memory)) (saidSubproblems file) ≡ saidSearch file .memory
     memory-read =
-        ap (stackOf (saidN file) (agendaOf (saidN file) words (saidSearch file .stack))) (sym (said-length file bytes (a .variables)))
-        ∙ agenda-back (saidN file) 16 words (saidSearch file .stack) (a .variables) (said-shape file bytes (a .variables))
+        ap (stackOf (saidN file) (agendaOf (saidN file) words (saidSearch file .memory))) (sym (said-length file bytes (a .variables)))
+        ∙ agenda-back (saidN file) 16 words (saidSearch file .memory) (a .variables) (said-shape file bytes (a .variables))
 
     -- What is loaded passes the first checks.
     pub said-passing : PassedSearch (saidN file) (saidD file) (saidDomains file) (tableWords (saidN file) (saidD file) (saidAllowed file))
-        (agendaOf (saidN file) words (saidSearch file .stack)) (saidSteps file) (saidChecks file) (saidSubproblems file)
+        (agendaOf (saidN file) words (saidSearch file .memory)) (saidSteps file) (saidChecks file) (saidSubproblems file)
     said-passing =
         let tables = tableOf (saidN file) (saidD file) (tableWords (saidN file) (saidD file) (saidAllowed file)) in
         record {
@@ -111,7 +111,7 @@ module _ (file : List ℕ) (a : Accepts file) where
               (a .rules P (rw memory-read at m));
           room = rw memory-length fits;
           zeros = λ k l m.
-              agenda-zeros (saidN file) 16 words (saidSearch file .stack) (a .variables) (said-shape file bytes (a .variables)) k
+              agenda-zeros (saidN file) 16 words (saidSearch file .memory) (a .variables) (said-shape file bytes (a .variables)) k
               (rw (said-length file bytes (a .variables)) l);
           limit = a .counted;
         }

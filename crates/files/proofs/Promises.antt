@@ -5,58 +5,12 @@ use native.Mathlib.Omega.{arith}
 use lib.ListN.{length}
 use Rattle.files.specs.Blocks.{blocksFor, carried, onesSum, checkOf}
 use Rattle.files.specs.Content.{contentOf}
-use Rattle.files.specs.Promises.{
-  N-one,
-  D-one,
-  Check-of-one,
-  RFC-1071,
-  Blocks-whole,
-  Blocks-read,
-  Blocks-length,
-  Blocks-bytes,
-  Check-word,
-  Sum-folded,
-  Load-after-save,
-  Save-after-load,
-  Loaded-passes,
-  Load-leaves,
-  Loads-back,
-  Saves-back,
-  Largest,
-  Largest-met,
-  Save-enough,
-  Save-first,
-  Save-13,
-  Save-none,
-  Load-14,
-  Load-15,
-  Load-3,
-  Load-12,
-  Load-none,
-  Save-one,
-  Load-one,
-  Diagonal-open,
-  Diagonal-run,
-  Diagonal-choose,
-  Diagonal-save,
-  Lived,
-  Lived-reached,
-  Lived-solvable,
-  Lived-steps,
-  Lived-checks,
-  Unsolvable-run,
-  Unsolvable-choose,
-  Solved-run,
-  Solved-choose,
-  Same-solutions,
-  Cut-any,
-  Cut-lived,
-  Cut-choose,
-}
+use Rattle.files.specs.Promises.{N-one, D-one, Check-of-one, RFC-1071, Blocks-whole, Blocks-read, Blocks-length, Blocks-bytes, Check-word, Sum-folded, Load-after-save, Save-after-load, Loaded-passes, Load-leaves, Loads-back, Saves-back, Largest, Largest-met, Save-enough, Save-first, Save-13, Save-none, Load-14, Load-15, Load-3, Load-12, Load-none, Save-one, Load-one, Diagonal-open, Diagonal-run, Diagonal-choose, Diagonal-save, Lived, Lived-reached, Lived-solvable, Lived-steps, Lived-checks, Unsolvable-run, Unsolvable-choose, Solved-run, Solved-choose, Same-solutions, Cut-any, Cut-lived, Cut-choose}
 use Rattle.problem.proofs.Answers.{one}
 use Rattle.search.proofs.Encoding.{length-stack}
 use Rattle.search.proofs.first_checks.FirstPassing.{search-is-passed}
-use Rattle.search.proofs.Promises.{reached-solvable, reached-steps, reached-checks, chooser-says}
+use Rattle.search.proofs.Reaching.{reached-solvable, reached-steps, reached-checks}
+use Rattle.search.proofs.Promises.{chooser-says}
 use Rattle.files.proofs.Sums
 use Rattle.files.proofs.Blocks
 use Rattle.files.proofs.Whole
@@ -122,7 +76,7 @@ largest n d domains allowed s few values words stack =
 pub largest-met : Largest-met
 unfolding blocksFor
 largest-met domains allowed s words stack wide =
-    let e = length-stack 32 (s .stack) (λ P m. omega (arith, wide P m)) in
+    let e = length-stack 32 (s .memory) (λ P m. omega (arith, wide P m)) in
     let l : length (contentOf 32 16 domains allowed s) ≡ 25385 = Contents.content-words 32 16 domains allowed s words ∙ rw (e, stack) refl in
     (l, rw l refl)
 

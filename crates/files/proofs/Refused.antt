@@ -15,22 +15,7 @@ use Rattle.problem.specs.Tests.FirstChecks.{orElse, refusalOfNumbers}
 use Rattle.search.specs.Tests.FirstChecks.{allObey, refusalOfLengths, sizesRefusal}
 use Rattle.problem.proofs.first_checks.Parts.{given-if, else-first, else-rest, else-pass}
 use Rattle.files.specs.Blocks.{blocksFor}
-use Rattle.files.specs.Reading.{
-  blocksIn,
-  contentWord,
-  saidN,
-  saidD,
-  saidSteps,
-  saidChecks,
-  saidSubproblems,
-  saidProblem,
-  saidSearch,
-  saidWords,
-  masksBelowTriangle,
-  refusalOfFile,
-  refusalOfWords,
-  wordCount,
-}
+use Rattle.files.specs.Reading.{blocksIn, contentWord, saidN, saidD, saidSteps, saidChecks, saidSubproblems, saidProblem, saidSearch, saidWords, masksBelowTriangle, refusalOfFile, refusalOfWords, wordCount}
 use Rattle.files.specs.Calls.{loadRefusal}
 use Rattle.files.specs.Work.Said.{Numbers, numbersSaid, zeroIn, filled, sizedIn, Read}
 
@@ -48,7 +33,7 @@ module _ (file : List ℕ) where
   rest : Bool
   rest =
       every (saidN file) (λ i. ltb (saidProblem file .domain i) (2 ^ saidD file)) && masksBelowTriangle file
-      && allObey (saidProblem file) (saidSearch file .stack) && leb (saidChecks file) (496 * saidSteps file)
+      && allObey (saidProblem file) (saidSearch file .memory) && leb (saidChecks file) (496 * saidSteps file)
 
   -- 15 is given exactly if a test fails.
   words-tests : refusalOfWords file ≡ cond (sizedIn file && rest) 0 15
@@ -59,7 +44,7 @@ module _ (file : List ℕ) where
       (eqb (blocksIn file) (blocksFor (saidWords file)))
       (every (blocksIn file * 253 - saidWords file) (λ k. eqb (contentWord file (saidWords file + k)) 0))
       (every (saidN file) (λ i. ltb (saidProblem file .domain i) (2 ^ saidD file))) (masksBelowTriangle file)
-      (allObey (saidProblem file) (saidSearch file .stack))
+      (allObey (saidProblem file) (saidSearch file .memory))
       (leb (saidChecks file) (496 * saidSteps file)))
 
   -- The numbers are out of their ranges.

@@ -7,7 +7,7 @@ use native.Mathlib.Omega.{arith}
 use native.Mathlib.Nat.{zero-add, suc-add, zero-mul, suc-mul, add-mul, mul-div-cancel, add-comm}
 use lib.ListN.{length, take, drop, length-append, length-drop}
 use lib.Seq.{take-append-le, drop-append-le, drop-drop}
-use Rattle.search.specs.Runs.{cutInto, requestsIn}
+use Rattle.searches.specs.Runs.{cutInto, requestsIn}
 use Rattle.search.specs.FirstChecks.{WholeRequests}
 
 cut-append : (m k size : ℕ) (a b : List ℕ) → length a ≡ m * size → cutInto (m + k) size (a ++ b) ≡ cutInto m size a ++ cutInto k size b

@@ -15,7 +15,7 @@ use Rattle.splits.specs.Subproblems.{Rules}
 use Rattle.problem.specs.Lists.{below}
 use Rattle.splits.specs.declared.subproblem.Subproblem.{Subproblem}
 use Rattle.search.specs.Agenda.{Shape, stackWords}
-use Rattle.search.specs.Runs.{Search}
+use Rattle.search.specs.Slots.{Search}
 use Rattle.search.proofs.Encoding.{length-stackOf, stack-of-words}
 use Rattle.files.specs.Blocks.{blocksFor, fileOf}
 use Rattle.files.specs.Content.{contentOf, triangle}
@@ -42,13 +42,13 @@ triangle-few n d h l =
     mul-le-mul half l
 
 module _ (n d : ℕ) (domains : List ℕ) (allowed : Table) (s : Search) (few : n ≤ 32) (values : d ≤ 16) (words : length domains ≡ n)
-    (stack : length (s .stack) ≤ 512) where
+    (stack : length (s .memory) ≤ 512) where
   -- A content has at most 25,385 words.
   pub content-few : length (contentOf n d domains allowed s) ≤ 25385
   content-few =
       let slot : n + 2 ≤ 34 = omega arith in
-      let slots : length (s .stack) * (n + 2) ≤ 512 * 34 = mul-le-mul stack slot in
-      omega (arith, content-words n d domains allowed s words, stack-most n (s .stack), triangle-few n d few values)
+      let slots : length (s .memory) * (n + 2) ≤ 512 * 34 = mul-le-mul stack slot in
+      omega (arith, content-words n d domains allowed s words, stack-most n (s .memory), triangle-few n d few values)
 
   -- It fills at most 101 blocks.
   pub blocks-few : blocksFor (length (contentOf n d domains allowed s)) ≤ 101
@@ -56,7 +56,7 @@ module _ (n d : ℕ) (domains : List ℕ) (allowed : Table) (s : Search) (few : 
   blocks-few = omega (arith, content-few)
 
 module _ (n d : ℕ) (domains : List ℕ) (allowed : Table) (s : Search) (few : n ≤ 32) (values : d ≤ 16) (words : length domains ≡ n)
-    (stack : length (s .stack) ≤ 512) (shape : (P : Subproblem) → List·Memᴰ P (s .stack) → Shape n 16 P) where
+    (stack : length (s .memory) ≤ 512) (shape : (P : Subproblem) → List·Memᴰ P (s .memory) → Shape n 16 P) where
   -- It fills at least one block.
   pub blocks-some : 1 ≤ blocksFor (length (contentOf n d domains allowed s))
   unfolding blocksFor
@@ -71,7 +71,7 @@ module _ (n d : ℕ) (domains : List ℕ) (allowed : Table) (s : Search) (few : 
   -- ---- load after save
 
   module _ (proper : Proper (with-table n d (λ i. getD domains i 0) allowed))
-      (rules : (P : Subproblem) → List·Memᴰ P (s .stack) → Rules (with-table n d (λ i. getD domains i 0) allowed) P) (counted : s .checks ≤ 496 * s .steps) where
+      (rules : (P : Subproblem) → List·Memᴰ P (s .memory) → Rules (with-table n d (λ i. getD domains i 0) allowed) P) (counted : s .checks ≤ 496 * s .steps) where
     file : List ℕ
     file = fileOf (contentOf n d domains allowed s)
 
@@ -163,12 +163,12 @@ module _ (file : List ℕ) (bytes : Bytes file) where
 
   module _ (few : saidN file ≤ 32) where
     -- Each subproblem that it says is as memory holds it.
-    pub said-shape : (P : Subproblem) → List·Memᴰ P (saidSearch file .stack) → Shape (saidN file) 16 P
+    pub said-shape : (P : Subproblem) → List·Memᴰ P (saidSearch file .memory) → Shape (saidN file) 16 P
     said-shape P m =
         of-shape (saidN file) few (saidAgenda file) agenda-small (saidSubproblems file) (omega (arith, agenda-length file)) P m
 
     -- They are as many as it says.
-    pub said-length : length (saidSearch file .stack) ≡ saidSubproblems file
+    pub said-length : length (saidSearch file .memory) ≡ saidSubproblems file
     said-length = length-stackOf (saidN file) (saidAgenda file) (saidSubproblems file)
 
     -- What the words say, put into words again, is the words.
@@ -177,7 +177,7 @@ module _ (file : List ℕ) (bytes : Bytes file) where
     masks-from =
         triangle-from (saidN file) (saidD file) (saidAllowed file) (contentWord file) (9 + saidN file) (λ i j a l k m. rw (lt-ltb i j l) refl)
 
-    agenda-from : stackWords (saidN file) (saidSearch file .stack)
+    agenda-from : stackWords (saidN file) (saidSearch file .memory)
         ≡ seq (contentWord file) (9 + saidN file + triangleWords (saidN file) (saidD file)) (saidSubproblems file * (saidN file + 2))
     unfolding saidAgenda contentFrom seq
     agenda-from =
@@ -203,7 +203,7 @@ module _ (file : List ℕ) (bytes : Bytes file) where
         checks = saidChecks file
 
         nine : saidN file ∷ saidD file ∷ steps / 65536 ∷ steps % 65536 ∷ checks / 2 ^ 48 ∷ checks / 2 ^ 32 % 65536 ∷ checks / 65536 % 65536 ∷ checks % 65536
-            ∷ length (saidSearch file .stack) ∷ []
+            ∷ length (saidSearch file .memory) ∷ []
             ≡ seq (contentWord file) 0 9
         nine =
             let g = contentWord file in

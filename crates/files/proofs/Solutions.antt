@@ -7,7 +7,7 @@ use Prim.Native.Nat.{ℕ, _^_, _<_}
 use lib.ListN.{getD}
 use Rattle.problem.specs.Problem.{Proper, Table, Allow-same, Solution, tableOf, problemOf}
 use Rattle.problem.proofs.mask.Masks.{member-lt}
-use Rattle.search.specs.Runs.{Search}
+use Rattle.search.specs.Slots.{Search}
 use Rattle.files.specs.Reading.{saidN, saidD, saidDomains, saidAllowed, tableWords}
 use Rattle.files.specs.Promises.{Says}
 use Rattle.files.proofs.Triangle.{table-other}

@@ -69,7 +69,7 @@ pub record LoadEnds (k : ℕ) (file domains domains′ tables tables′ agenda a
   pub subproblems : r .state .subproblems ≡ cond (eqb k 0) (saidSubproblems file) 0
   pub its-domains : domains′ ≡ cond (eqb k 0) (saidDomains file) domains
   pub its-tables : tables′ ≡ cond (eqb k 0) (tableWords (saidN file) (saidD file) (saidAllowed file)) tables
-  pub its-agenda : agenda′ ≡ cond (eqb k 0) (agendaOf (saidN file) (length agenda) (saidSearch file .stack)) agenda
+  pub its-agenda : agenda′ ≡ cond (eqb k 0) (agendaOf (saidN file) (length agenda) (saidSearch file .memory)) agenda
 
 abbrev pub Loads : List ℕ → List ℕ → List ℕ → List ℕ → List ℕ → List ℕ → List ℕ → Loaded → Type 0
 Loads file domains domains′ tables tables′ agenda agenda′ r =

@@ -6,7 +6,7 @@ use lib.Dec.{ltb}
 use Rattle.problem.specs.Problem.{Table}
 use Rattle.problem.specs.Lists.{below, keep}
 use Rattle.search.specs.Agenda.{stackWords}
-use Rattle.search.specs.Runs.{Search}
+use Rattle.search.specs.Slots.{Search}
 
 -- The words that f gives for each of a list, one after the other.
 unfoldable pub each : (ℕ → List ℕ) → List ℕ → List ℕ
@@ -29,5 +29,5 @@ firstWord n = n
 unfoldable pub contentOf : ℕ → ℕ → List ℕ → Table → Search → List ℕ
 contentOf n d domains allowed s =
     firstWord n ∷ d ∷ s .steps / 65536 ∷ s .steps % 65536
-    ∷ s .checks / 2 ^ 48 ∷ s .checks / 2 ^ 32 % 65536 ∷ s .checks / 65536 % 65536 ∷ s .checks % 65536 ∷ length (s .stack)
-    ∷ domains ++ triangle n d allowed ++ stackWords n (s .stack)
+    ∷ s .checks / 2 ^ 48 ∷ s .checks / 2 ^ 32 % 65536 ∷ s .checks / 65536 % 65536 ∷ s .checks % 65536 ∷ length (s .memory)
+    ∷ domains ++ triangle n d allowed ++ stackWords n (s .memory)

@@ -10,12 +10,13 @@ use Rattle.splitting.specs.Promises.{Solvable}
 use Rattle.problem.specs.Answers.{One}
 use Rattle.splits.specs.declared.subproblem.Subproblem.{Subproblem}
 use Rattle.search.specs.Agenda.{stackOf, slotsIn, agendaOf}
+use Rattle.search.specs.Slots.{Search}
 use Rattle.search.specs.FirstChecks.{WholeSlots, WholeRequests, Deserves-3}
 use Rattle.search.specs.Tests.FirstChecks.{searchRefusal}
-use Rattle.search.specs.Runs.{Search}
 use Rattle.search.specs.Calls.{searchOf, Opens, Runs, Chooses}
-use Rattle.search.specs.Promises.{Shown, Limited, Handed, Reached, Has-solution}
-use Rattle.search.specs.Verdicts.{numberOf}
+use Rattle.searches.specs.Promises.{Shown, Limited, Has-solution}
+use Rattle.search.specs.Promises.{Handed, Reached}
+use Rattle.searches.specs.Verdicts.{numberOf}
 use Rattle.search.specs.declared.state.State.{State}
 use Rattle.search.specs.declared.state.Opened.{Opened}
 use Rattle.search.specs.declared.state.Ran.{Ran}
@@ -69,7 +70,7 @@ pub record Says (file : List ℕ) (n d : ℕ) (domains : List ℕ) (allowed : Ta
   pub its-d : saidD file ≡ d
   pub its-domains : saidDomains file ≡ domains
   pub its-allowed : Allow-same n d (saidAllowed file) allowed
-  pub its-subproblems : saidSubproblems file ≡ length (s .stack)
+  pub its-subproblems : saidSubproblems file ≡ length (s .memory)
   pub its-search : saidSearch file ≡ s
 
 -- The blocks that save writes say the search that it was handed.
@@ -90,7 +91,7 @@ abbrev pub Loaded-passes : Type 0
 Loaded-passes =
     (file domains tables agenda : List ℕ) → Bytes file → loadRefusal file (length domains) (length tables) (length agenda) ≡ 0
     → searchRefusal (saidN file) (saidD file) (saidDomains file) (tableWords (saidN file) (saidD file) (saidAllowed file))
-    (agendaOf (saidN file) (length agenda) (saidSearch file .stack)) (saidSteps file) (saidChecks file) (saidSubproblems file) ≡ 0
+    (agendaOf (saidN file) (length agenda) (saidSearch file .memory)) (saidSteps file) (saidChecks file) (saidSubproblems file) ≡ 0
 
 -- What an accepted load leaves: the problem and the search that the file says, in an agenda as long as before; handed on they pass.
 pub record Left-by-load (file agenda domains′ tables′ agenda′ : List ℕ) (r : Loaded) : Type 0 where
@@ -137,14 +138,14 @@ Saves-back =
 -- The largest file is 101 blocks: 25,385 words.
 abbrev pub Largest : Type 0
 Largest =
-    (n d : ℕ) (domains : List ℕ) (allowed : Table) (s : Search) → n ≤ 32 → d ≤ 16 → length domains ≡ n → length (s .stack) ≤ 512
+    (n d : ℕ) (domains : List ℕ) (allowed : Table) (s : Search) → n ≤ 32 → d ≤ 16 → length domains ≡ n → length (s .memory) ≤ 512
     → (length (contentOf n d domains allowed s) ≤ 25385) × (blocksFor (length (contentOf n d domains allowed s)) ≤ 101)
 
 -- It is met: n 32, d 16, 512 subproblems.
 abbrev pub Largest-met : Type 0
 Largest-met =
-    (domains : List ℕ) (allowed : Table) (s : Search) → length domains ≡ 32 → length (s .stack) ≡ 512
-    → ((P : Subproblem) → List·Memᴰ P (s .stack) → length (P .domains) ≡ 32)
+    (domains : List ℕ) (allowed : Table) (s : Search) → length domains ≡ 32 → length (s .memory) ≡ 512
+    → ((P : Subproblem) → List·Memᴰ P (s .memory) → length (P .domains) ≡ 32)
     → (length (contentOf 32 16 domains allowed s) ≡ 25385) × (blocksFor (length (contentOf 32 16 domains allowed s)) ≡ 101)
 
 -- So a buffer of 101 blocks, 51,712 bytes, takes any search that passes the first checks, in memory of words.
@@ -275,11 +276,11 @@ Lives Said =
 
 -- The problem is solvable exactly if some subproblem on the agenda is.
 abbrev pub Lived-solvable : Type 0
-Lived-solvable = Lives (λ p slots s. Has-solution p ↔ ((P : Subproblem) × List·Memᴰ P (s .stack) × Solvable p P))
+Lived-solvable = Lives (λ p slots s. Has-solution p ↔ ((P : Subproblem) × List·Memᴰ P (s .memory) × Solvable p P))
 
 -- The steps taken are limited by the possibilities.
 abbrev pub Lived-steps : Type 0
-Lived-steps = Lives (λ p slots s. Limited p s)
+Lived-steps = Lives (λ p slots s. Limited p (s .steps))
 
 -- The checks are at most 496 × steps.
 abbrev pub Lived-checks : Type 0

@@ -10,7 +10,7 @@ use Rattle.problem.specs.Masks.{bit}
 use Rattle.problem.specs.Problem.{Problem, Table}
 use Rattle.problem.specs.Lists.{total, every, below}
 use Rattle.search.specs.Agenda.{stackOf}
-use Rattle.search.specs.Runs.{Search}
+use Rattle.search.specs.Slots.{Search}
 use Rattle.problem.specs.FirstChecks.{Deserves-1, Deserves-2, Deserves-4}
 use Rattle.search.specs.FirstChecks.{Deserves-6}
 use Rattle.search.specs.Tests.FirstChecks.{allObey}
@@ -103,7 +103,7 @@ saidAgenda file = contentFrom file (agendaFrom (saidN file) (saidD file)) (saidS
 abbrev pub saidSearch : List ℕ → Search
 saidSearch file =
     record {
-      stack = stackOf (saidN file) (saidAgenda file) (saidSubproblems file);
+      memory = stackOf (saidN file) (saidAgenda file) (saidSubproblems file);
       steps = saidSteps file;
       checks = saidChecks file;
     }
@@ -150,4 +150,4 @@ refusalOfWords file =
     && eqb (blocksIn file) (blocksFor (saidWords file))
     && every (blocksIn file * 253 - saidWords file) (λ k. eqb (contentWord file (saidWords file + k)) 0)
     && every (saidN file) (λ i. ltb (saidProblem file .domain i) (2 ^ saidD file))
-    && masksBelowTriangle file && allObey (saidProblem file) (saidSearch file .stack) && leb (saidChecks file) (496 * saidSteps file)) 0 15
+    && masksBelowTriangle file && allObey (saidProblem file) (saidSearch file .memory) && leb (saidChecks file) (496 * saidSteps file)) 0 15

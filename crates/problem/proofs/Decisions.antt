@@ -1,12 +1,10 @@
--- A test that decides a proposition, and a chain of tests whose number is the first of those deserved.
+-- Tests that decide a proposition or its contrary.
 -- Assumes nothing.
-use mathlib.Core.Path.{_≡_, refl, sym, _∙_, subst}
-use mathlib.Core.Logic.{_⊎_, inl, inr, ⊎-elim, _↔_}
-use mathlib.Core.Bool.{Bool, true, false, cond, _&&_, _||_}
+use mathlib.Core.Path.{_≡_, refl, sym, _∙_}
+use mathlib.Core.Logic.{_⊎_, inl, inr, ⊎-elim}
+use mathlib.Core.Bool.{Bool, true, false, _&&_, _||_}
 use Prim.Native.Nat.{ℕ, zero, suc, _≤_, _<_}
 use native.Mathlib.Omega.{arith}
-use native.Mathlib.Decide.{decLt}
-use native.Mathlib.Nat.{eq-or-lt-of-le, le-of-suc-le-suc, lt-of-not-le}
 use lib.Dec.{eqb, leb, ltb}
 use borrow.Author.Tests.{ltb-true, ltb-false, leb-true, leb-false, eqb-true, eqb-false}
 use Rattle.problem.specs.Lists.{every}
@@ -81,74 +79,3 @@ refutes-every f D n s = record {
   holds = λ e. let r = every-fails f n e in (r .0, r .1, s (r .0) (r .1) .holds (r .2));
   fails = λ e d. s (d .0) (d .1) .fails (every-at f n (d .0) (d .1) e) (d .2);
 }
-
--- ---- the first that is deserved
-
--- Of the numbers below k none is deserved.
-unfoldable pub Clear : (ℕ → Type 0) → ℕ → Type 0
-Clear D k = (j : ℕ) → j < k → D j → ⊥
-
-pub record First (D : ℕ → Type 0) (k : ℕ) : Type 0 where
-  pub deserved : D k
-  pub before : Clear D k
-
--- r is the first number that is deserved, or 0 where none is.
-unfoldable pub Ordered : (ℕ → Type 0) → ℕ → Type 0
-Ordered D r = First D r ⊎ ((r ≡ 0) × ((j : ℕ) → D j → ⊥))
-
--- below 0 there is none
-pub clear-none : (D : ℕ → Type 0) → Clear D 0
-unfolding Clear
-clear-none D j h = absurd (omega arith)
-
--- one number more that is not deserved
-pub clear-more : (D : ℕ → Type 0) (k : ℕ) → Clear D k → (D k → ⊥) → Clear D (suc k)
-unfolding Clear
-clear-more D k c f j h d = ⊎-elim (λ e. f (subst D e d)) (λ l. c j l d) (eq-or-lt-of-le (le-of-suc-le-suc h))
-
--- One test more: it gives its number, or leaves the rest to decide.
-pub ordered-test : (D : ℕ → Type 0) (b : Bool) (k rest : ℕ) → Clear D k → Decides b (D k) → (Clear D (suc k) → Ordered D rest)
-    → Ordered D (cond b k rest)
-unfolding Ordered
-ordered-test D true k rest c s more = inl (record { deserved = s .holds refl; before = c })
-ordered-test D false k rest c s more = more (clear-more D k c (s .fails refl))
-
--- The same, of a test that gives its number where it fails.
-pub ordered-pass : (D : ℕ → Type 0) (b : Bool) (k rest : ℕ) → Clear D k → Refutes b (D k) → (Clear D (suc k) → Ordered D rest)
-    → Ordered D (cond b rest k)
-unfolding Ordered
-ordered-pass D true k rest c s more = more (clear-more D k c (s .fails refl))
-ordered-pass D false k rest c s more = inl (record { deserved = s .holds refl; before = c })
-
--- At the end none is deserved.
-pub ordered-end : (D : ℕ → Type 0) → ((j : ℕ) → D j → ⊥) → Ordered D 0
-unfolding Ordered
-ordered-end D f = inr (refl, f)
-
-module _ (D : ℕ → Type 0) (never : D 0 → ⊥) (r : ℕ) (o : Ordered D r) where
-  -- Two firsts are the same.
-  same-first : (j k : ℕ) → First D j → First D k → j ≡ k
-  unfolding Clear
-  same-first j k f g = elim (decLt j k) [
-    | yes l ↦ absurd (g .before j l (f .deserved))
-    | no a ↦ elim (decLt k j) [
-      | yes l ↦ absurd (f .before k l (g .deserved))
-      | no b ↦ omega (arith, lt-of-not-le a, lt-of-not-le b)
-    ]
-  ]
-
-  -- r is k exactly if k is the first.
-  pub is-first : (k : ℕ) → 1 ≤ k → (r ≡ k) ↔ First D k
-  unfolding Ordered
-  is-first k h = (
-    (λ e. ⊎-elim (λ f. subst (First D) e f) (λ z. absurd (omega (arith, z .0))) o),
-    (λ f. ⊎-elim (λ g. same-first r k g f) (λ z. absurd (z .1 k (f .deserved))) o),
-  )
-
-  -- r is 0 exactly if none is deserved.
-  pub is-none : (r ≡ 0) ↔ ((j : ℕ) → D j → ⊥)
-  unfolding Ordered
-  is-none = (
-    (λ e. ⊎-elim (λ f. absurd (never (subst D e (f .deserved)))) (λ z. z .1) o),
-    (λ f. ⊎-elim (λ g. absurd (f r (g .deserved))) (λ z. z .0) o),
-  )

@@ -6,4 +6,5 @@ pub mod FirstLoops
 pub mod Lists
 pub mod Products
 pub mod Promises
+pub mod Refusing
 pub mod Tests

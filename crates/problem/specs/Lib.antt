@@ -9,4 +9,5 @@ pub mod Matrix
 pub mod Problem
 pub mod Promises
 pub mod Ranges
+pub mod Refusing
 pub mod Tests

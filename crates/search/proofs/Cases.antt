@@ -12,8 +12,9 @@ use Rattle.splits.specs.Checks.{lookedAt, others, tried, valuesIn, checks}
 use Rattle.splits.specs.Tests.Refusals.{refused-7, refused-8, refused-9, bad, someBad, allSame, refused-10, refusalOf}
 use Rattle.problem.proofs.Lists.{each-more, each-none}
 use Rattle.search.specs.Agenda.{holding}
-use Rattle.search.specs.Verdicts.{finished, verdictOf}
-use Rattle.search.specs.Runs.{splitTop, step, refusalOfTop, refusalOfRequest, runFrom}
+use Rattle.searches.specs.Verdicts.{finished, verdictOf}
+use Rattle.searches.specs.Machines.{splitTop}
+use Rattle.searches.specs.Runs.{checksOfTop, step, refusalOfTop, refusalOfRequest, runFrom}
 use Rattle.search.specs.Calls.{opening}
 use Rattle.search.specs.Cases.{cases, joins}
 use Rattle.search.specs.Promises.{Ends-so}
@@ -29,7 +30,7 @@ each C (y ∷ l) h = each-more C y l (h .0) (each C l (h .1))
 -- Each case by computation.
 pub computed : All Ends-so cases
 unfolding cases joins opening holding runFrom finished refusalOfRequest refusalOfTop refusalOf refused-7 refused-8 refused-9 refused-10 bad someBad
-    allSame step splitTop pieces named keep below backtracking forwardChecking idc halving extraction instantiate without cut cutBeside atTargets
+    allSame step checksOfTop splitTop pieces named keep below backtracking forwardChecking idc halving extraction instantiate without cut cutBeside atTargets
     forbids
     instantiatedOther forbidden precluded disjunct extract changed empty some every allInstantiated smallest smallerHalf minus bit ones onesIn
     trailingZeros checks lookedAt others tried valuesIn total possibilities product verdictOf

@@ -1,7 +1,7 @@
 -- How the public calls end: what they return and leave, refused by the first checks or not.
 -- Assumes nothing.
 use mathlib.Core.Path.{_≡_, refl, sym, ap, _∙_}
-use mathlib.Core.Bool.{true, false, cond}
+use mathlib.Core.Bool.{true, false}
 use mathlib.Core.List.{List, [], _∷_}
 use Prim.Native.Nat.{ℕ, zero, suc, _+_}
 use lib.ListN.{length}
@@ -10,17 +10,19 @@ use borrow.Author.Tests.{eq-eqb, ne-eqb}
 use Rattle.splits.specs.declared.subproblem.Subproblem.{Subproblem}
 use Rattle.problem.specs.Problem.{problemOf}
 use Rattle.search.specs.Agenda.{stackOf, agendaOf}
-use Rattle.search.specs.Verdicts.{verdictOf}
-use Rattle.search.specs.Runs.{Search, Stopped, step, splitTop, refusalOfTop, refusalOfRequest, runFrom}
-use Rattle.search.specs.Chooser.{chosen, chooseFrom}
+use Rattle.search.specs.Slots.{slots, Search, Stopped}
+use Rattle.searches.specs.Verdicts.{verdictOf}
+use Rattle.searches.specs.Runs.{checksOfTop, step, refusalOfTop, refusalOfRequest, runFrom}
+use Rattle.searches.specs.Machines.{splitTop}
+use Rattle.searches.specs.Chooser.{chosenOf, chosen, chooseFrom}
 use Rattle.search.specs.Tests.FirstChecks.{openRefusal}
 use Rattle.search.specs.Calls.{opening, Opens, Ends}
 use Rattle.search.specs.Loops.Steps.{StopsAt}
 use Rattle.search.specs.Loops.Ends.{Used, endedBy}
 use Rattle.search.specs.declared.state.State.{State}
 use Rattle.search.specs.declared.state.Ran.{Ran}
-use Rattle.search.specs.declared.state.Verdict.{Verdict}
-use Rattle.search.specs.declared.state.Verdict.the-variants.{None}
+use Rattle.searches.specs.declared.verdict.Verdict.{Verdict}
+use Rattle.searches.specs.declared.verdict.Verdict.the-variants.{None}
 use Rattle.search.specs.declared.step.Stop.{Stop}
 use Rattle.search.proofs.Running.{left-is, left-ready, ready-used}
 
@@ -33,51 +35,51 @@ ended-made n agenda stop v e = λ i. record { verdict = e i; refusal = stop .ref
 
 module _ (n d : ℕ) (domains tables : List ℕ) (room : ℕ) where
   -- A step.
-  step-same : (r : List ℕ) (s : Search) → step (problemOf n d [] tables) r s ≡ step (problemOf n d domains tables) r s
-  unfolding step splitTop
-  step-same r s = go (s .stack) refl
+  step-same : (r : List ℕ) (s : Search)
+      → step (problemOf n d [] tables) (slots room) r s ≡ step (problemOf n d domains tables) (slots room) r s
+  unfolding step checksOfTop splitTop
+  step-same r s = go (s .memory) refl
     where
-      go : (S : List Subproblem) → s .stack ≡ S → step (problemOf n d [] tables) r s ≡ step (problemOf n d domains tables) r s
+      go : (S : List Subproblem) → s .memory ≡ S
+          → step (problemOf n d [] tables) (slots room) r s ≡ step (problemOf n d domains tables) (slots room) r s
       go [] e = rw e refl
       go (P ∷ S) e = rw e refl
 
-  -- The refusal by the top.
-  top-same : (r : List ℕ) (S : List Subproblem)
-      → refusalOfTop (problemOf n d [] tables) room r S ≡ refusalOfTop (problemOf n d domains tables) room r S
-  unfolding refusalOfTop splitTop
-  top-same r [] = refl
-  top-same r (P ∷ S) = refl
-
   -- The refusal of a request.
   refusal-same : (r : List ℕ) (s : Search)
-      → refusalOfRequest (problemOf n d [] tables) room r s ≡ refusalOfRequest (problemOf n d domains tables) room r s
-  unfolding refusalOfRequest
-  refusal-same r s = ap (cond (eqb (s .steps) 4294967295) 11) (top-same r (s .stack))
+      → refusalOfRequest (problemOf n d [] tables) (slots room) r s ≡ refusalOfRequest (problemOf n d domains tables) (slots room) r s
+  unfolding refusalOfRequest refusalOfTop splitTop
+  refusal-same r s = go (s .memory) refl
+    where
+      go : (S : List Subproblem) → s .memory ≡ S
+          → refusalOfRequest (problemOf n d [] tables) (slots room) r s ≡ refusalOfRequest (problemOf n d domains tables) (slots room) r s
+      go [] e = rw e refl
+      go (P ∷ S) e = rw e refl
 
   -- The chooser's request.
-  chosen-same : (S : List Subproblem) → chosen (problemOf n d [] tables) room S ≡ chosen (problemOf n d domains tables) room S
-  unfolding chosen splitTop
+  chosen-same : (S : List Subproblem) → chosen (problemOf n d [] tables) (slots room) S ≡ chosen (problemOf n d domains tables) (slots room) S
+  unfolding chosen chosenOf splitTop
   chosen-same [] = refl
   chosen-same (P ∷ S) = refl
 
   -- A run.
   pub run-same : (rs : List (List ℕ)) (s : Search) (k : ℕ)
-      → runFrom (problemOf n d [] tables) room rs s k ≡ runFrom (problemOf n d domains tables) room rs s k
+      → runFrom (problemOf n d [] tables) (slots room) rs s k ≡ runFrom (problemOf n d domains tables) (slots room) rs s k
   unfolding runFrom
   run-same [] s k = refl
-  run-same (r ∷ rs) s k = rw (refusal-same r s, step-same r s, run-same rs (step (problemOf n d domains tables) r s) (k + 1)) refl
+  run-same (r ∷ rs) s k = rw (refusal-same r s, step-same r s, run-same rs (step (problemOf n d domains tables) (slots room) r s) (k + 1)) refl
 
   -- The chooser.
   pub choose-same : (m : ℕ) (s : Search) (k : ℕ)
-      → chooseFrom (problemOf n d [] tables) room m s k ≡ chooseFrom (problemOf n d domains tables) room m s k
+      → chooseFrom (problemOf n d [] tables) (slots room) m s k ≡ chooseFrom (problemOf n d domains tables) (slots room) m s k
   unfolding chooseFrom
   choose-same zero s k = refl
   choose-same (suc m) s k =
       rw (
-        chosen-same (s .stack),
-        refusal-same (chosen (problemOf n d domains tables) room (s .stack)) s,
-        step-same (chosen (problemOf n d domains tables) room (s .stack)) s,
-        choose-same m (step (problemOf n d domains tables) (chosen (problemOf n d domains tables) room (s .stack)) s) (k + 1),
+        chosen-same (s .memory),
+        refusal-same (chosen (problemOf n d domains tables) (slots room) (s .memory)) s,
+        step-same (chosen (problemOf n d domains tables) (slots room) (s .memory)) s,
+        choose-same m (step (problemOf n d domains tables) (slots room) (chosen (problemOf n d domains tables) (slots room) (s .memory)) s) (k + 1),
       ) refl
 
 -- ---- the ends
@@ -102,7 +104,7 @@ pub ends-stopped : (first n d : ℕ) (t before after : List ℕ) (s : State) (to
     → StopsAt n d t before after to stop → to ≡ stopped → r ≡ endedBy n after stop → Ends first n before after s stopped r
 ends-stopped first n d t before after s to stopped x stop r e z h same made =
     let yes : eqb first 0 ≡ true = eq-eqb first 0 (sym e ∙ z) in
-    let stack : stackOf n after (stop .state .subproblems) ≡ to .search .stack = ap (λ (q : Search). q .stack) (left-is n d t before after to stop h)
+    let stack : stackOf n after (stop .state .subproblems) ≡ to .search .memory = ap (λ (q : Search). q .memory) (left-is n d t before after to stop h)
     in
     rw (made, ← same)
     (record {

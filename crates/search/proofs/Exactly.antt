@@ -12,21 +12,22 @@ use lib.Dec.{eqb, leb, ltb}
 use borrow.Author.Tests.{eq-eqb, ne-eqb, eqb-false}
 use Rattle.problem.specs.Problem.{Problem, problemOf}
 use Rattle.splits.specs.Subproblems.{allInstantiated}
-use Rattle.splits.specs.Tests.Refusals.{refused-7, refused-8, refused-9, refused-10, refusalOf}
 use Rattle.splits.specs.declared.subproblem.Subproblem.{Subproblem}
 use Rattle.search.specs.Agenda.{stackOf, slotsIn}
+use Rattle.search.specs.Slots.{slots, Search, Stopped}
 use Rattle.problem.specs.Tests.FirstChecks.{orElse, masksBelow, symmetric, refusalOfNumbers, refusalOfProblem}
 use Rattle.search.specs.Tests.FirstChecks.{allObey, zerosFrom, wholeSlots, refusalOfLengths, refusalOfRequests, refusalOfSearch, openRefusal, searchRefusal, runRefusal}
-use Rattle.search.specs.Verdicts.{numberOf, verdictOf, finished}
-use Rattle.search.specs.Runs.{Search, Stopped, step, splitTop, refusalOfTop, refusalOfRequest, run, requestsIn}
-use Rattle.search.specs.Chooser.{chosen, chooseFrom, choose}
+use Rattle.searches.specs.Verdicts.{numberOf, verdictOf}
+use Rattle.searches.specs.Runs.{refusalOfRequest, run, requestsIn}
+use Rattle.searches.specs.Chooser.{chosen, choose}
 use Rattle.search.specs.Calls.{searchOf, Ends}
 use Rattle.search.specs.Promises.{None-if, Exact-refusal, Run-exact, Choose-exact}
 use Rattle.search.specs.declared.state.State.{State}
 use Rattle.search.specs.declared.state.Ran.{Ran}
-use Rattle.search.specs.declared.state.Verdict.the-variants.{None, Running, Solved}
-use Rattle.search.proofs.Verdicts.{finished-not, running, is-run-on}
-use Rattle.search.proofs.Runs.{stops}
+use Rattle.searches.specs.declared.verdict.Verdict.the-variants.{None, Running, Solved}
+use Rattle.searches.proofs.Runs.{stops}
+use Rattle.searches.proofs.Picking.{choose-stops}
+use Rattle.searches.proofs.Numbers.{Late, run-late, choose-late}
 
 -- ---- which numbers there are
 
@@ -88,33 +89,6 @@ run-refusal-few n d domains tables agenda requests steps checks subproblems =
     (else-few lengths (orElse list (orElse problem last)) (lengths-few n d (length domains) (length tables) (length agenda))
     (else-few list (orElse problem last) (requests-few n (length requests)) (else-few problem last (problem-few p) (search-few p agenda steps checks subproblems))))
 
--- A request gives 0, or 7 or more.
-Late : ℕ → Type 0
-Late k = (k ≡ 0) ⊎ (7 ≤ k)
-
-cond-late : (b : Bool) (x y : ℕ) → Late x → Late y → Late (cond b x y)
-cond-late true x y h k = h
-cond-late false x y h k = k
-
-split-late : (n d : ℕ) (P : Subproblem) (r : List ℕ) → Late (refusalOf n d P r)
-unfolding refusalOf Late
-split-late n d P r =
-    cond-late (refused-7 r) 7 (cond (refused-8 n P r) 8 (cond (refused-9 d P r) 9 (cond (refused-10 n P r) 10 0))) (inr (omega arith))
-    (cond-late (refused-8 n P r) 8 (cond (refused-9 d P r) 9 (cond (refused-10 n P r) 10 0)) (inr (omega arith))
-    (cond-late (refused-9 d P r) 9 (cond (refused-10 n P r) 10 0) (inr (omega arith)) (cond-late (refused-10 n P r) 10 0 (inr (omega arith)) (inl refl))))
-
-request-late : (p : Problem) (room : ℕ) (r : List ℕ) (s : Search) → Late (refusalOfRequest p room r s)
-unfolding refusalOfRequest refusalOfTop Late
-request-late p room r s = cond-late (eqb (s .steps) 4294967295) 11 (refusalOfTop p room r (s .stack)) (inr (omega arith)) (top (s .stack))
-  where
-    top : (S : List Subproblem) → Late (refusalOfTop p room r S)
-    top [] = inl refl
-    top (P ∷ S) =
-        let full : Bool = ltb room (length (splitTop p r (P ∷ S))) in
-        cond-late (eqb (refusalOf (p .n) (p .d) P r) 0) (cond full 12 0) (refusalOf (p .n) (p .d) P r)
-        (cond-late full 12 0 (inr (omega arith)) (inl refl))
-        (split-late (p .n) (p .d) P r)
-
 -- ---- of any call that ends so
 
 -- A stack's verdict is not none.
@@ -137,20 +111,19 @@ module _ (first n : ℕ) (before after : List ℕ) (s : State) (x : Stopped) (r 
   same-taken : first ≡ 0 → r .taken ≡ x .taken
   same-taken e = let test : eqb first 0 ≡ true = eq-eqb first 0 e in rw test at (ends .taken)
 
-  same-verdict : first ≡ 0 → r .verdict ≡ verdictOf n (x .search .stack)
+  same-verdict : first ≡ 0 → r .verdict ≡ verdictOf n (x .search .memory)
   same-verdict e = let test : eqb first 0 ≡ true = eq-eqb first 0 e in rw test at (ends .verdict)
 
   pub none-if : None-if first r
   none-if = (
-    (λ e none. some-number n (x .search .stack) (sym (ap numberOf (same-verdict none)) ∙ e)),
+    (λ e none. some-number n (x .search .memory) (sym (ap numberOf (same-verdict none)) ∙ e)),
     (λ h. let test : eqb first 0 ≡ false = ne-eqb first 0 h in let v : r .verdict ≡ None = rw test at (ends .verdict) in ap numberOf v),
   )
 
   -- Exact, if a late refusal is given exactly where the run is running, fewer than `most` were taken, and it is the next one's.
   exact : (most : ℕ) (next : Ran → ℕ) → first ≤ 6 → Late (x .refusal)
-      → ((k : ℕ) → 7 ≤ k → r .taken ≡ x .taken → x .refusal ≡ k → (numberOf (verdictOf n (x .search .stack)) ≡ 1) × (x .taken < most) × (next r ≡ k))
-      → ((k : ℕ) → 7 ≤ k → r .taken ≡ x .taken → numberOf (verdictOf n (x .search .stack)) ≡ 1 → x .taken < most → next r ≡ k → x .refusal ≡ k) → Exact-refusal first most next r
-  unfolding Late
+      → ((k : ℕ) → 7 ≤ k → r .taken ≡ x .taken → x .refusal ≡ k → (numberOf (verdictOf n (x .search .memory)) ≡ 1) × (x .taken < most) × (next r ≡ k))
+      → ((k : ℕ) → 7 ≤ k → r .taken ≡ x .taken → numberOf (verdictOf n (x .search .memory)) ≡ 1 → x .taken < most → next r ≡ k → x .refusal ≡ k) → Exact-refusal first most next r
   exact most next few late there back = (
     (λ k some small. (
       (λ e. elim (ℕ-discrete first 0) [
@@ -176,86 +149,37 @@ module _ (first n : ℕ) (before after : List ℕ) (s : State) (x : Stopped) (r 
 
 -- ---- a run
 
-stopped-late : (p : Problem) (room : ℕ) (rs : List (List ℕ)) (s : Search) → Late (run p room rs s .refusal)
-unfolding Late
-stopped-late p room rs s =
-    ⊎-elim (λ f. inl (f .refusal))
-    (λ k. ⊎-elim (λ f. rw (f .refusal) (request-late p room (getD rs (run p room rs s .taken) []) (run p room rs s .search))) (λ f. inl (f .refusal)) k)
-    (stops p room rs s .1)
-
 pub run-exact : Run-exact
 run-exact n d domains tables before after requests s r runs =
     let p : Problem = problemOf n d domains tables in
     let room : ℕ = slotsIn n (length before) in
     let rs : List (List ℕ) = requestsIn n requests in
     let y : Search = searchOf n before s in
-    let x : Stopped = run p room rs y in
+    let x : Stopped = run p (slots room) rs y in
     let first : ℕ = runRefusal n d domains tables before requests (s .counts .steps .0) (s .counts .checks .0) (s .subproblems) in
-    exact first n before after s x r runs (length rs) (λ z. refusalOfRequest p room (getD rs (z .taken) []) (x .search))
-    (run-refusal-few n d domains tables before requests (s .counts .steps .0) (s .counts .checks .0) (s .subproblems)) (stopped-late p room rs y)
+    exact first n before after s x r runs (length rs) (λ z. refusalOfRequest p (slots room) (getD rs (z .taken) []) (x .search))
+    (run-refusal-few n d domains tables before requests (s .counts .steps .0) (s .counts .checks .0) (s .subproblems)) (run-late p (slots room) rs y)
     (λ k big same e. ⊎-elim (λ f. absurd (let z = f .refusal in omega (arith, z, e, big)))
     (λ w. ⊎-elim
-    (λ f. (f .verdict, f .request, ap (λ j. refusalOfRequest p room (getD rs j []) (x .search)) same ∙ sym (f .refusal) ∙ e))
-    (λ f. absurd (let z = f .refusal in omega (arith, z, e, big))) w) (stops p room rs y .1))
+    (λ f. (f .verdict, f .request, ap (λ j. refusalOfRequest p (slots room) (getD rs j []) (x .search)) same ∙ sym (f .refusal) ∙ e))
+    (λ f. absurd (let z = f .refusal in omega (arith, z, e, big))) w) (stops p (slots room) rs y .1))
     (λ k big same v t m. ⊎-elim (λ f. absurd (f .verdict v))
-    (λ w. ⊎-elim (λ f. f .refusal ∙ ap (λ j. refusalOfRequest p room (getD rs j []) (x .search)) (sym same) ∙ m)
-    (λ f. absurd (let z = f .taken in omega (arith, z, t))) w) (stops p room rs y .1))
+    (λ w. ⊎-elim (λ f. f .refusal ∙ ap (λ j. refusalOfRequest p (slots room) (getD rs j []) (x .search)) (sym same) ∙ m)
+    (λ f. absurd (let z = f .taken in omega (arith, z, t))) w) (stops p (slots room) rs y .1))
 
 -- ---- the chooser
-
--- Where the chooser stops: not running any more, at a refused choice, or at its limit.
-data Ways (p : Problem) (room most : ℕ) (x : Stopped) : Type 0 where
-  finished-there : (numberOf (verdictOf (p .n) (x .search .stack)) ≡ 1 → ⊥) → x .refusal ≡ 0 → Ways p room most x
-  refused-there : numberOf (verdictOf (p .n) (x .search .stack)) ≡ 1 → x .taken < most
-      → x .refusal ≡ refusalOfRequest p room (chosen p room (x .search .stack)) (x .search) → (x .refusal ≡ 0 → ⊥) → Ways p room most x
-  ended-there : x .refusal ≡ 0 → x .taken ≡ most → Ways p room most x
-
-ways : (p : Problem) (room m : ℕ) (s : Search) (k : ℕ) → Ways p room (k + m) (chooseFrom p room m s k)
-unfolding chooseFrom
-ways p room zero s k = ended-there refl (omega arith)
-ways p room (suc m) s k =
-    by (finished (p .n) (s .stack)) refl (eqb (refusalOfRequest p room (chosen p room (s .stack)) s) 0) refl
-    (ways p room m (step p (chosen p room (s .stack)) s) (k + 1))
-  where
-    stay : ℕ → Stopped
-    stay refusal = record { search = s; refusal = refusal; taken = k }
-
-    next : Stopped
-    next = chooseFrom p room m (step p (chosen p room (s .stack)) s) (k + 1)
-
-    by : (b : Bool) → finished (p .n) (s .stack) ≡ b → (c : Bool) → eqb (refusalOfRequest p room (chosen p room (s .stack)) s) 0 ≡ c
-        → Ways p room (k + 1 + m) next
-        → Ways p room (k + suc m) (cond b (stay 0) (cond c next (stay (refusalOfRequest p room (chosen p room (s .stack)) s))))
-    by true e c f more = finished-there (λ h. finished-not (p .n) (s .stack) e (is-run-on (verdictOf (p .n) (s .stack)) h)) refl
-    by false e true f more = let same : k + 1 + m ≡ k + suc m = omega arith in rw (← same) more
-    by false e false f more =
-        refused-there (ap numberOf (running (p .n) (s .stack) e)) (omega arith) refl
-        (eqb-false (refusalOfRequest p room (chosen p room (s .stack)) s) 0 f)
-
-chosen-late : (p : Problem) (room most : ℕ) (x : Stopped) → Ways p room most x → Late (x .refusal)
-unfolding Late
-chosen-late p room most x (finished-there h e) = inl e
-chosen-late p room most x (refused-there v t e h) = rw e (request-late p room (chosen p room (x .search .stack)) (x .search))
-chosen-late p room most x (ended-there e t) = inl e
 
 pub choose-exact : Choose-exact
 choose-exact n d domains tables before after limit s r chooses =
     let p : Problem = problemOf n d domains tables in
     let room : ℕ = slotsIn n (length before) in
-    let x : Stopped = choose p room limit (searchOf n before s) in
-    let w : Ways p room limit x = let none : 0 + limit ≡ limit = omega arith in rw none at (ways p room limit (searchOf n before s) 0) in
-    exact _ n before after s x r chooses limit (λ z. refusalOfRequest p room (chosen p room (x .search .stack)) (x .search))
-    (search-refusal-few n d domains tables before (s .counts .steps .0) (s .counts .checks .0) (s .subproblems)) (chosen-late p room limit x w)
-    (λ k big same e. there p room limit x k big e w) (λ k big same v t m. back p room limit x k v t m w)
-  where
-    there : (p : Problem) (room most : ℕ) (x : Stopped) (k : ℕ) → 7 ≤ k → x .refusal ≡ k → Ways p room most x
-        → (numberOf (verdictOf (p .n) (x .search .stack)) ≡ 1) × (x .taken < most) × (refusalOfRequest p room (chosen p room (x .search .stack)) (x .search) ≡ k)
-    there p room most x k big e (finished-there h z) = absurd (omega (arith, z, e, big))
-    there p room most x k big e (refused-there v t is h) = (v, t, sym is ∙ e)
-    there p room most x k big e (ended-there z t) = absurd (omega (arith, z, e, big))
-
-    back : (p : Problem) (room most : ℕ) (x : Stopped) (k : ℕ) → numberOf (verdictOf (p .n) (x .search .stack)) ≡ 1 → x .taken < most
-        → refusalOfRequest p room (chosen p room (x .search .stack)) (x .search) ≡ k → Ways p room most x → x .refusal ≡ k
-    back p room most x k v t m (finished-there h z) = absurd (h v)
-    back p room most x k v t m (refused-there v′ t′ is h) = is ∙ m
-    back p room most x k v t m (ended-there z t′) = absurd (omega (arith, t, t′))
+    let first : ℕ = searchRefusal n d domains tables before (s .counts .steps .0) (s .counts .checks .0) (s .subproblems) in
+    let y : Search = searchOf n before s in
+    let x : Stopped = choose p (slots room) limit y in
+    exact first n before after s x r chooses limit (λ z. refusalOfRequest p (slots room) (chosen p (slots room) (x .search .memory)) (x .search))
+    (search-refusal-few n d domains tables before (s .counts .steps .0) (s .counts .checks .0) (s .subproblems)) (choose-late p (slots room) limit y)
+    (λ k big same e. ⊎-elim (λ f. absurd (let z = f .refusal in omega (arith, z, e, big)))
+    (λ w. ⊎-elim (λ f. (f .verdict, f .below, sym (f .refusal) ∙ e)) (λ f. absurd (let z = f .refusal in omega (arith, z, e, big))) w)
+    (choose-stops p (slots room) limit y .1))
+    (λ k big same v t m. ⊎-elim (λ f. absurd (f .verdict v))
+    (λ w. ⊎-elim (λ f. f .refusal ∙ m) (λ f. absurd (let z = f .taken in omega (arith, z, t))) w) (choose-stops p (slots room) limit y .1))

@@ -17,27 +17,31 @@ use Rattle.problem.specs.Problem.{Problem, tableOf, problemOf}
 use Rattle.problem.specs.Lists.{some}
 use Rattle.splits.specs.Splits.{pieces}
 use Rattle.splits.specs.declared.subproblem.Subproblem.{Subproblem}
-use Rattle.splits.proofs.Promises.{refusal-none}
+use Rattle.splits.proofs.Promises.{request-accepted}
 use Rattle.problem.specs.Ranges.{Sized}
 use Rattle.search.specs.Agenda.{holding, Shape, stackOf, slotWords, stackWords, slotsIn, agendaOf}
-use Rattle.search.specs.Runs.{Search, Stopped, step, refusalOfRequest, run, requestsIn}
-use Rattle.search.specs.Chooser.{choose}
+use Rattle.search.specs.Slots.{slots, Search, Stopped}
+use Rattle.searches.specs.Runs.{step, refusalOfRequest, run, requestsIn}
+use Rattle.searches.specs.Chooser.{choose}
 use Rattle.search.specs.Tests.FirstChecks.{openRefusal, refusalOfRequests}
 use Rattle.search.specs.FirstChecks.{WholeSlots, WholeRequests}
 use Rattle.search.specs.Calls.{searchOf, opening, Opens, Ends, Runs, Chooses, begun}
 use Rattle.search.specs.declared.state.Ran.{Ran}
 use Rattle.search.specs.declared.state.Opened.{Opened}
-use Rattle.search.specs.Promises.{Passes, Handed, Leaves, Verdict-says, Reached, picks}
+use Rattle.searches.specs.Reached.{Passes}
+use Rattle.search.specs.Promises.{Handed, Leaves, Verdict-says}
+use Rattle.searches.specs.Promises.{picks}
 use Rattle.search.specs.declared.state.State.{State}
 use Rattle.search.proofs.first_checks.FirstPassing.{Passed, PassedSearch, requests-none, open-is-passed, search-is-passed, run-is-passed}
 use Rattle.search.proofs.first_checks.Admitting.{search-ready}
-use Rattle.search.proofs.Picking.{picked}
-use Rattle.search.proofs.Reaching.{reached-holds}
-use Rattle.search.specs.Verdicts.{numberOf, verdictOf}
-use Rattle.search.proofs.Verdicts.{running-top, is-unsolvable, is-solved, unsolvable-if, solved-top, shown, all-instantiated}
-use Rattle.search.proofs.Runs.{run-ind}
-use Rattle.search.proofs.Refusals.{is-none}
-use Rattle.search.proofs.Passing.{step-is, step-passes, run-passes, top-held}
+use Rattle.searches.proofs.Picking.{picked}
+use Rattle.search.proofs.Reaching.{reached-opened, reached-passes}
+use Rattle.searches.specs.Verdicts.{numberOf, verdictOf}
+use Rattle.searches.proofs.Verdicts.{running-top, is-unsolvable, is-solved, unsolvable-if, solved-top, shown, all-instantiated}
+use Rattle.searches.proofs.Runs.{run-ind}
+use Rattle.searches.proofs.Refusals.{is-none}
+use Rattle.searches.proofs.Passing.{step-passes, run-passes, top-held}
+use Rattle.search.proofs.Slots.{slots-lawful, step-is}
 use Rattle.search.proofs.step.Shapes.{pieces-regular}
 use Rattle.problem.proofs.Copies.{zeros-at}
 use Rattle.search.proofs.Encoding.{length-stack, length-stackOf, length-agenda, agenda-back}
@@ -48,26 +52,26 @@ Shaped n d S = (P : Subproblem) → List·Memᴰ P S → Shape n d P
 
 -- The subproblems that a run leaves have the shape of a slot, if those that it found have.
 module _ (n d : ℕ) (domains tables : List ℕ) (room : ℕ) (fit : Sized n d tables) where
-  step-shaped : (P : Subproblem) (S : List Subproblem) (s : Search) (r : List ℕ) → Passes (problemOf n d domains tables) room s → s .stack ≡ P ∷ S
-      → refusalOfRequest (problemOf n d domains tables) room r s ≡ 0 → Shaped n d (s .stack) → Shaped n d (step (problemOf n d domains tables) r s .stack)
+  step-shaped : (P : Subproblem) (S : List Subproblem) (s : Search) (r : List ℕ) → Passes (problemOf n d domains tables) (slots room) s → s .memory ≡ P ∷ S
+      → refusalOfRequest (problemOf n d domains tables) (slots room) r s ≡ 0 → Shaped n d (s .memory) → Shaped n d (step (problemOf n d domains tables) (slots room) r s .memory)
   step-shaped P S s r h top none shaped =
-      let accepted = is-none (problemOf n d domains tables) room P S s r top (rw top at (h .fits)) .0 none .1 in
-      rw (step-is (problemOf n d domains tables) P S s r top)
+      let accepted = is-none (problemOf n d domains tables) (slots room) P S s r top .0 none .1 in
+      rw (step-is (problemOf n d domains tables) room P S s r top)
       (λ Q m.
       ⊎-elim
-      (λ k. pieces-regular n d tables P r fit (shaped P (rw top (List·Memᴰ·head refl))) (refusal-none n d P r .1 accepted) Q k .shape)
+      (λ k. pieces-regular n d tables P r fit (shaped P (rw top (List·Memᴰ·head refl))) (request-accepted n d P r .1 accepted) Q k .shape)
       (λ k. shaped Q (rw top (List·Memᴰ·tail k)))
       (List·Memᴰ·append-cases (pieces n (tableOf n d tables) P r) m))
 
-  pub run-shaped : (rs : List (List ℕ)) (s : Search) → Passes (problemOf n d domains tables) room s → Shaped n d (s .stack)
-      → Shaped n d (run (problemOf n d domains tables) room rs s .search .stack)
+  pub run-shaped : (rs : List (List ℕ)) (s : Search) → Passes (problemOf n d domains tables) (slots room) s → Shaped n d (s .memory)
+      → Shaped n d (run (problemOf n d domains tables) (slots room) rs s .search .memory)
   run-shaped =
-      run-ind (problemOf n d domains tables) room
-      (λ rs s x. Passes (problemOf n d domains tables) room s → Shaped n d (s .stack) → Shaped n d (x .search .stack))
+      run-ind (problemOf n d domains tables) (slots room)
+      (λ rs s x. Passes (problemOf n d domains tables) (slots room) s → Shaped n d (s .memory) → Shaped n d (x .search .memory))
       (λ s h k. k) (λ r rs s e h k. k) (λ r rs s e f h k. k)
       (λ r rs s x e f more h k.
-      let (P, S, top) = running-top n (s .stack) e in
-      more (step-passes (problemOf n d domains tables) room P S s r h top f) (step-shaped P S s r h top f k))
+      let (P, S, top) = running-top n (s .memory) e in
+      more (step-passes (problemOf n d domains tables) (slots room) (slots-lawful room) P S s r h top f) (step-shaped P S s r h top f k))
 
 -- ---- words of 16 bits
 
@@ -123,23 +127,23 @@ whole-slots n words w = rw (w .3) (ap (λ (k : ℕ). k * (n + 2)) (sym (mul-div-
 
 module _ (n d : ℕ) (domains tables before after : List ℕ) (s : State) (x : Search) where
   -- Words that are an agenda of x, as many as before, of subproblems that have the shape: they hold x, and pass.
-  pub leaves : Passed n d domains tables before → Passes (problemOf n d domains tables) (slotsIn n (length before)) x
-      → Shaped n d (x .stack) → after ≡ agendaOf n (length before) (x .stack)
-      → s .counts .steps .0 ≡ x .steps → s .counts .checks .0 ≡ x .checks → s .subproblems ≡ length (x .stack)
+  pub leaves : Passed n d domains tables before → Passes (problemOf n d domains tables) (slots (slotsIn n (length before))) x
+      → Shaped n d (x .memory) → after ≡ agendaOf n (length before) (x .memory)
+      → s .counts .steps .0 ≡ x .steps → s .counts .checks .0 ≡ x .checks → s .subproblems ≡ length (x .memory)
       → Leaves n d domains tables before after s x
   leaves passed passes shaped made steps checks count =
       let few : n ≤ 32 = passed .proper .variables in
-      let used : length (stackWords n (x .stack)) ≡ length (x .stack) * (n + 2) = length-stack n (x .stack) (λ P m. omega (arith, shaped P m .long))
+      let used : length (stackWords n (x .memory)) ≡ length (x .memory) * (n + 2) = length-stack n (x .memory) (λ P m. omega (arith, shaped P m .long))
       in
       let whole : length before ≡ slotsIn n (length before) * (n + 2) = whole-slots n (length before) (passed .slots) in
-      let room : length (x .stack) * (n + 2) ≤ slotsIn n (length before) * (n + 2) = mul-le-mul-right (n + 2) (passes .fits) in
-      let long : length after ≡ length before = ap length made ∙ length-agenda n (length before) (x .stack) (omega arith) in
-      let stack : stackOf n after (s .subproblems) ≡ x .stack =
-      ap (stackOf n after) count ∙ ap (λ (l : List ℕ). stackOf n l (length (x .stack))) made ∙ agenda-back n d (length before) (x .stack) few shaped
+      let room : length (x .memory) * (n + 2) ≤ slotsIn n (length before) * (n + 2) = mul-le-mul-right (n + 2) (passes .fits) in
+      let long : length after ≡ length before = ap length made ∙ length-agenda n (length before) (x .memory) (omega arith) in
+      let stack : stackOf n after (s .subproblems) ≡ x .memory =
+      ap (stackOf n after) count ∙ ap (λ (l : List ℕ). stackOf n l (length (x .memory))) made ∙ agenda-back n d (length before) (x .memory) few shaped
       in
       record {
         handed = record {
-          words = rw made (agenda-small n d (length before) (x .stack) (passed .proper .values) shaped);
+          words = rw made (agenda-small n d (length before) (x .memory) (passed .proper .values) shaped);
           stepped = omega (arith, passes .stepped);
           passes =
               search-is-passed n d domains tables after (s .counts .steps .0) (s .counts .checks .0) (s .subproblems) .1 (record {
@@ -151,20 +155,20 @@ module _ (n d : ℕ) (domains tables before after : List ℕ) (s : State) (x : S
                 };
                 rules = rw stack (passes .rules);
                 room = rw (long, count) (passes .fits);
-                zeros = λ k l m. rw made (agenda-zeros n d (length before) (x .stack) few shaped k (rw (← count) l));
+                zeros = λ k l m. rw made (agenda-zeros n d (length before) (x .memory) few shaped k (rw (← count) l));
                 limit = rw (steps, checks) (passes .counted);
               });
         };
-        search = λ i. record { stack = stack i; steps = steps i; checks = checks i };
+        search = λ i. record { memory = stack i; steps = steps i; checks = checks i };
         length-kept = long;
       }
 
 -- A search handed on, with what its words are known to hold.
 pub record Known (n d : ℕ) (domains tables agenda : List ℕ) (s : State) : Type 0 where
   pub passed : PassedSearch n d domains tables agenda (s .counts .steps .0) (s .counts .checks .0) (s .subproblems)
-  pub passes : Passes (problemOf n d domains tables) (slotsIn n (length agenda)) (searchOf n agenda s)
+  pub passes : Passes (problemOf n d domains tables) (slots (slotsIn n (length agenda))) (searchOf n agenda s)
   pub fit : Sized n d tables
-  pub shaped : Shaped n d (searchOf n agenda s .stack)
+  pub shaped : Shaped n d (searchOf n agenda s .memory)
 
 pub known : (n d : ℕ) (domains tables agenda : List ℕ) (s : State) → Handed n d domains tables agenda s → Known n d domains tables agenda s
 known n d domains tables agenda s h =
@@ -186,8 +190,8 @@ known n d domains tables agenda s h =
 module _ (n d : ℕ) (domains tables before after : List ℕ) (s : State) (r : Ran) (first : ℕ) (stopped : Stopped)
     (handed : Handed n d domains tables before s) (ends : Ends first n before after s stopped r) where
   -- a call whose first checks pass leaves its run's search
-  pub ends-leaves : first ≡ 0 → Passes (problemOf n d domains tables) (slotsIn n (length before)) (stopped .search)
-      → Shaped n d (stopped .search .stack) → Leaves n d domains tables before after (r .state) (stopped .search)
+  pub ends-leaves : first ≡ 0 → Passes (problemOf n d domains tables) (slots (slotsIn n (length before))) (stopped .search)
+      → Shaped n d (stopped .search .memory) → Leaves n d domains tables before after (r .state) (stopped .search)
   ends-leaves none passes shaped =
       let test : eqb first 0 ≡ true = eq-eqb first 0 none in
       leaves n d domains tables before after (r .state) (stopped .search) (known n d domains tables before s handed .passed .passed) passes shaped
@@ -207,7 +211,7 @@ module _ (n d : ℕ) (domains tables before after : List ℕ) (s : State) (r : R
           stepped = rw steps (handed .stepped);
           passes = rw (same, steps, checks, count) (handed .passes);
         };
-        search = λ i. record { stack = stackOf n (same i) (count i); steps = steps i; checks = checks i };
+        search = λ i. record { memory = stackOf n (same i) (count i); steps = steps i; checks = checks i };
         length-kept = ap length same;
       }
 
@@ -215,7 +219,7 @@ pub run-leaves-so : (n d : ℕ) (domains tables before after requests : List ℕ
     → Runs n d domains tables before after requests s r
     → (WholeRequests n (length requests)
     → Leaves n d domains tables before after (r .state)
-    (run (problemOf n d domains tables) (slotsIn n (length before)) (requestsIn n requests) (searchOf n before s) .search))
+    (run (problemOf n d domains tables) (slots (slotsIn n (length before))) (requestsIn n requests) (searchOf n before s) .search))
     × ((WholeRequests n (length requests) → ⊥) → Leaves n d domains tables before after (r .state) (searchOf n before s))
 run-leaves-so n d domains tables before after requests s r handed runs =
     let k = known n d domains tables before s handed in
@@ -223,26 +227,26 @@ run-leaves-so n d domains tables before after requests s r handed runs =
     let room : ℕ = slotsIn n (length before) in
     let both = run-is-passed n d domains tables before (s .counts .steps .0) (s .counts .checks .0) (s .subproblems) requests in (
       (λ whole.
-          ends-leaves n d domains tables before after s r _ (run p room (requestsIn n requests) (searchOf n before s)) handed runs
+          ends-leaves n d domains tables before after s r _ (run p (slots room) (requestsIn n requests) (searchOf n before s)) handed runs
           (both .1 (k .passed, whole))
-          (run-passes p room (requestsIn n requests) (searchOf n before s) (k .passes))
+          (run-passes p (slots room) (slots-lawful room) (requestsIn n requests) (searchOf n before s) (k .passes))
           (run-shaped n d domains tables room (k .fit) (requestsIn n requests) (searchOf n before s) (k .passes) (k .shaped))),
-      (λ none. ends-kept n d domains tables before after s r _ (run p room (requestsIn n requests) (searchOf n before s)) handed runs
+      (λ none. ends-kept n d domains tables before after s r _ (run p (slots room) (requestsIn n requests) (searchOf n before s)) handed runs
           (λ e. none (both .0 e .1))),
     )
 
 pub chooser-leaves-so : (n d : ℕ) (domains tables before after : List ℕ) (limit : ℕ) (s : State) (r : Ran) → Handed n d domains tables before s
     → Chooses n d domains tables before after limit s r
     → Leaves n d domains tables before after (r .state)
-    (choose (problemOf n d domains tables) (slotsIn n (length before)) limit (searchOf n before s) .search)
+    (choose (problemOf n d domains tables) (slots (slotsIn n (length before))) limit (searchOf n before s) .search)
 chooser-leaves-so n d domains tables before after limit s r handed chooses =
     let k = known n d domains tables before s handed in
     let p : Problem = problemOf n d domains tables in
     let room : ℕ = slotsIn n (length before) in
-    let rs : List (List ℕ) = picks p room limit (searchOf n before s) in
-    let as-run : choose p room limit (searchOf n before s) ≡ run p room rs (searchOf n before s) = picked p room limit (searchOf n before s) 0 in
-    ends-leaves n d domains tables before after s r _ (choose p room limit (searchOf n before s)) handed chooses (handed .passes)
-    (rw as-run (run-passes p room rs (searchOf n before s) (k .passes)))
+    let rs : List (List ℕ) = picks p (slots room) limit (searchOf n before s) in
+    let as-run : choose p (slots room) limit (searchOf n before s) ≡ run p (slots room) rs (searchOf n before s) = picked p (slots room) limit (searchOf n before s) 0 in
+    ends-leaves n d domains tables before after s r _ (choose p (slots room) limit (searchOf n before s)) handed chooses (handed .passes)
+    (rw as-run (run-passes p (slots room) (slots-lawful room) rs (searchOf n before s) (k .passes)))
     (rw as-run (run-shaped n d domains tables room (k .fit) rs (searchOf n before s) (k .passes) (k .shaped)))
 
 -- ---- what the verdict of a call says
@@ -253,17 +257,17 @@ none-long (P ∷ S) e = absurd (omega (arith, e))
 
 -- A call that leaves the search x with x's verdict says what is so of the agenda it leaves.
 says : (n d : ℕ) (domains tables before after : List ℕ) (x : Search) (r : Ran) → Leaves n d domains tables before after (r .state) x
-    → r .verdict ≡ verdictOf n (x .stack) → Verdict-says n d domains tables after r
+    → r .verdict ≡ verdictOf n (x .memory) → Verdict-says n d domains tables after r
 says n d domains tables before after x r left gives =
     let stack : List Subproblem = stackOf n after (r .state .subproblems) in
-    let same : r .verdict ≡ verdictOf n stack = gives ∙ sym (ap (λ (y : Search). verdictOf n (y .stack)) (left .search)) in
+    let same : r .verdict ≡ verdictOf n stack = gives ∙ sym (ap (λ (y : Search). verdictOf n (y .memory)) (left .search)) in
     let passes = known n d domains tables after (r .state) (left .handed) .passes in
     let long : length stack ≡ r .state .subproblems = length-stackOf n after (r .state .subproblems) in
     record {
       verdict = same;
       solved = λ k.
           let (P, S, top, all) = solved-top n stack (sym same ∙ is-solved (r .verdict) k) in
-          let (values, solution) = shown (top-held (problemOf n d domains tables) _ P S (searchOf n after (r .state)) passes top)
+          let (values, solution) = shown (top-held (problemOf n d domains tables) (slots _) P S (searchOf n after (r .state)) passes top)
           (all-instantiated n P all) in
           (P, S, top, values, solution);
       unsolvable = (
@@ -274,7 +278,7 @@ says n d domains tables before after x r left gives =
 
 -- the verdict of a call whose first checks pass
 verdict-of : (first n : ℕ) (before after : List ℕ) (s : State) (stopped : Stopped) (r : Ran) → Ends first n before after s stopped r → first ≡ 0
-    → r .verdict ≡ verdictOf n (stopped .search .stack)
+    → r .verdict ≡ verdictOf n (stopped .search .memory)
 verdict-of first n before after s stopped r ends none = let test : eqb first 0 ≡ true = eq-eqb first 0 none in rw test at (ends .verdict)
 
 pub run-says-so : (n d : ℕ) (domains tables before after requests : List ℕ) (s : State) (r : Ran) → Handed n d domains tables before s
@@ -329,7 +333,8 @@ open-leaves-so n d domains tables before after r opens none =
     let zero : openRefusal n d domains tables before ≡ 0 = sym (opens .refusal) ∙ none in
     let test : eqb (openRefusal n d domains tables before) 0 ≡ true = eq-eqb _ 0 zero in
     let passed = open-is-passed n d domains tables before .0 zero in
-    let reached = reached-holds n d domains tables (passed .proper) (Reached.opened (some-slots n (length before) (passed .slots))) .passes in
+    let reached = reached-passes n d domains tables _ _ (passed .proper)
+    (reached-opened n d domains tables _ (some-slots n (length before) (passed .slots))) in
     leaves n d domains tables before after (r .state) (begun n domains) passed reached
     (opening-shaped n d domains (passed .proper .variables) (passed .domains-words) (passed .proper .domains))
     (rw test at (opens .agenda)) (opens .steps) (opens .checks) (rw test at (opens .subproblems))

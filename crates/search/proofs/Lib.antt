@@ -1,15 +1,11 @@
 pub mod Cases
-pub mod Ending
 pub mod Encoding
+pub mod Ending
 pub mod Exactly
 pub mod HandedOn
 pub mod Opening
-pub mod Passing
-pub mod Picking
 pub mod Planners
 pub mod Promises
 pub mod Reaching
-pub mod Refusals
 pub mod Running
-pub mod Runs
-pub mod Verdicts
+pub mod Slots

@@ -12,13 +12,14 @@ use Rattle.splits.specs.Splits.{instantiate, without, cut, cutBeside, atTargets
 use Rattle.splits.specs.Checks.{lookedAt, others, tried, valuesIn, checks}
 use Rattle.splits.specs.Tests.Refusals.{refused-7, refused-8, refused-9, bad, someBad, allSame, refused-10, refusalOf}
 use Rattle.search.specs.Agenda.{holding, slotWords, subproblemOf, slotAt, stackOf, stackWords, agendaOf}
-use Rattle.search.specs.Verdicts.{finished, verdictOf}
-use Rattle.search.specs.Runs.{splitTop, step, refusalOfTop, refusalOfRequest, runFrom, cutInto, requestsIn}
+use Rattle.searches.specs.Verdicts.{finished, verdictOf}
+use Rattle.searches.specs.Machines.{splitTop}
+use Rattle.searches.specs.Runs.{checksOfTop, step, refusalOfTop, refusalOfRequest, runFrom, cutInto, requestsIn}
 use Rattle.problem.specs.Tests.FirstChecks.{refusalOfNumbers, masksBelow, symmetric, refusalOfProblem}
 use Rattle.search.specs.Tests.FirstChecks.{wholeSlots, refusalOfLengths, refusalOfRequests, domainObeys, valuesAgree, obeys, allObey, zerosFrom, refusalOfSearch, runRefusal}
 use Rattle.search.specs.Promises.{Right}
 use Rattle.search.specs.declared.state.Ran.{Ran}
-use Rattle.search.specs.declared.state.Verdict.the-variants.{Running}
+use Rattle.searches.specs.declared.verdict.Verdict.the-variants.{Running}
 
 -- Both requests are taken: 1,2 with 0 marked is left, after 2 steps and 1 check.
 pub record Says (after : List ℕ) (r : Ran) : Type 0 where
@@ -34,7 +35,7 @@ pub says : (after : List ℕ) (r : Ran) → Right after r → Says after r
 unfolding runRefusal refusalOfNumbers refusalOfLengths wholeSlots refusalOfRequests refusalOfProblem masksBelow symmetric refusalOfSearch allObey obeys
     domainObeys valuesAgree zerosFrom tableOf stackOf subproblemOf slotAt agendaOf stackWords slotWords requestsIn cutInto
     holding runFrom finished refusalOfRequest refusalOfTop refusalOf refused-7 refused-8 refused-9 refused-10 bad someBad allSame
-    step splitTop pieces named keep below backtracking forwardChecking idc halving extraction instantiate without cut cutBeside atTargets forbids
+    step checksOfTop splitTop pieces named keep below backtracking forwardChecking idc halving extraction instantiate without cut cutBeside atTargets forbids
     instantiatedOther forbidden precluded disjunct extract changed empty some every allInstantiated smallest smallerHalf minus bit ones onesIn
     trailingZeros
     checks lookedAt others tried valuesIn total verdictOf

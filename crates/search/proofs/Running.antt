@@ -15,9 +15,10 @@ use Rattle.problem.specs.Problem.{Problem, problemOf}
 use Rattle.splits.specs.Subproblems.{allInstantiated}
 use Rattle.splits.specs.declared.subproblem.Subproblem.{Subproblem}
 use Rattle.search.specs.Agenda.{subproblemOf, slotAt, stackOf, slotsIn}
-use Rattle.search.specs.Verdicts.{finished, verdictOf}
-use Rattle.search.specs.Runs.{Search, Stopped, refusalOfRequest, runFrom, run, cutInto, requestsIn}
-use Rattle.search.specs.Chooser.{chosen, chooseFrom, choose}
+use Rattle.search.specs.Slots.{slots, Search, Stopped}
+use Rattle.searches.specs.Verdicts.{finished, verdictOf}
+use Rattle.searches.specs.Runs.{refusalOfRequest, runFrom, run, cutInto, requestsIn, stop}
+use Rattle.searches.specs.Chooser.{chosen, chooseFrom, choose}
 use Rattle.search.specs.Calls.{searchOf}
 use Rattle.search.specs.Loops.Slots.{SlotIn}
 use Rattle.search.specs.Loops.Kept.{Regular, Ready}
@@ -25,11 +26,12 @@ use Rattle.search.specs.Loops.Steps.{Taking, StopsAt}
 use Rattle.search.specs.Loops.Choices.{chosenFor}
 use Rattle.search.specs.Loops.Ends.{Used, requestAt}
 use Rattle.search.specs.declared.state.State.{State}
-use Rattle.search.specs.declared.state.Verdict.the-variants.{Running, Solved, Unsolvable}
+use Rattle.searches.specs.declared.verdict.Verdict.the-variants.{Running, Solved, Unsolvable}
 use Rattle.search.specs.declared.step.Stop.{Stop}
 use Rattle.search.proofs.Encoding.{length-stackOf, agenda-back}
-use Rattle.search.proofs.Verdicts.{finished-top}
-use Rattle.search.proofs.step.Stepping.{stack-more, run-on, run-stops, one-finished}
+use Rattle.searches.proofs.Verdicts.{finished-top}
+use Rattle.search.proofs.step.Stepping.{stack-more}
+use Rattle.searches.proofs.OneByOne.{run-on, run-halts, one-finished, choose-one, choose-on, choose-halts}
 use Rattle.search.proofs.chooser.Choosing.{chosen-is}
 
 -- ---- the top and the verdict
@@ -79,10 +81,10 @@ module _ (n d : ℕ) (t agenda : List ℕ) (s : State) (ready : Ready n d t agen
 
   -- A search that is finished stays as it is.
   pub stays : (r : List ℕ) → finished n (stackOf n agenda (s .subproblems)) ≡ true
-      → StopsAt n d t agenda agenda (runFrom (problemOf n d [] t) (slotsIn n (length agenda)) (r ∷ []) (searchOf n agenda s) 0)
+      → StopsAt n d t agenda agenda (runFrom (problemOf n d [] t) (slots (slotsIn n (length agenda))) (r ∷ []) (searchOf n agenda s) 0)
       (record { refusal = 0; taken = 0; state = s })
   stays r e =
-      rw (one-finished (problemOf n d [] t) (slotsIn n (length agenda)) r (searchOf n agenda s) e)
+      rw (one-finished (problemOf n d [] t) (slots (slotsIn n (length agenda))) r (searchOf n agenda s) e)
       (record {
         refusal = refl;
         taken = refl;
@@ -102,10 +104,10 @@ module _ (n d : ℕ) (t agenda : List ℕ) (s : State) (ready : Ready n d t agen
 pub left-is : (n d : ℕ) (t before after : List ℕ) (to : Stopped) (r : Stop) → StopsAt n d t before after to r
     → searchOf n after (r .state) ≡ to .search
 left-is n d t before after to r h =
-    let stack : stackOf n after (r .state .subproblems) ≡ to .search .stack =
-    ap (stackOf n after) (h .subproblems) ∙ ap (λ (l : List ℕ). stackOf n l (length (to .search .stack))) (h .ready .words)
-    ∙ agenda-back n d (length after) (to .search .stack) (h .ready .fitting .few) (λ P m. h .ready .each P m .shape) in
-    λ i. record { stack = stack i; steps = h .steps i; checks = h .checks i }
+    let stack : stackOf n after (r .state .subproblems) ≡ to .search .memory =
+    ap (stackOf n after) (h .subproblems) ∙ ap (λ (l : List ℕ). stackOf n l (length (to .search .memory))) (h .ready .words)
+    ∙ agenda-back n d (length after) (to .search .memory) (h .ready .fitting .few) (λ P m. h .ready .each P m .shape) in
+    λ i. record { memory = stack i; steps = h .steps i; checks = h .checks i }
 
 -- It is ready for the next step.
 pub left-ready : (n d : ℕ) (t before after : List ℕ) (to : Stopped) (r : Stop) → StopsAt n d t before after to r
@@ -138,8 +140,8 @@ cut-end (suc k) (suc m) w ws h = cut-end k m w (drop w ws) (omega arith)
 pub record Going (n d : ℕ) (t requests before : List ℕ) (start : State) (agenda : List ℕ) (s : State) (taken : ℕ) : Type 0 where
   pub ready : Ready n d t agenda (searchOf n agenda s)
   pub room : length agenda ≡ length before
-  pub same : run (problemOf n d [] t) (slotsIn n (length before)) (requestsIn n requests) (searchOf n before start)
-      ≡ runFrom (problemOf n d [] t) (slotsIn n (length before)) (drop taken (requestsIn n requests)) (searchOf n agenda s) taken
+  pub same : run (problemOf n d [] t) (slots (slotsIn n (length before))) (requestsIn n requests) (searchOf n before start)
+      ≡ runFrom (problemOf n d [] t) (slots (slotsIn n (length before))) (drop taken (requestsIn n requests)) (searchOf n agenda s) taken
 
 -- At the start none is taken.
 pub going-none : (n d : ℕ) (t requests before : List ℕ) (start : State) → Ready n d t before (searchOf n before start)
@@ -149,7 +151,7 @@ going-none n d t requests before start h = record { ready = h; room = refl; same
 module _ (n d : ℕ) (t requests before : List ℕ) (start : State) (agenda : List ℕ) (s : State) (taken : ℕ) (g : Going n d t requests before start agenda s taken) where
   -- At the end of the list.
   pub going-end : length requests / (n + 3) ≤ taken
-      → StopsAt n d t before agenda (run (problemOf n d [] t) (slotsIn n (length before)) (requestsIn n requests) (searchOf n before start))
+      → StopsAt n d t before agenda (run (problemOf n d [] t) (slots (slotsIn n (length before))) (requestsIn n requests) (searchOf n before start))
       (record { refusal = 0; taken = taken; state = s })
   unfolding requestsIn runFrom
   going-end h =
@@ -165,10 +167,10 @@ module _ (n d : ℕ) (t requests before : List ℕ) (start : State) (agenda : Li
       })
 
   module _ (more : taken < length requests / (n + 3)) (after : List ℕ) (stop : Stop) (request : List ℕ) (own : request ≡ requestAt n requests taken)
-      (stepped : StopsAt n d t agenda after (runFrom (problemOf n d [] t) (slotsIn n (length agenda)) (request ∷ []) (searchOf n agenda s) 0) stop) where
+      (stepped : StopsAt n d t agenda after (runFrom (problemOf n d [] t) (slots (slotsIn n (length agenda))) (request ∷ []) (searchOf n agenda s) 0) stop) where
     -- The run of the request alone.
     one : Stopped
-    one = runFrom (problemOf n d [] t) (slotsIn n (length before)) (request ∷ []) (searchOf n agenda s) 0
+    one = runFrom (problemOf n d [] t) (slots (slotsIn n (length before))) (request ∷ []) (searchOf n agenda s) 0
 
     -- The step that was made.
     one-stops : StopsAt n d t agenda after one stop
@@ -176,8 +178,8 @@ module _ (n d : ℕ) (t requests before : List ℕ) (start : State) (agenda : Li
     one-stops = rw (g .room) at stepped
 
     -- The run from the request on.
-    from-here : run (problemOf n d [] t) (slotsIn n (length before)) (requestsIn n requests) (searchOf n before start)
-        ≡ runFrom (problemOf n d [] t) (slotsIn n (length before)) (request ∷ drop (taken + 1) (requestsIn n requests)) (searchOf n agenda s) taken
+    from-here : run (problemOf n d [] t) (slots (slotsIn n (length before))) (requestsIn n requests) (searchOf n before start)
+        ≡ runFrom (problemOf n d [] t) (slots (slotsIn n (length before))) (request ∷ drop (taken + 1) (requestsIn n requests)) (searchOf n agenda s) taken
     unfolding requestsIn requestAt
     from-here = g .same ∙ rw (add-one, own, cut-next taken (length requests / (n + 3)) (n + 3) requests more) refl
 
@@ -188,7 +190,7 @@ module _ (n d : ℕ) (t requests before : List ℕ) (start : State) (agenda : Li
       ready = left-ready n d t agenda after one stop one-stops;
       room = one-stops .same ∙ g .room;
       same =
-          from-here ∙ run-on (problemOf n d [] t) (slotsIn n (length before)) request (searchOf n agenda s) (drop (taken + 1) (requestsIn n requests))
+          from-here ∙ run-on (problemOf n d [] t) (slots (slotsIn n (length before))) request (searchOf n agenda s) (drop (taken + 1) (requestsIn n requests))
           taken
           (λ z. h (one-stops .taken ∙ z))
           ∙ rw (← left-is n d t agenda after one stop one-stops) refl;
@@ -196,11 +198,11 @@ module _ (n d : ℕ) (t requests before : List ℕ) (start : State) (agenda : Li
 
     -- A request that was not.
     pub going-stops : stop .taken ≡ 0
-        → StopsAt n d t before after (run (problemOf n d [] t) (slotsIn n (length before)) (requestsIn n requests) (searchOf n before start))
+        → StopsAt n d t before after (run (problemOf n d [] t) (slots (slotsIn n (length before))) (requestsIn n requests) (searchOf n before start))
         (record { refusal = stop .refusal; taken = taken; state = stop .state })
     unfolding one
     going-stops h =
-        rw (from-here ∙ run-stops (problemOf n d [] t) (slotsIn n (length before)) request (searchOf n agenda s)
+        rw (from-here ∙ run-halts (problemOf n d [] t) (slots (slotsIn n (length before))) request (searchOf n agenda s)
         (drop (taken + 1) (requestsIn n requests)) taken (sym (one-stops .taken) ∙ h))
         (record {
           refusal = one-stops .refusal;
@@ -228,54 +230,25 @@ request-long n k requests h = simp (length-take, length-drop) (omega (arith, req
 
 -- ---- the loop of the chooser
 
-module _ (p : Problem) (room : ℕ) (s : Search) where
-  -- One step is a run of the request that is chosen.
-  pub choose-one : chooseFrom p room 1 s 0 ≡ runFrom p room (chosen p room (s .stack) ∷ []) s 0
-  unfolding chooseFrom runFrom
-  choose-one = refl
-
-  -- A step that was taken, and one that was not.
-  choose-on : (m k : ℕ) → (chooseFrom p room 1 s 0 .taken ≡ 0 → ⊥)
-      → chooseFrom p room (suc m) s k ≡ chooseFrom p room m (chooseFrom p room 1 s 0 .search) (k + 1)
-  unfolding chooseFrom
-  choose-on m k h = go (finished (p .n) (s .stack)) refl (eqb (refusalOfRequest p room (chosen p room (s .stack)) s) 0) refl
-    where
-      go : (b : Bool) → finished (p .n) (s .stack) ≡ b → (z : Bool) → eqb (refusalOfRequest p room (chosen p room (s .stack)) s) 0 ≡ z
-          → chooseFrom p room (suc m) s k ≡ chooseFrom p room m (chooseFrom p room 1 s 0 .search) (k + 1)
-      go true e z f = absurd (h (rw e refl))
-      go false e true f = rw (e, f) refl
-      go false e false f = absurd (h (rw (e, f) refl))
-
-  choose-stops : (m k : ℕ) → chooseFrom p room 1 s 0 .taken ≡ 0
-      → chooseFrom p room (suc m) s k ≡ record { search = chooseFrom p room 1 s 0 .search; refusal = chooseFrom p room 1 s 0 .refusal; taken = k }
-  unfolding chooseFrom
-  choose-stops m k h = go (finished (p .n) (s .stack)) refl (eqb (refusalOfRequest p room (chosen p room (s .stack)) s) 0) refl
-    where
-      go : (b : Bool) → finished (p .n) (s .stack) ≡ b → (z : Bool) → eqb (refusalOfRequest p room (chosen p room (s .stack)) s) 0 ≡ z
-          → chooseFrom p room (suc m) s k ≡ record { search = chooseFrom p room 1 s 0 .search; refusal = chooseFrom p room 1 s 0 .refusal; taken = k }
-      go true e z f = rw e refl
-      go false e true f = let z : 0 + 1 ≡ 0 = rw (e, f) at h in absurd (omega arith)
-      go false e false f = rw (e, f) refl
-
 -- The chooser that has taken some steps.
 pub record GoingChosen (n d : ℕ) (t : List ℕ) (limit : ℕ) (before : List ℕ) (start : State) (agenda : List ℕ) (s : State) (taken : ℕ) : Type 0 where
   pub ready : Ready n d t agenda (searchOf n agenda s)
   pub room : length agenda ≡ length before
-  pub same : choose (problemOf n d [] t) (slotsIn n (length before)) limit (searchOf n before start)
-      ≡ chooseFrom (problemOf n d [] t) (slotsIn n (length before)) (limit - taken) (searchOf n agenda s) taken
+  pub same : choose (problemOf n d [] t) (slots (slotsIn n (length before))) limit (searchOf n before start)
+      ≡ chooseFrom (problemOf n d [] t) (slots (slotsIn n (length before))) (limit - taken) (searchOf n agenda s) taken
 
 -- At the start none is taken.
 pub choosing-none : (n d : ℕ) (t : List ℕ) (limit : ℕ) (before : List ℕ) (start : State) → Ready n d t before (searchOf n before start)
     → GoingChosen n d t limit before start before start 0
 choosing-none n d t limit before start h =
     let all : limit ≡ limit - 0 = omega arith in
-    record { ready = h; room = refl; same = ap (λ (m : ℕ). choose (problemOf n d [] t) (slotsIn n (length before)) m (searchOf n before start)) all }
+    record { ready = h; room = refl; same = ap (λ (m : ℕ). choose (problemOf n d [] t) (slots (slotsIn n (length before))) m (searchOf n before start)) all }
 
 module _ (n d : ℕ) (t : List ℕ) (limit : ℕ) (before : List ℕ) (start : State) (agenda : List ℕ) (s : State) (taken : ℕ)
     (g : GoingChosen n d t limit before start agenda s taken) where
   -- At the limit.
   pub choosing-end : limit ≤ taken
-      → StopsAt n d t before agenda (choose (problemOf n d [] t) (slotsIn n (length before)) limit (searchOf n before start))
+      → StopsAt n d t before agenda (choose (problemOf n d [] t) (slots (slotsIn n (length before))) limit (searchOf n before start))
       (record { refusal = 0; taken = taken; state = s })
   unfolding chooseFrom
   choosing-end h =
@@ -292,10 +265,10 @@ module _ (n d : ℕ) (t : List ℕ) (limit : ℕ) (before : List ℕ) (start : S
       })
 
   module _ (more : taken < limit) (after : List ℕ) (stop : Stop)
-      (stepped : StopsAt n d t agenda after (chooseFrom (problemOf n d [] t) (slotsIn n (length agenda)) 1 (searchOf n agenda s) 0) stop) where
+      (stepped : StopsAt n d t agenda after (chooseFrom (problemOf n d [] t) (slots (slotsIn n (length agenda))) 1 (searchOf n agenda s) 0) stop) where
     -- The step at hand.
     one-step : Stopped
-    one-step = chooseFrom (problemOf n d [] t) (slotsIn n (length before)) 1 (searchOf n agenda s) 0
+    one-step = chooseFrom (problemOf n d [] t) (slots (slotsIn n (length before))) 1 (searchOf n agenda s) 0
 
     -- The step that was made.
     step-stops : StopsAt n d t agenda after one-step stop
@@ -303,11 +276,11 @@ module _ (n d : ℕ) (t : List ℕ) (limit : ℕ) (before : List ℕ) (start : S
     step-stops = rw (g .room) at stepped
 
     -- The chooser from here on.
-    from-step : choose (problemOf n d [] t) (slotsIn n (length before)) limit (searchOf n before start)
-        ≡ chooseFrom (problemOf n d [] t) (slotsIn n (length before)) (suc (limit - (taken + 1))) (searchOf n agenda s) taken
+    from-step : choose (problemOf n d [] t) (slots (slotsIn n (length before))) limit (searchOf n before start)
+        ≡ chooseFrom (problemOf n d [] t) (slots (slotsIn n (length before))) (suc (limit - (taken + 1))) (searchOf n agenda s) taken
     from-step =
         let next : limit - taken ≡ suc (limit - (taken + 1)) = omega arith in
-        g .same ∙ ap (λ (m : ℕ). chooseFrom (problemOf n d [] t) (slotsIn n (length before)) m (searchOf n agenda s) taken) next
+        g .same ∙ ap (λ (m : ℕ). chooseFrom (problemOf n d [] t) (slots (slotsIn n (length before))) m (searchOf n agenda s) taken) next
 
     -- A step that was taken.
     pub choosing-on : (stop .taken ≡ 0 → ⊥) → GoingChosen n d t limit before start after (stop .state) (taken + 1)
@@ -316,19 +289,19 @@ module _ (n d : ℕ) (t : List ℕ) (limit : ℕ) (before : List ℕ) (start : S
       ready = left-ready n d t agenda after one-step stop step-stops;
       room = step-stops .same ∙ g .room;
       same =
-          from-step ∙ choose-on (problemOf n d [] t) (slotsIn n (length before)) (searchOf n agenda s) (limit - (taken + 1)) taken
+          from-step ∙ choose-on (problemOf n d [] t) (slots (slotsIn n (length before))) (searchOf n agenda s) (limit - (taken + 1)) taken
           (λ z. h (step-stops .taken ∙ z))
           ∙ rw (← left-is n d t agenda after one-step stop step-stops) refl;
     }
 
     -- A step that was not.
     pub choosing-stops : stop .taken ≡ 0
-        → StopsAt n d t before after (choose (problemOf n d [] t) (slotsIn n (length before)) limit (searchOf n before start))
+        → StopsAt n d t before after (choose (problemOf n d [] t) (slots (slotsIn n (length before))) limit (searchOf n before start))
         (record { refusal = stop .refusal; taken = taken; state = stop .state })
     unfolding one-step
     choosing-stops h =
         rw
-        (from-step ∙ choose-stops (problemOf n d [] t) (slotsIn n (length before)) (searchOf n agenda s) (limit - (taken + 1)) taken
+        (from-step ∙ choose-halts (problemOf n d [] t) (slots (slotsIn n (length before))) (searchOf n agenda s) (limit - (taken + 1)) taken
         (sym (step-stops .taken) ∙ h))
         (record {
           refusal = step-stops .refusal;
@@ -345,11 +318,11 @@ module _ (n d : ℕ) (t : List ℕ) (limit : ℕ) (before : List ℕ) (start : S
 module _ (n d : ℕ) (t agenda : List ℕ) (s : State) (ready : Ready n d t agenda (searchOf n agenda s)) where
   -- A search that is finished stays as it is.
   pub stays-chosen : finished n (stackOf n agenda (s .subproblems)) ≡ true
-      → StopsAt n d t agenda agenda (chooseFrom (problemOf n d [] t) (slotsIn n (length agenda)) 1 (searchOf n agenda s) 0)
+      → StopsAt n d t agenda agenda (chooseFrom (problemOf n d [] t) (slots (slotsIn n (length agenda))) 1 (searchOf n agenda s) 0)
       (record { refusal = 0; taken = 0; state = s })
   stays-chosen e =
-      rw (choose-one (problemOf n d [] t) (slotsIn n (length agenda)) (searchOf n agenda s))
-      (stays n d t agenda s ready (chosen (problemOf n d [] t) (slotsIn n (length agenda)) (stackOf n agenda (s .subproblems))) e)
+      rw (choose-one (problemOf n d [] t) (slots (slotsIn n (length agenda))) (searchOf n agenda s))
+      (stays n d t agenda s ready (chosen (problemOf n d [] t) (slots (slotsIn n (length agenda))) (stackOf n agenda (s .subproblems))) e)
 
   -- The slots below the top are not more than all.
   pub below-room : s .subproblems - 1 ≤ slotsIn n (length agenda)
@@ -366,12 +339,12 @@ module _ (n d : ℕ) (t agenda : List ℕ) (s : State) (ready : Ready n d t agen
 
     -- The request that was made is the one that the rule chooses.
     pub chosen-stops : (r after : List ℕ) (stop : Stop) → r ≡ chosenFor n d t P (slotsIn n (length agenda) - (s .subproblems - 1))
-        → StopsAt n d t agenda after (runFrom (problemOf n d [] t) (slotsIn n (length agenda)) (r ∷ []) (searchOf n agenda s) 0) stop
-        → StopsAt n d t agenda after (chooseFrom (problemOf n d [] t) (slotsIn n (length agenda)) 1 (searchOf n agenda s) 0) stop
+        → StopsAt n d t agenda after (runFrom (problemOf n d [] t) (slots (slotsIn n (length agenda))) (r ∷ []) (searchOf n agenda s) 0) stop
+        → StopsAt n d t agenda after (chooseFrom (problemOf n d [] t) (slots (slotsIn n (length agenda))) 1 (searchOf n agenda s) 0) stop
     chosen-stops r after stop e h =
         let many : length (stackOf n agenda (s .subproblems - 1)) ≡ s .subproblems - 1 = length-stackOf n agenda (s .subproblems - 1) in
-        let same : r ≡ chosen (problemOf n d [] t) (slotsIn n (length agenda)) (stackOf n agenda (s .subproblems)) =
+        let same : r ≡ chosen (problemOf n d [] t) (slots (slotsIn n (length agenda))) (stackOf n agenda (s .subproblems)) =
         e ∙ ap (λ (k : ℕ). chosenFor n d t P (slotsIn n (length agenda) - k)) (sym many)
         ∙ chosen-is n d t (slotsIn n (length agenda)) P (stackOf n agenda (s .subproblems - 1)) (rw many below-room)
-        ∙ ap (chosen (problemOf n d [] t) (slotsIn n (length agenda))) (sym whole-stack) in
-        rw (choose-one (problemOf n d [] t) (slotsIn n (length agenda)) (searchOf n agenda s), ← same) h
+        ∙ ap (chosen (problemOf n d [] t) (slots (slotsIn n (length agenda)))) (sym whole-stack) in
+        rw (choose-one (problemOf n d [] t) (slots (slotsIn n (length agenda))) (searchOf n agenda s), ← same) h

@@ -2,10 +2,8 @@
 pub mod Agenda
 pub mod Calls
 pub mod Cases
-pub mod Chooser
 pub mod FirstChecks
 pub mod Loops
 pub mod Promises
-pub mod Runs
+pub mod Slots
 pub mod Tests
-pub mod Verdicts

@@ -1,4 +1,5 @@
 // What a search is handed on with: two counters kept apart, the number of subproblems, and what a call returns.
+use searches::verdict::Verdict;
 
 // Steps taken.
 pub struct Steps(pub u32);
@@ -16,14 +17,6 @@ pub struct Counts {
 pub struct State {
     pub counts: Counts,
     pub subproblems: usize,
-}
-
-// None: refused by the first checks.
-pub enum Verdict {
-    None,
-    Running,
-    Solved,
-    Unsolvable,
 }
 
 // What opening returns.

@@ -1,11 +1,12 @@
 -- The promises of specs/Promises.antt, proved.
 -- Assumes nothing.
 use mathlib.Core.Path.{_∙_}
-use Rattle.splits.specs.Promises.{One-by-one, By-row, Refusal-7, Refusal-8, Refusal-9, Refusal-10, Refusal-none, Reads-refusal, Reads-pieces, Reads-checks, Diagonal-piece, Diagonal-checks, Domain-one, Is-instantiated-one, All-instantiated-one, Is-empty-one, Instantiate-one, Without-one, Cut-one, Cut-each-one, Precluded-one, Candidates-one, Piece-one, Checks-one, Refusal-one}
+use Rattle.splits.specs.Promises.{One-by-one, By-row, Request-refusals, Request-accepted, First-one, Reads-refusal, Reads-pieces, Reads-checks, Diagonal-piece, Diagonal-checks, Domain-one, Is-instantiated-one, All-instantiated-one, Is-empty-one, Instantiate-one, Without-one, Cut-one, Cut-each-one, Precluded-one, Candidates-one, Piece-one, Checks-one, Refusal-one}
 use Rattle.splits.proofs.split.OneByOne.{all-one-by-one}
 use Rattle.splits.proofs.subproblem.Rows.{row-made}
 use Rattle.splits.proofs.Apart.{apart-piece, apart-checks}
-use Rattle.splits.proofs.refusal.Refusals.{is-7, is-8, is-9, is-10, is-none, same-refusal, same-pieces, same-checks}
+use Rattle.problem.proofs.Refusing.{first-one as one-first}
+use Rattle.splits.proofs.refusal.Refusals.{first-refusal, is-none, same-refusal, same-pieces, same-checks}
 use Rattle.problem.proofs.Answers.{one}
 
 pub one-by-one : One-by-one
@@ -14,20 +15,14 @@ one-by-one = all-one-by-one
 pub by-row : By-row
 by-row n allowed P V′ v row few long small h its = row-made n allowed V′ v row few its P long (λ i l. small i) h
 
-pub refusal-7 : Refusal-7
-refusal-7 = is-7
+pub request-refusals : Request-refusals
+request-refusals = first-refusal
 
-pub refusal-8 : Refusal-8
-refusal-8 = is-8
+pub request-accepted : Request-accepted
+request-accepted = is-none
 
-pub refusal-9 : Refusal-9
-refusal-9 = is-9
-
-pub refusal-10 : Refusal-10
-refusal-10 = is-10
-
-pub refusal-none : Refusal-none
-refusal-none = is-none
+pub first-one : First-one
+first-one = one-first
 
 pub reads-refusal : Reads-refusal
 reads-refusal n d P r s h = same-refusal n P r s h d

@@ -12,7 +12,8 @@ use Rattle.problem.specs.Lists.{below}
 use Rattle.splits.specs.Splits.{precluded, filled, pieces, precludedBy, candidates, candidate}
 use Rattle.problem.specs.Beside.{RowOf}
 use Rattle.splits.specs.Checks.{checks}
-use Rattle.splits.specs.Refusals.{Accepted, Deserves-7, Deserves-8, Deserves-9, Deserves-10}
+use Rattle.problem.specs.Refusing.{Refusals, First-of}
+use Rattle.splits.specs.Refusals.{Accepted, refusals}
 use Rattle.splits.specs.Tests.Refusals.{refusalOf}
 use Rattle.splits.specs.declared.subproblem.Subproblem.{Subproblem}
 use Rattle.splits.specs.Calls.{Domain, Is-instantiated, All-instantiated, Is-empty, Instantiate, Without, Cut, Cut-each, Precluded, Candidates, Piece, Checks-of, Refusal-of}
@@ -32,28 +33,13 @@ By-row =
 
 -- ---- refusals, in the order 7, 8, 9, 10
 
--- 7 is given exactly when the kind is not 1 to 5.
-abbrev pub Refusal-7 : Type 0
-Refusal-7 = (n d : ℕ) (P : Subproblem) (r : List ℕ) → (refusalOf n d P r ≡ 7) ↔ Deserves-7 r
+-- Each of 7 to 10 is given exactly when it is deserved and none before it is; 0 exactly when none is.
+abbrev pub Request-refusals : Type 0
+Request-refusals = (n d : ℕ) (P : Subproblem) (r : List ℕ) → First-of (refusals n d P r) (refusalOf n d P r)
 
--- 8 is given exactly when it is deserved and 7 is not: kinds 1 to 4: V is n or more, or instantiated.
-abbrev pub Refusal-8 : Type 0
-Refusal-8 = (n d : ℕ) (P : Subproblem) (r : List ℕ) → (refusalOf n d P r ≡ 8) ↔ (Deserves-8 n P r × (Deserves-7 r → ⊥))
-
--- 9 is given exactly when it is deserved and neither 7 nor 8 is: kinds 1 to 3: v is d or more, or not in V's domain; kind 4: V has one value.
-abbrev pub Refusal-9 : Type 0
-Refusal-9 =
-    (n d : ℕ) (P : Subproblem) (r : List ℕ) → (refusalOf n d P r ≡ 9) ↔ (Deserves-9 d P r × (Deserves-7 r → ⊥) × (Deserves-8 n P r → ⊥))
-
--- 10 is given exactly when it is deserved and none of 7, 8 and 9 is: kind 5: a target is empty or not part of P's domain, or all equal P's.
-abbrev pub Refusal-10 : Type 0
-Refusal-10 =
-    (n d : ℕ) (P : Subproblem) (r : List ℕ)
-    → (refusalOf n d P r ≡ 10) ↔ (Deserves-10 n P r × (Deserves-7 r → ⊥) × (Deserves-8 n P r → ⊥) × (Deserves-9 d P r → ⊥))
-
--- 0 for none: exactly when none of the four is deserved.
-abbrev pub Refusal-none : Type 0
-Refusal-none = (n d : ℕ) (P : Subproblem) (r : List ℕ) → (refusalOf n d P r ≡ 0) ↔ Accepted n d P r
+-- 0 exactly of an accepted request.
+abbrev pub Request-accepted : Type 0
+Request-accepted = (n d : ℕ) (P : Subproblem) (r : List ℕ) → (refusalOf n d P r ≡ 0) ↔ Accepted n d P r
 
 -- ---- the words read
 
@@ -92,6 +78,10 @@ Diagonal-checks =
     → Checks-of P n d tables request r → Checks-of P n d others request r
 
 -- ---- one answer
+
+-- Nor two differing numbers one refusal table.
+abbrev pub First-one : Type 1
+First-one = (t : Refusals) → One (First-of t)
 
 -- The domain of a variable.
 abbrev pub Domain-one : Type 0

@@ -1,10 +1,11 @@
 -- Which requests deserve refusals 7 to 10, of n variables, d values and the top subproblem P.
 use mathlib.Core.Path.{_≡_}
 use mathlib.Core.Logic.{_⊎_}
-use mathlib.Core.List.{List}
+use mathlib.Core.List.{List, [], _∷_}
 use Prim.Native.Nat.{ℕ, _≤_, _<_}
 use Rattle.problem.specs.Masks.{_∈_, Part, size}
 use Rattle.splits.specs.Subproblems.{domain, Instantiated}
+use Rattle.problem.specs.Refusing.{Refusals}
 use Rattle.splits.specs.Requests.{kindOf, variableOf, valueOf, targetOf}
 use Rattle.splits.specs.declared.subproblem.Subproblem.{Subproblem}
 
@@ -35,3 +36,7 @@ pub record Accepted (n d : ℕ) (P : Subproblem) (r : List ℕ) : Type 0 where
   pub not-8 : Deserves-8 n P r → ⊥
   pub not-9 : Deserves-9 d P r → ⊥
   pub not-10 : Deserves-10 n P r → ⊥
+
+-- The four in their order.
+abbrev pub refusals : ℕ → ℕ → Subproblem → List ℕ → Refusals
+refusals n d P r = (7, Deserves-7 r) ∷ (8, Deserves-8 n P r) ∷ (9, Deserves-9 d P r) ∷ (10, Deserves-10 n P r) ∷ []

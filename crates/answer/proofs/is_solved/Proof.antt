@@ -4,9 +4,9 @@ use mathlib.Core.Path.{_≡_, sym, ap}
 use Prim.Native.Nat.{ℕ}
 use lib.Dec.{eqb}
 use denote.Enum.Declared.{tagOf}
-use Rattle.search.specs.Verdicts.{numberOf}
-use Rattle.search.specs.declared.state.Verdict.{Verdict}
-use Rattle.search.specs.declared.state.Verdict.the-variants.{None, Running, Solved, Unsolvable}
+use Rattle.searches.specs.Verdicts.{numberOf}
+use Rattle.searches.specs.declared.verdict.Verdict.{Verdict}
+use Rattle.searches.specs.declared.verdict.Verdict.the-variants.{None, Running, Solved, Unsolvable}
 use Rattle.search.proofs.state.Verdict.{the-type}
 use borrow.Author.Needs.{needs}
 use Rattle.answer.proofs.is_solved.Statement.{statement}

@@ -5,7 +5,7 @@ use Prim.Native.Nat.{ℕ, zero, suc, _+_, _-_, _*_, _≤_}
 use lib.ListN.{length, replicate, getD}
 use Rattle.problem.specs.Masks.{lowest}
 use Rattle.search.specs.Agenda.{stackOf}
-use Rattle.search.specs.Verdicts.{verdictOf}
+use Rattle.searches.specs.Verdicts.{verdictOf}
 use Rattle.search.specs.declared.state.Ran.{Ran}
 use Rattle.answer.specs.Text.{planLine}
 use Rattle.answer.specs.declared.text.Text.{Text}

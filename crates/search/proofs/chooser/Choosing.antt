@@ -20,8 +20,9 @@ use Rattle.splits.specs.declared.subproblem.Subproblem.{Subproblem}
 use Rattle.problem.proofs.mask.Masks.{bit-le, lowest-member, member-lt}
 use Rattle.problem.proofs.Tests.{true-false}
 use Rattle.problem.specs.Ranges.{Sized}
-use Rattle.search.specs.Runs.{splitTop}
-use Rattle.search.specs.Chooser.{fewestOf, fewest, request, chosen}
+use Rattle.search.specs.Slots.{slots}
+use Rattle.searches.specs.Machines.{splitTop}
+use Rattle.searches.specs.Chooser.{fewestOf, fewest, request, chosenOf, chosen}
 use Rattle.search.specs.Loops.Kept.{Regular}
 use Rattle.search.specs.Loops.Choices.{kindFor, chosenFor}
 use Rattle.search.proofs.step.Stepping.{room-shift}
@@ -62,8 +63,8 @@ value-below n d t P V′ fit reg h =
 
 -- It is the rule's, of a stack with P on top.
 pub chosen-is : (n d : ℕ) (t : List ℕ) (room : ℕ) (P : Subproblem) (S : List Subproblem) → length S ≤ room
-    → chosenFor n d t P (room - length S) ≡ chosen (problemOf n d [] t) room (P ∷ S)
-unfolding chosenFor kindFor chosen splitTop
+    → chosenFor n d t P (room - length S) ≡ chosen (problemOf n d [] t) (slots room) (P ∷ S)
+unfolding chosenFor kindFor chosen chosenOf splitTop
 chosen-is n d t room P S h =
     let V′ : ℕ = fewest n P in
     let v : ℕ = lowest (domain P (fewest n P)) in

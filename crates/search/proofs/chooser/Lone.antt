@@ -22,7 +22,7 @@ use Rattle.problem.proofs.Tests.{true-false, same-test, some-at, some-found, so
 use Rattle.splits.proofs.subproblem.Domains.{changed-before, changed-after}
 use Rattle.splits.proofs.subproblem.Subproblems.{empty-at, precluded-empty}
 use Rattle.problem.proofs.Lists.{each-of}
-use Rattle.search.specs.Chooser.{request}
+use Rattle.searches.specs.Chooser.{request}
 use Rattle.search.specs.Loops.Kept.{Regular}
 use Rattle.search.specs.Loops.Lanes.{lost, loses}
 

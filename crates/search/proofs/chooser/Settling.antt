@@ -27,7 +27,7 @@ use Rattle.problem.proofs.tables.Ranges.{inside-is}
 use Rattle.splits.proofs.refusal.Refusals.{is-none}
 use Rattle.splits.proofs.Promises.{by-row}
 use Rattle.search.specs.Agenda.{slotWords, stackWords, slotsIn}
-use Rattle.search.specs.Chooser.{fewest, request}
+use Rattle.searches.specs.Chooser.{fewest, request}
 use Rattle.search.specs.Loops.Slots.{SlotIn}
 use Rattle.search.specs.Loops.Kept.{Regular}
 use Rattle.search.specs.Loops.Choices.{kindFor, chosenFor}
@@ -42,7 +42,7 @@ use Rattle.search.proofs.agenda.Slots.{slot-below}
 use Rattle.search.proofs.Encoding.{length-slot}
 use Rattle.search.proofs.step.Accepting.{refused-at-11}
 use Rattle.search.proofs.step.Stepping.{in-slots, take-refused, take-steps, take-taken}
-use Rattle.search.proofs.Picking.{accepted, fewest-is}
+use Rattle.searches.proofs.Picking.{accepted, fewest-is}
 use Rattle.search.proofs.lanes.AtOnce.{word, least-is, values-are}
 use Rattle.search.proofs.chooser.Lone.{lost-is, rest-full, two-none, two-rest, three-one}
 use Rattle.search.proofs.Running.{top-regular}

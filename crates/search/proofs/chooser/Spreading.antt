@@ -25,7 +25,7 @@ use Rattle.problem.proofs.Changed.{changed-next}
 use Rattle.splits.proofs.subproblem.Domains.{length-changed, changed-before, changed-after}
 use Rattle.splits.proofs.subproblem.Subproblems.{empty-at, precluded-empty}
 use Rattle.search.specs.Agenda.{slotWords}
-use Rattle.search.specs.Chooser.{request}
+use Rattle.searches.specs.Chooser.{request}
 use Rattle.search.specs.Loops.Slots.{SlotIn}
 use Rattle.search.specs.Loops.Steps.{Replaced}
 use Rattle.search.specs.Loops.Lanes.{outsideTo, filled, BeforeTo}

@@ -16,11 +16,11 @@ use Rattle.splits.specs.declared.subproblem.Subproblem.{Subproblem}
 use Rattle.problem.proofs.Tests.{and-left, and-right}
 use Rattle.search.specs.Agenda.{stackOf, slotsIn}
 use Rattle.problem.specs.FirstChecks.{Deserves-1, Deserves-2, Deserves-4, Deserves-5}
-use Rattle.search.specs.FirstChecks.{WholeSlots, WholeRequests, Deserves-3, Deserves-3-run, Deserves-6}
+use Rattle.search.specs.FirstChecks.{WholeSlots, WholeRequests, Deserves-3, Deserves-6}
 use Rattle.search.specs.Tests.FirstChecks.{wholeSlots, refusalOfLengths, refusalOfRequests, allObey, zerosFrom, refusalOfSearch, openRefusal, searchRefusal, runRefusal}
 use Rattle.search.proofs.first_checks.Deserved.{slots-true, refutes-3, requests-true, refutes-requests, refutes-6, all-rules}
 use Rattle.problem.proofs.first_checks.Deserved.{over-not}
-use Rattle.search.proofs.first_checks.FirstOrder.{is-0, open-ordered, search-ordered, run-ordered}
+use Rattle.search.proofs.first_checks.FirstOrder.{open-first, search-first, run-first}
 use Rattle.problem.proofs.first_checks.Passing.{passes, proper-where, gives-none}
 
 -- ---- the parts
@@ -117,10 +117,9 @@ module _ (n d : ℕ) (domains tables agenda : List ℕ) where
   -- What passes the first checks of opening.
   pub open-is-passed : (openRefusal n d domains tables agenda ≡ 0) ↔ Passed n d domains tables agenda
   open-is-passed =
-      let none = is-0 (Deserves-1 n) (Deserves-2 d) (Deserves-3 n d domains tables agenda) (Deserves-4 p) (Deserves-5 p) ⊥
-      (openRefusal n d domains tables agenda) (open-ordered n d domains tables agenda) in (
-        (λ e. let t = none .0 e in passed-of (t .0) (t .1) (t .2) (t .3) (t .4)),
-        (λ s. none .1 (not-1 s, not-2 s, not-3 s, not-4 s, not-5 s, (λ x. x))),
+      let none = open-first n d domains tables agenda .1 .1 .1 .1 .1 in (
+        (λ e. let t = none .0 e in passed-of (t .0 .0 .0 .0 .1) (t .0 .0 .0 .1) (t .0 .0 .1) (t .0 .1) (t .1)),
+        (λ s. none .1 (((((tt, not-1 s), not-2 s), not-3 s), not-4 s), not-5 s)),
       )
 
   module _ (steps checks subproblems : ℕ) where
@@ -156,26 +155,23 @@ module _ (n d : ℕ) (domains tables agenda : List ℕ) where
     pub search-is-passed : (searchRefusal n d domains tables agenda steps checks subproblems ≡ 0)
         ↔ PassedSearch n d domains tables agenda steps checks subproblems
     search-is-passed =
-        let none = is-0 (Deserves-1 n) (Deserves-2 d) (Deserves-3 n d domains tables agenda) (Deserves-4 p) (Deserves-5 p)
-        (Deserves-6 p agenda steps checks subproblems) (searchRefusal n d domains tables agenda steps checks subproblems)
-        (search-ordered n d domains tables agenda steps checks subproblems) in (
-          (λ e. let t = none .0 e in searched-of (passed-of (t .0) (t .1) (t .2) (t .3) (t .4)) (t .5)),
-          (λ s. let q = s .passed in none .1 (not-1 q, not-2 q, not-3 q, not-4 q, not-5 q, not-6 s)),
+        let none = search-first n d domains tables agenda steps checks subproblems .1 .1 .1 .1 .1 .1 in (
+          (λ e. let t = none .0 e in
+              searched-of (passed-of (t .0 .0 .0 .0 .0 .1) (t .0 .0 .0 .0 .1) (t .0 .0 .0 .1) (t .0 .0 .1) (t .0 .1)) (t .1)),
+          (λ s. let q = s .passed in none .1 ((((((tt, not-1 q), not-2 q), not-3 q), not-4 q), not-5 q), not-6 s)),
         )
 
     -- What passes those of a run.
     pub run-is-passed : (requests : List ℕ) → (runRefusal n d domains tables agenda requests steps checks subproblems ≡ 0)
         ↔ (PassedSearch n d domains tables agenda steps checks subproblems × WholeRequests n (length requests))
     run-is-passed requests =
-        let none = is-0 (Deserves-1 n) (Deserves-2 d) (Deserves-3-run n d domains tables agenda requests) (Deserves-4 p) (Deserves-5 p)
-        (Deserves-6 p agenda steps checks subproblems) (runRefusal n d domains tables agenda requests steps checks subproblems)
-        (run-ordered n d domains tables agenda steps checks subproblems requests) in
+        let none = run-first n d domains tables agenda steps checks subproblems requests .1 .1 .1 .1 .1 .1 in
         let list : Bool = eqb (length requests % (n + 3)) 0 in (
           (λ e. let t = none .0 e in (
-            searched-of (passed-of (t .0) (t .1) (λ x. t .2 (inl x)) (t .3) (t .4)) (t .5),
+            searched-of (passed-of (t .0 .0 .0 .0 .0 .1) (t .0 .0 .0 .0 .1) (λ x. t .0 .0 .0 .1 (inl x)) (t .0 .0 .1) (t .0 .1)) (t .1),
             requests-true n (length requests)
-                (passes list (WholeRequests n (length requests) → ⊥) (refutes-requests n (length requests)) (λ x. t .2 (inr x))),
+                (passes list (WholeRequests n (length requests) → ⊥) (refutes-requests n (length requests)) (λ x. t .0 .0 .0 .1 (inr x))),
           )),
           (λ s. let q = s .0 .passed in
-              none .1 (not-1 q, not-2 q, (λ x. ⊎-elim (not-3 q) (λ f. f (s .1)) x), not-4 q, not-5 q, not-6 (s .0))),
+              none .1 ((((((tt, not-1 q), not-2 q), (λ x. ⊎-elim (not-3 q) (λ f. f (s .1)) x)), not-4 q), not-5 q), not-6 (s .0))),
         )

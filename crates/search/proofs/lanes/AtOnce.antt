@@ -22,7 +22,7 @@ use Rattle.splits.specs.Checks.{valuesIn, others}
 use Rattle.splits.specs.declared.subproblem.Subproblem.{Subproblem}
 use Rattle.problem.proofs.mask.Masks.{bit-le, bit-or, bit-single-same, member-some, size-of-none, bit-outside}
 use Rattle.problem.proofs.Changed.{changed-more, changed-next}
-use Rattle.search.specs.Promises.{Fewest}
+use Rattle.searches.specs.Promises.{Fewest}
 use Rattle.search.specs.Loops.Kept.{Regular}
 use Rattle.search.specs.Loops.Lanes.{keyOf, LeastKey, lost, outsideTo}
 

@@ -12,9 +12,9 @@ use lib.ListN.{length, replicate, length-append}
 use lib.Count.{ones-le}
 use lib.Pow.{pow-mono}
 use lib.Dec.{eqb, ltb}
-use borrow.Author.Tests.{eq-eqb, ne-eqb, lt-ltb, le-ltb}
+use borrow.Author.Tests.{lt-ltb, le-ltb}
 use Rattle.problem.specs.Masks.{bit, size}
-use Rattle.problem.specs.Problem.{Problem, tableOf, problemOf}
+use Rattle.problem.specs.Problem.{tableOf, problemOf}
 use Rattle.problem.specs.Lists.{total, below, keep, splice}
 use Rattle.splits.specs.Subproblems.{domain}
 use Rattle.splits.specs.Requests.{kindOf, variableOf, valueOf}
@@ -27,8 +27,10 @@ use Rattle.splits.proofs.checks.Looking.{keep-append}
 use Rattle.splitting.proofs.CheckLimit.{looked-le}
 use Rattle.problem.specs.Ranges.{Sized}
 use Rattle.search.specs.Agenda.{Shape, subproblemOf, slotAt, stackOf, stackWords, slotsIn, agendaOf}
-use Rattle.search.specs.Verdicts.{finished}
-use Rattle.search.specs.Runs.{Search, splitTop, step, refusalOfTop, refusalOfRequest, runFrom}
+use Rattle.search.specs.Slots.{slots, Search}
+use Rattle.searches.specs.Verdicts.{finished}
+use Rattle.searches.specs.Runs.{refusalOfTop, refusalOfRequest, runFrom}
+use Rattle.searches.specs.Machines.{splitTop}
 use Rattle.search.specs.Loops.Kept.{Regular, Ready}
 use Rattle.search.specs.Loops.Steps.{Replaced, Taking, StopsAt, refusalFor}
 use Rattle.search.specs.Calls.{searchOf}
@@ -36,8 +38,9 @@ use Rattle.search.specs.declared.state.State.{State}
 use Rattle.search.proofs.Encoding.{length-stack, length-stackOf, stack-append, length-agenda, agenda-pop, agenda-push}
 use Rattle.search.proofs.step.Accepting.{accepted-reads, Unrefused, unrefused}
 use Rattle.search.proofs.step.Shapes.{pieces-regular}
-use Rattle.search.proofs.Verdicts.{finished-top}
-use Rattle.search.proofs.Passing.{step-is}
+use Rattle.searches.proofs.Verdicts.{finished-top}
+use Rattle.searches.proofs.OneByOne.{one-refused, one-taken}
+use Rattle.search.proofs.Slots.{step-is}
 
 -- ---- the checks of a request are at most 512
 
@@ -85,51 +88,6 @@ module _ (n d : ℕ) (t : List ℕ) (P : Subproblem) (r : List ℕ) (fit : Sized
   unfolding checks
   checks-few = kind-any (kindOf r) _ _ _ _ _ _ (λ x. x ≤ 512) tried-few values-few values-few (omega arith) (omega arith) (omega arith)
 
--- ---- a run of one request, and of more
-
-module _ (p : Problem) (room : ℕ) (r : List ℕ) (s : Search) where
-  -- A run that goes on after the first request, and one that stops there.
-  pub run-on : (rs : List (List ℕ)) (k : ℕ) → (runFrom p room (r ∷ []) s 0 .taken ≡ 0 → ⊥)
-      → runFrom p room (r ∷ rs) s k ≡ runFrom p room rs (runFrom p room (r ∷ []) s 0 .search) (k + 1)
-  unfolding runFrom
-  run-on rs k h = go (finished (p .n) (s .stack)) refl (eqb (refusalOfRequest p room r s) 0) refl
-    where
-      go : (b : Bool) → finished (p .n) (s .stack) ≡ b → (z : Bool) → eqb (refusalOfRequest p room r s) 0 ≡ z
-          → runFrom p room (r ∷ rs) s k ≡ runFrom p room rs (runFrom p room (r ∷ []) s 0 .search) (k + 1)
-      go true e z f = absurd (h (rw e refl))
-      go false e true f = rw (e, f) refl
-      go false e false f = absurd (h (rw (e, f) refl))
-
-  -- A run that stops at the first request.
-  pub run-stops : (rs : List (List ℕ)) (k : ℕ) → runFrom p room (r ∷ []) s 0 .taken ≡ 0
-      → runFrom p room (r ∷ rs) s k ≡ record { search = runFrom p room (r ∷ []) s 0 .search; refusal = runFrom p room (r ∷ []) s 0 .refusal; taken = k }
-  unfolding runFrom
-  run-stops rs k h = go (finished (p .n) (s .stack)) refl (eqb (refusalOfRequest p room r s) 0) refl
-    where
-      go : (b : Bool) → finished (p .n) (s .stack) ≡ b → (z : Bool) → eqb (refusalOfRequest p room r s) 0 ≡ z
-          → runFrom p room (r ∷ rs) s k
-          ≡ record { search = runFrom p room (r ∷ []) s 0 .search; refusal = runFrom p room (r ∷ []) s 0 .refusal; taken = k }
-      go true e z f = rw e refl
-      go false e true f = let z : 0 + 1 ≡ 0 = rw (e, f) at h in absurd (omega arith)
-      go false e false f = rw (e, f) refl
-
-  -- A finished search takes nothing.
-  pub one-finished : finished (p .n) (s .stack) ≡ true → runFrom p room (r ∷ []) s 0 ≡ record { search = s; refusal = 0; taken = 0 }
-  unfolding runFrom
-  one-finished e = rw e refl
-
-  module _ (runs : finished (p .n) (s .stack) ≡ false) where
-    -- A refused request leaves the search.
-    pub one-refused : (x : ℕ) → x ≡ refusalOfRequest p room r s → (x ≡ 0 → ⊥)
-        → runFrom p room (r ∷ []) s 0 ≡ record { search = s; refusal = x; taken = 0 }
-    unfolding runFrom
-    one-refused x e h = rw (e, runs, ne-eqb (refusalOfRequest p room r s) 0 (λ z. h (e ∙ z))) refl
-
-    -- An accepted one is a step.
-    pub one-taken : 0 ≡ refusalOfRequest p room r s → runFrom p room (r ∷ []) s 0 ≡ record { search = step p r s; refusal = 0; taken = 1 }
-    unfolding runFrom
-    one-taken e = rw (runs, eq-eqb (refusalOfRequest p room r s) 0 (sym e)) refl
-
 -- ---- a request of a running search, by its words
 
 -- The stack of one slot more.
@@ -148,9 +106,9 @@ room-shift room a b h = elim (decLt (room - a) b) [
 ]
 
 -- The refusal by the free slots is the refusal by all of them.
-pub refusal-same : (n d : ℕ) (t : List ℕ) (room : ℕ) (r : List ℕ) (s : Search) (P : Subproblem) (S : List Subproblem) → s .stack ≡ P ∷ S
+pub refusal-same : (n d : ℕ) (t : List ℕ) (room : ℕ) (r : List ℕ) (s : Search) (P : Subproblem) (S : List Subproblem) → s .memory ≡ P ∷ S
     → length S ≤ room
-    → refusalFor n d t P r (s .steps) (room - length S) ≡ refusalOfRequest (problemOf n d [] t) room r s
+    → refusalFor n d t P r (s .steps) (room - length S) ≡ refusalOfRequest (problemOf n d [] t) (slots room) r s
 unfolding refusalFor refusalOfRequest refusalOfTop splitTop
 refusal-same n d t room r s P S top h =
     let same : ltb (room - length S) (length (pieces n (tableOf n d t) P r)) ≡ ltb room (length (pieces n (tableOf n d t) P r ++ S)) =
@@ -180,16 +138,16 @@ module _ (n d : ℕ) (t agenda : List ℕ) (P : Subproblem) (r : List ℕ) (s : 
 
   -- The refusal that the code works out is that of the rules.
   its-refusal : refusalFor n d t P r (s .counts .steps .0) (slotsIn n (length agenda) - (s .subproblems - 1))
-      ≡ refusalOfRequest (problemOf n d [] t) (slotsIn n (length agenda)) r (searchOf n agenda s)
+      ≡ refusalOfRequest (problemOf n d [] t) (slots (slotsIn n (length agenda))) r (searchOf n agenda s)
   its-refusal =
       ap (λ (k : ℕ). refusalFor n d t P r (s .counts .steps .0) (slotsIn n (length agenda) - k)) (sym many)
       ∙ refusal-same n d t (slotsIn n (length agenda)) r (searchOf n agenda s) P (stackOf n agenda (s .subproblems - 1)) top-is (rw many below-slots)
 
   -- Refused, nothing changes.
   pub take-refused : (x : ℕ) → x ≡ refusalFor n d t P r (s .counts .steps .0) (slotsIn n (length agenda) - (s .subproblems - 1)) → (x ≡ 0 → ⊥)
-      → StopsAt n d t agenda agenda (runFrom (problemOf n d [] t) (slotsIn n (length agenda)) (r ∷ []) (searchOf n agenda s) 0) (record { refusal = x; taken = 0; state = s })
+      → StopsAt n d t agenda agenda (runFrom (problemOf n d [] t) (slots (slotsIn n (length agenda))) (r ∷ []) (searchOf n agenda s) 0) (record { refusal = x; taken = 0; state = s })
   take-refused x e f =
-      rw (one-refused (problemOf n d [] t) (slotsIn n (length agenda)) r (searchOf n agenda s) runs x (e ∙ its-refusal) f)
+      rw (one-refused (problemOf n d [] t) (slots (slotsIn n (length agenda))) r (searchOf n agenda s) runs x (e ∙ its-refusal) f)
       (record {
         refusal = refl;
         taken = refl;
@@ -276,7 +234,7 @@ module _ (n d : ℕ) (t agenda : List ℕ) (P : Subproblem) (r : List ℕ) (s : 
     -- The search is ready for the next step.
     made-ready : (after : List ℕ) (count : ℕ) → Replaced n (pieces n (tableOf n d t) P r) (s .subproblems - 1) agenda after count
         → Ready n d t after (record {
-          stack = pieces n (tableOf n d t) P r ++ stackOf n agenda (s .subproblems - 1);
+          memory = pieces n (tableOf n d t) P r ++ stackOf n agenda (s .subproblems - 1);
           steps = s .counts .steps .0 + 1;
           checks = s .counts .checks .0 + checks n (tableOf n d t) P r;
         })
@@ -296,7 +254,7 @@ module _ (n d : ℕ) (t agenda : List ℕ) (P : Subproblem) (r : List ℕ) (s : 
     -- Accepted, memory holds the search after the step.
     pub take-taken : (after : List ℕ) (count c : ℕ) → Replaced n (pieces n (tableOf n d t) P r) (s .subproblems - 1) agenda after count
         → c ≡ s .counts .checks .0 + checks n (tableOf n d t) P r
-        → StopsAt n d t agenda after (runFrom (problemOf n d [] t) (slotsIn n (length agenda)) (r ∷ []) (searchOf n agenda s) 0)
+        → StopsAt n d t agenda after (runFrom (problemOf n d [] t) (slots (slotsIn n (length agenda))) (r ∷ []) (searchOf n agenda s) 0)
         (record {
           refusal = 0;
           taken = 1;
@@ -304,8 +262,8 @@ module _ (n d : ℕ) (t agenda : List ℕ) (P : Subproblem) (r : List ℕ) (s : 
         })
     take-taken after count c m k =
         rw (
-          one-taken (problemOf n d [] t) (slotsIn n (length agenda)) r (searchOf n agenda s) runs (sym none ∙ e ∙ its-refusal),
-          step-is (problemOf n d [] t) P (stackOf n agenda (s .subproblems - 1)) (searchOf n agenda s) r top-is,
+          one-taken (problemOf n d [] t) (slots (slotsIn n (length agenda))) r (searchOf n agenda s) runs (sym none ∙ e ∙ its-refusal),
+          step-is (problemOf n d [] t) (slotsIn n (length agenda)) P (stackOf n agenda (s .subproblems - 1)) (searchOf n agenda s) r top-is,
         )
         (record {
           refusal = refl;

@@ -9,7 +9,7 @@ use Rattle.problem.specs.Problem.{tableOf}
 use Rattle.splits.specs.Subproblems.{domain, empty}
 use Rattle.splits.specs.Splits.{precluded, pieces}
 use Rattle.splits.specs.declared.subproblem.Subproblem.{Subproblem}
-use Rattle.search.specs.Chooser.{fewest, request}
+use Rattle.searches.specs.Chooser.{fewest, request}
 
 -- Kind 2 if the precluded piece is empty or if kind 3 has no room in the free slots, else kind 3.
 unfoldable pub kindFor : ℕ → ℕ → List ℕ → Subproblem → ℕ → ℕ → ℕ → ℕ

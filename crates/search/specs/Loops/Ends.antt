@@ -4,9 +4,9 @@ use mathlib.Core.List.{List}
 use Prim.Native.Nat.{ℕ, _+_, _*_, _≤_}
 use lib.ListN.{length, take, drop}
 use Rattle.search.specs.Agenda.{stackOf, slotsIn}
-use Rattle.search.specs.Verdicts.{verdictOf}
+use Rattle.searches.specs.Verdicts.{verdictOf}
 use Rattle.search.specs.declared.state.State.{State}
-use Rattle.search.specs.declared.state.Verdict.the-variants.{None}
+use Rattle.searches.specs.declared.verdict.Verdict.the-variants.{None}
 use Rattle.search.specs.declared.state.Ran.{Ran}
 use Rattle.search.specs.declared.step.Stop.{Stop}
 

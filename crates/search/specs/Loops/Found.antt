@@ -13,7 +13,7 @@ use Rattle.problem.specs.Beside.{RowOf}
 use Rattle.splits.specs.declared.subproblem.Subproblem.{Subproblem}
 use Rattle.problem.specs.Ranges.{Sized}
 use Rattle.search.specs.Agenda.{slotsIn}
-use Rattle.search.specs.Chooser.{fewest, request}
+use Rattle.searches.specs.Chooser.{fewest, request}
 use Rattle.search.specs.Loops.Slots.{SlotIn}
 use Rattle.search.specs.Loops.Kept.{Regular}
 use Rattle.search.specs.Loops.Choices.{chosenFor}

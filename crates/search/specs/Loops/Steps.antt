@@ -12,8 +12,9 @@ use Rattle.splits.specs.Tests.Refusals.{refusalOf}
 use Rattle.splits.specs.Calls.{readable}
 use Rattle.splits.specs.declared.subproblem.Subproblem.{Subproblem}
 use Rattle.search.specs.Agenda.{subproblemOf, slotAt, stackWords, slotsIn}
-use Rattle.search.specs.Runs.{Stopped, runFrom, run, requestsIn}
-use Rattle.search.specs.Chooser.{chooseFrom, choose}
+use Rattle.search.specs.Slots.{slots, Stopped}
+use Rattle.searches.specs.Runs.{runFrom, run, requestsIn}
+use Rattle.searches.specs.Chooser.{chooseFrom, choose}
 use Rattle.search.specs.Calls.{searchOf}
 use Rattle.problem.specs.Lists.{splice}
 use Rattle.search.specs.Loops.Kept.{Ready}
@@ -69,24 +70,24 @@ pub record StopsAt (n d : ℕ) (tables before after : List ℕ) (to : Stopped) (
   pub taken : r .taken ≡ to .taken
   pub steps : r .state .counts .steps .0 ≡ to .search .steps
   pub checks : r .state .counts .checks .0 ≡ to .search .checks
-  pub subproblems : r .state .subproblems ≡ length (to .search .stack)
+  pub subproblems : r .state .subproblems ≡ length (to .search .memory)
   pub ready : Ready n d tables after (to .search)
   pub same : length after ≡ length before
 
 -- One request of a run, and all of them.
 abbrev pub TakesOne : ℕ → ℕ → List ℕ → List ℕ → List ℕ → List ℕ → State → Stop → Type 0
 TakesOne n d tables before after request s r =
-    StopsAt n d tables before after (runFrom (problemOf n d [] tables) (slotsIn n (length before)) (request ∷ []) (searchOf n before s) 0) r
+    StopsAt n d tables before after (runFrom (problemOf n d [] tables) (slots (slotsIn n (length before))) (request ∷ []) (searchOf n before s) 0) r
 
 abbrev pub TakesAll : ℕ → ℕ → List ℕ → List ℕ → List ℕ → List ℕ → State → Stop → Type 0
 TakesAll n d tables before after requests s r =
-    StopsAt n d tables before after (run (problemOf n d [] tables) (slotsIn n (length before)) (requestsIn n requests) (searchOf n before s)) r
+    StopsAt n d tables before after (run (problemOf n d [] tables) (slots (slotsIn n (length before))) (requestsIn n requests) (searchOf n before s)) r
 
 -- One step of the chooser, and up to a number of them.
 abbrev pub ChoosesOne : ℕ → ℕ → List ℕ → List ℕ → List ℕ → State → Stop → Type 0
 ChoosesOne n d tables before after s r =
-    StopsAt n d tables before after (chooseFrom (problemOf n d [] tables) (slotsIn n (length before)) 1 (searchOf n before s) 0) r
+    StopsAt n d tables before after (chooseFrom (problemOf n d [] tables) (slots (slotsIn n (length before))) 1 (searchOf n before s) 0) r
 
 abbrev pub ChoosesAll : ℕ → ℕ → List ℕ → List ℕ → List ℕ → ℕ → State → Stop → Type 0
 ChoosesAll n d tables before after limit s r =
-    StopsAt n d tables before after (choose (problemOf n d [] tables) (slotsIn n (length before)) limit (searchOf n before s)) r
+    StopsAt n d tables before after (choose (problemOf n d [] tables) (slots (slotsIn n (length before))) limit (searchOf n before s)) r

@@ -15,10 +15,12 @@ use borrow.Author.Tests.{lt-ltb, le-ltb, le-leb, lt-leb, ne-eqb, eq-eqb, ltb-tru
 use Rattle.problem.specs.Masks.{bit, _∈_, Part, minus, size}
 use Rattle.problem.specs.Problem.{Table}
 use Rattle.splits.specs.Subproblems.{domain, empty}
-use Rattle.problem.specs.Lists.{changed, below, keep, some, every}
+use Rattle.problem.specs.Lists.{some, every, changed, below, keep}
 use Rattle.splits.specs.Requests.{kindOf, variableOf, valueOf, targetOf}
+use Rattle.splits.specs.Splits.{atTargets, without, extract, backtracking, forwardChecking, idc, halving, extraction, byKind, named, pieces}
 use Rattle.splits.specs.Checks.{tried, valuesIn, others, checks}
-use Rattle.splits.specs.Refusals.{Accepted, Deserves-7, Deserves-8, Deserves-9, Deserves-10}
+use Rattle.problem.specs.Refusing.{First-of}
+use Rattle.splits.specs.Refusals.{Accepted, Deserves-7, Deserves-8, Deserves-9, Deserves-10, refusals}
 use Rattle.splits.specs.Tests.Refusals.{bad, someBad, allSame, refused-7, refused-8, refused-9, refused-10, refusalOf}
 use Rattle.splits.specs.Promises.{Agree}
 use Rattle.splits.specs.Loops.Kinds.{deserves9, refusalOfVariable}
@@ -26,10 +28,9 @@ use Rattle.splits.specs.declared.subproblem.Subproblem.{Subproblem}
 use Rattle.problem.proofs.mask.Masks.{bit-le, common-none, part-minus, minus-part-of}
 use Rattle.splits.proofs.split.ByKind.{kinds, no-kind}
 use Rattle.problem.proofs.Tests.{true-false, and-left, and-right, or-cases, some-more, some-at, some-found, some-same, every-at, every-all, every-same}
+use Rattle.problem.proofs.Refusing.{first-by}
 use Rattle.splits.proofs.checks.Looking.{keep-append}
-use Rattle.splits.specs.Splits.{atTargets, without, extract, backtracking, forwardChecking, idc, halving, extraction, byKind, named, pieces}
 use Rattle.splits.proofs.subproblem.Subproblems.{domain-out}
-
 
 -- ---- the loops over the targets
 
@@ -167,49 +168,27 @@ up-to k m l = (λ e. (l, leb-true k m e), λ w. le-leb k m (w .1))
 
 -- ---- the first of the four that is deserved
 
--- k where a test holds, and else the rest: when that is k, and when it is another number
-module _ {b : Bool} {D : Type 0} (says : (b ≡ true) ↔ D) (k rest : ℕ) where
-  here : (rest ≡ k → ⊥) → (cond b k rest ≡ k) ↔ D
-  here other = (λ e. says .0 (go b e), λ x. rw (says .1 x))
-    where
-      go : (t : Bool) → cond t k rest ≡ k → t ≡ true
-      go true e = refl
-      go false e = absurd (other e)
-
-  later : (m : ℕ) {R : Type 0} → eqb k m ≡ false → ((D → ⊥) → (rest ≡ m) ↔ R) → (cond b k rest ≡ m) ↔ (R × (D → ⊥))
-  later m other next =
-      (λ e. let w = go b says e in (next (w .1) .0 (w .0), w .1), λ w. rw (not-true b (not-says says .1 (w .1))) (next (w .1) .1 (w .0)))
-    where
-      go : (t : Bool) → (t ≡ true) ↔ D → cond t k rest ≡ m → (rest ≡ m) × (D → ⊥)
-      go true s e = absurd (eqb-false k m other e)
-      go false s e = (e, λ x. true-false (sym (s .1 x)))
-
--- neither k nor the rest is m
-neither : (b : Bool) (k rest m : ℕ) → eqb k m ≡ false → (rest ≡ m → ⊥) → cond b k rest ≡ m → ⊥
-neither true k rest m f g = eqb-false k m f
-neither false k rest m f g = g
-
 -- each test says what is deserved, 8 and 9 where 7 is not
 module _ (n d : ℕ) (P : Subproblem) (r : List ℕ) where
   low : (Deserves-7 r → ⊥) → 1 ≤ kindOf r
   low f = lt-of-not-le (λ h. f (inl (omega arith)))
 
-  says-7 : (refused-7 r ≡ true) ↔ Deserves-7 r
+  pub says-7 : (refused-7 r ≡ true) ↔ Deserves-7 r
   unfolding refused-7
   says-7 = or-says (lt-says (kindOf r) 1) (lt-says 5 (kindOf r))
 
-  says-8 : (Deserves-7 r → ⊥) → (refused-8 n P r ≡ true) ↔ Deserves-8 n P r
+  pub says-8 : (Deserves-7 r → ⊥) → (refused-8 n P r ≡ true) ↔ Deserves-8 n P r
   unfolding refused-8
   says-8 f = and-says (up-to (kindOf r) 4 (low f)) (or-says (le-says n (variableOf r)) (eq-says (bit (P .marked) (variableOf r)) 1))
 
-  says-9 : (Deserves-7 r → ⊥) → (refused-9 d P r ≡ true) ↔ Deserves-9 d P r
+  pub says-9 : (Deserves-7 r → ⊥) → (refused-9 d P r ≡ true) ↔ Deserves-9 d P r
   unfolding refused-9
   says-9 f =
       or-says
       (and-says (up-to (kindOf r) 3 (low f)) (or-says (le-says d (valueOf r)) (lacks-says (domain P (variableOf r)) (valueOf r))))
       (and-says (eq-says (kindOf r) 4) (eq-says (size (domain P (variableOf r))) 1))
 
-  says-10 : (refused-10 n P r ≡ true) ↔ Deserves-10 n P r
+  pub says-10 : (refused-10 n P r ≡ true) ↔ Deserves-10 n P r
   unfolding refused-10 someBad allSame bad
   says-10 =
       and-says (eq-says (kindOf r) 5)
@@ -218,41 +197,22 @@ module _ (n d : ℕ) (P : Subproblem) (r : List ℕ) where
       (λ i. or-says (eq-says (targetOf r i) 0) (not-says (part-says (targetOf r i) (domain P i)))))
       (every-says n (λ i. eqb (targetOf r i) (domain P i)) (λ i. targetOf r i ≡ domain P i) (λ i. eq-says (targetOf r i) (domain P i))))
 
-  -- each number is given exactly when it is deserved and none before it is
-  pub is-7 : (refusalOf n d P r ≡ 7) ↔ Deserves-7 r
+  -- the four tests, one after the other, give the first that is deserved
+  pub first-refusal : First-of (refusals n d P r) (refusalOf n d P r)
   unfolding refusalOf
-  is-7 =
-      here says-7 7 _
-      (neither (refused-8 n P r) 8 _ 7 refl (neither (refused-9 d P r) 9 _ 7 refl (neither (refused-10 n P r) 10 0 7 refl (eqb-false 0 7 refl))))
+  first-refusal =
+      first-by (refusals n d P r) (refused-7 r ∷ refused-8 n P r ∷ refused-9 d P r ∷ refused-10 n P r ∷ []) refl
+      (says-7, λ f. (says-8 f, λ g. (says-9 f, λ h. (says-10, λ i. tt))))
 
-  pub is-8 : (refusalOf n d P r ≡ 8) ↔ (Deserves-8 n P r × (Deserves-7 r → ⊥))
-  unfolding refusalOf
-  is-8 =
-      later says-7 7 _ 8 refl
-      (λ f. here (says-8 f) 8 _ (neither (refused-9 d P r) 9 _ 8 refl (neither (refused-10 n P r) 10 0 8 refl (eqb-false 0 8 refl))))
-
-  pub is-9 : (refusalOf n d P r ≡ 9) ↔ (Deserves-9 d P r × (Deserves-7 r → ⊥) × (Deserves-8 n P r → ⊥))
-  unfolding refusalOf
-  is-9 =
-      Iff·trans
-      (later says-7 7 _ 9 refl
-      (λ f. later (says-8 f) 8 _ 9 refl (λ g. here (says-9 f) 9 _ (neither (refused-10 n P r) 10 0 9 refl (eqb-false 0 9 refl)))))
-      (λ w. (w .0 .0, w .1, w .0 .1), λ w. ((w .0, w .2), w .1))
-
-  pub is-10 : (refusalOf n d P r ≡ 10) ↔ (Deserves-10 n P r × (Deserves-7 r → ⊥) × (Deserves-8 n P r → ⊥) × (Deserves-9 d P r → ⊥))
-  unfolding refusalOf
-  is-10 =
-      Iff·trans
-      (later says-7 7 _ 10 refl (λ f. later (says-8 f) 8 _ 10 refl (λ g. later (says-9 f) 9 _ 10 refl (λ h. here says-10 10 0 (eqb-false 0 10 refl)))))
-      (λ w. (w .0 .0 .0, w .1, w .0 .1, w .0 .0 .1), λ w. (((w .0, w .3), w .2), w .1))
+  -- a kind that is none is refused by 7
+  pub is-7 : Deserves-7 r → refusalOf n d P r ≡ 7
+  is-7 x = first-refusal .0 .1 (tt, x)
 
   pub is-none : (refusalOf n d P r ≡ 0) ↔ Accepted n d P r
-  unfolding refusalOf
   is-none =
-      Iff·trans
-      (later says-7 7 _ 0 refl (λ f. later (says-8 f) 8 _ 0 refl (λ g. later (says-9 f) 9 _ 0 refl (λ h. later says-10 10 0 0 refl (λ i. (λ e. e, λ e. e)))))) (
-        λ w. record { not-7 = w .1; not-8 = w .0 .1; not-9 = w .0 .0 .1; not-10 = w .0 .0 .0 .1 },
-        λ a. ((((refl, a .not-10), a .not-9), a .not-8), a .not-7),
+      let none = first-refusal .1 .1 .1 .1 in (
+        (λ e. let w = none .0 e in record { not-7 = w .0 .0 .0 .1; not-8 = w .0 .0 .1; not-9 = w .0 .1; not-10 = w .1 }),
+        (λ a. none .1 ((((tt, a .not-7), a .not-8), a .not-9), a .not-10)),
       )
 
 -- ---- the words that a kind reads
@@ -338,7 +298,7 @@ module _ (n : ℕ) (P : Subproblem) (r s : List ℕ) (h : Agree n r s) where
       (λ e. four (omega arith) (omega arith))
       (λ e. four (omega arith) (omega arith)) (λ e. four (omega arith) (omega arith))
       (λ e. sym (of-targets n d P r (kindOf r) refl e) ∙ bad-same n P r s (h .targets e) ∙ of-targets n d P s (kindOf r) (h .kind) e)
-      (λ k o e. is-7 n d P r .1 (rw e o) ∙ sym (is-7 n d P s .1 (rw (sym (h .kind) ∙ e) o))) (kindOf r) refl
+      (λ k o e. is-7 n d P r (rw e o) ∙ sym (is-7 n d P s (rw (sym (h .kind) ∙ e) o))) (kindOf r) refl
     where
       four : 1 ≤ kindOf r → kindOf r ≤ 4 → refusalOf n d P r ≡ refusalOf n d P s
       four l m =

@@ -9,7 +9,7 @@ use Rattle.problem.specs.Lists.{some, every}
 use Rattle.splits.specs.Requests.{kindOf, variableOf, valueOf, targetOf}
 use Rattle.splits.specs.declared.subproblem.Subproblem.{Subproblem}
 
--- The four tests, worked out. What they give is said exactly by Refusal-7 to Refusal-none of Promises, so that they need not be believed.
+-- The four tests, worked out. What they give is said exactly by Request-refusals of Promises, so that they need not be believed.
 unfoldable pub refused-7 : List ℕ → Bool
 refused-7 r = ltb (kindOf r) 1 || ltb 5 (kindOf r)
 

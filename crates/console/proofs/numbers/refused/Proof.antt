@@ -3,7 +3,7 @@
 use mathlib.Core.Path.{ap}
 use Prim.Native.Nat.{ℕ}
 use Rattle.search.specs.declared.state.Ran.{Ran}
-use Rattle.search.specs.declared.state.Verdict.the-variants.{None}
+use Rattle.searches.specs.declared.verdict.Verdict.the-variants.{None}
 use borrow.Author.Needs.{needs}
 use Rattle.console.proofs.numbers.refused.Statement.{statement}
 use Rattle.console.proofs.numbers.refused.Tie as tie

@@ -4,7 +4,7 @@ use mathlib.Core.Path.{_≡_}
 use Prim.Native.Nat.{_≤_, _+_}
 use native.Mathlib.Omega.{arith}
 use lib.ListN.{length}
-use Rattle.search.specs.Chooser.{request}
+use Rattle.searches.specs.Chooser.{request}
 use Rattle.search.proofs.agenda.Slots.{slot-end}
 use Rattle.search.proofs.step.Gathering.{Gathered}
 use Rattle.search.proofs.chooser.Settling.{put-variable}

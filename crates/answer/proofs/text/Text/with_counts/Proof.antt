@@ -1,6 +1,6 @@
 -- `answer::text::Text::with_counts` meets its contract.
 -- Assumes nothing.
-use Rattle.search.specs.Verdicts.{ascii}
+use Rattle.searches.specs.Verdicts.{ascii}
 use Rattle.answer.specs.Text.{countsLine}
 use Rattle.answer.proofs.Short.{counts-short}
 use native.Mathlib.Omega.{arith}

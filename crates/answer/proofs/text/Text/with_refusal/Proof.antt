@@ -1,6 +1,6 @@
 -- `answer::text::Text::with_refusal` meets its contract.
 -- Assumes nothing.
-use Rattle.search.specs.Verdicts.{ascii}
+use Rattle.searches.specs.Verdicts.{ascii}
 use Rattle.answer.specs.Text.{refusedLine}
 use Rattle.answer.proofs.Short.{refused-short}
 use native.Mathlib.Omega.{arith}

@@ -1,7 +1,7 @@
 -- `answer::text::Text::with_value` meets its contract.
 -- Assumes nothing.
 use mathlib.Core.Path.{ap}
-use Rattle.search.specs.Verdicts.{ascii}
+use Rattle.searches.specs.Verdicts.{ascii}
 use Rattle.answer.specs.Text.{decimal, planLine}
 use Rattle.answer.proofs.Writing.{adds-both, adds-same}
 use borrow.Author.Needs.{needs}

@@ -4,9 +4,9 @@ use mathlib.Core.Path.{_≡_, sym, ap}
 use mathlib.Core.List.{List}
 use Prim.Native.Nat.{ℕ, zero, suc}
 use denote.Enum.Declared.{tagOf}
-use Rattle.search.specs.Verdicts.{ascii, wordOf}
-use Rattle.search.specs.declared.state.Verdict.{Verdict}
-use Rattle.search.specs.declared.state.Verdict.the-variants.{None, Running, Solved, Unsolvable}
+use Rattle.searches.specs.Verdicts.{ascii, wordOf}
+use Rattle.searches.specs.declared.verdict.Verdict.{Verdict}
+use Rattle.searches.specs.declared.verdict.Verdict.the-variants.{None, Running, Solved, Unsolvable}
 use Rattle.search.proofs.state.Verdict.{the-type}
 use Rattle.answer.specs.Text.{verdictLine}
 use Rattle.answer.proofs.Writing.{adds-same}

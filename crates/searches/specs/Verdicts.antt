@@ -7,8 +7,8 @@ use Prim.Native.String.{String, [] as []ᵗ, _∷_ as _∷ᵗ_}
 use lib.Dec.{eqb}
 use Rattle.splits.specs.Subproblems.{allInstantiated}
 use Rattle.splits.specs.declared.subproblem.Subproblem.{Subproblem}
-use Rattle.search.specs.declared.state.Verdict.{Verdict}
-use Rattle.search.specs.declared.state.Verdict.the-variants.{None, Running, Solved, Unsolvable}
+use Rattle.searches.specs.declared.verdict.Verdict.{Verdict}
+use Rattle.searches.specs.declared.verdict.Verdict.the-variants.{None, Running, Solved, Unsolvable}
 
 -- Their numbers, as the C header has them; the promises use them.
 abbrev pub numberOf : Verdict → ℕ

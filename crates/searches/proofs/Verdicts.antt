@@ -16,9 +16,9 @@ use Rattle.problem.proofs.mask.Masks.{single-of}
 use Rattle.splitting.proofs.Pieces.{Held}
 use Rattle.splitting.proofs.Splitting.{lowest-in}
 use Rattle.problem.proofs.Tests.{true-false, every-at, every-all}
-use Rattle.search.specs.Verdicts.{numberOf, verdictOf, finished}
-use Rattle.search.specs.declared.state.Verdict.{Verdict}
-use Rattle.search.specs.declared.state.Verdict.the-variants.{None, Running, Solved, Unsolvable}
+use Rattle.searches.specs.Verdicts.{numberOf, verdictOf, finished}
+use Rattle.searches.specs.declared.verdict.Verdict.{Verdict}
+use Rattle.searches.specs.declared.verdict.Verdict.the-variants.{None, Running, Solved, Unsolvable}
 
 -- Verdicts are told apart.
 pub solved-running : Solved ≡ Running → ⊥
