@@ -25,6 +25,7 @@ use Rattle.search.specs.declared.state.Ran.{Ran}
 use Rattle.search.proofs.first_checks.FirstPassing.{search-is-passed}
 use Rattle.searches.specs.declared.verdict.Verdict.the-variants.{Solved}
 use Rattle.search.proofs.Promises.{chooser-leaves, handed-passes}
+use Rattle.search.proofs.Slots.{slots-lawful}
 use Rattle.searches.proofs.Promises.{chooser-refusals, stops, picks as picks-run}
 use Rattle.files.specs.Reading.{saidN, saidSearch, refusalOfFile, refusalOfWords}
 use Rattle.files.specs.Calls.{loadRefusal, Loads}
@@ -117,8 +118,8 @@ module _ (file domains domains′ tables tables′ agenda agenda′ : List ℕ) 
   few : l .n ≤ 32
   few = search-is-passed (l .n) (l .d) domains′ tables′ agenda′ _ _ _ .0 (left .handed .passes) .passed .proper .variables
 
-  slots : slotsIn (l .n) (length agenda′) ≡ 512
-  slots =
+  all-slots : slotsIn (l .n) (length agenda′) ≡ 512
+  all-slots =
       let words : length agenda′ ≡ 512 * (l .n + 2) = left .length-kept ∙ lends .its-agenda (rw (← left .its-n) few) ∙ ap (λ n. 512 * (n + 2))
       (sym (left .its-n)) in
       ap (λ w. w / (l .n + 2)) words ∙ mul-div-cancel 512 (omega arith)
@@ -127,7 +128,7 @@ module _ (file domains domains′ tables tables′ agenda agenda′ : List ℕ) 
   unfolding stopped ranOf
   same =
       ap (choose (problemOf (l .n) (l .d) domains′ tables′) (slots (slotsIn (l .n) (length agenda′))) 1000000) (left .search)
-      ∙ ap (λ k. choose (problemOf (l .n) (l .d) domains′ tables′) (slots k) 1000000 (saidSearch file)) slots
+      ∙ ap (λ k. choose (problemOf (l .n) (l .d) domains′ tables′) (slots k) 1000000 (saidSearch file)) all-slots
       ∙ ap (λ p. choose p (slots 512) 1000000 (saidSearch file))
       (let problem : problemOf (l .n) (l .d) domains′ tables′ ≡ loadedProblem file = rw (left .its-n, left .its-d, left .its-domains, left .its-tables)
       refl in problem)
@@ -187,7 +188,7 @@ module _ (file domains domains′ tables tables′ agenda agenda′ : List ℕ) 
   pub chosen-refusal : ran .refusal < 2 ^ 64
   unfolding stopped
   chosen-refusal =
-      let known = chooser-refusals (problemOf (l .n) (l .d) domains′ tables′) (slots (slotsIn (l .n) (length agenda′))) 1000000
+      let known = chooser-refusals (problemOf (l .n) (l .d) domains′ tables′) (slots (slotsIn (l .n) (length agenda′))) (slots-lawful _) 1000000
       (searchOf (l .n) agenda′ (l .state))
       (handed-passes (l .n) (l .d) domains′ tables′ agenda′ (l .state) (left .handed)) in
       rw refusal (elim known [ inl e ↦ rw e (omega arith) | inr more ↦ elim more [ inl e ↦ rw e (omega arith) | inr e ↦ rw e (omega arith) ] ])

@@ -17,9 +17,9 @@ use Rattle.search.specs.Agenda.{holding}
 use Rattle.search.specs.Slots.{slots, Search}
 use Rattle.search.specs.Tests.FirstChecks.{wholeSlots, refusalOfLengths}
 use Rattle.searches.specs.Verdicts.{ascii, wordOf, verdictOf, finished}
-use Rattle.searches.specs.Runs.{step, refusalOfTop, refusalOfRequest}
+use Rattle.searches.specs.Runs.{checksOfTop, step, refusalOfTop, refusalOfRequest}
 use Rattle.searches.specs.Machines.{splitTop}
-use Rattle.searches.specs.Chooser.{fewestOf, chosen, chooseFrom, choose}
+use Rattle.searches.specs.Chooser.{fewestOf, chosenOf, chosen, chooseFrom, choose}
 use Rattle.search.specs.Calls.{opening, begun}
 use Rattle.search.proofs.Promises.{open-leaves}
 use Rattle.files.specs.Content.{each}
@@ -39,8 +39,8 @@ fresh = begun 2 printed-domains
 -- What the chooser makes of it, of any limit that is enough, and its text.
 run-text : (more : ℕ)
     → textOf 2 (choose (problemOf 2 2 printed-domains printed-tables) (slots 512) (suc (suc (suc more))) fresh) ≡ ascii "solved\nsteps 2 checks 3\n0 0\n1 1\n"
-unfolding textOf wholeText verdictLine countsLine planLines planLine decimal decimalOf ascii wordOf verdictOf finished chooseFrom chosen fewestOf opening holding
-    refusalOfRequest refusalOfTop refusalOf refused-7 refused-8 refused-9 refused-10 bad someBad allSame step splitTop pieces filled named keep below
+unfolding textOf wholeText verdictLine countsLine planLines planLine decimal decimalOf ascii wordOf verdictOf finished chooseFrom chosen chosenOf fewestOf opening holding
+    refusalOfRequest refusalOfTop refusalOf refused-7 refused-8 refused-9 refused-10 bad someBad allSame step checksOfTop splitTop pieces filled named keep below
     forwardChecking idc instantiate without cutBeside forbids instantiatedOther forbidden precluded disjunct changed empty some every allInstantiated
     smallest smallerHalf minus bit ones onesIn trailingZeros checks lookedAt others tried valuesIn total tableOf each
 run-text more = refl

@@ -89,7 +89,7 @@ says-15 file g h =
 pub not-refused : (file : List ℕ) → (Deserves-14 file → ⊥) → (Deserves-15 file → ⊥) → refusalOfLoad file ≡ 0
 not-refused file g h =
     let n : ℕ = saidN file in
-    let slots : slotsIn n (512 * (n + 2)) ≡ 512 = mul-div-cancel 512 (omega arith) in
+    let all-slots : slotsIn n (512 * (n + 2)) ≡ 512 = mul-div-cancel 512 (omega arith) in
     let x : List ℕ = replicate n 0 in
     let y : List ℕ = replicate (n * n * saidD file) 0 in
     let z : List ℕ = replicate (512 * (n + 2)) 0 in
@@ -104,7 +104,7 @@ not-refused file g h =
           | inr f ↦ f (512, omega arith, omega arith, long)
         ]
       ]),
-      (λ twelve. h (inr (inr (inl (let all : slotsIn n (length z) ≡ 512 = ap (slotsIn n) long ∙ slots in omega (arith, twelve, all)))))),
+      (λ twelve. h (inr (inr (inl (let all : slotsIn n (length z) ≡ 512 = ap (slotsIn n) long ∙ all-slots in omega (arith, twelve, all)))))),
     )
 
 pub says-else : (file : List ℕ) → (Deserves-14 file → ⊥) → (Deserves-15 file → ⊥) → answer file ≡ textOf (saidN file) (ranOf file)

@@ -3,7 +3,7 @@ pub mod text;
 
 use crate::text::Text;
 use search::state::Ran;
-use search::state::Verdict;
+use searches::verdict::Verdict;
 ghost use mathlib.Core.Path.{_≡_};
 ghost use Prim.Native.Nat.{_+_, _-_, _*_, _≤_};
 ghost use lib.ListN.{length};

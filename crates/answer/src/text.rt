@@ -1,5 +1,5 @@
 // The text of an answer, written from the front.
-use search::state::Verdict;
+use searches::verdict::Verdict;
 use problem::mask;
 ghost use mathlib.Core.Path.{_≡_};
 ghost use mathlib.Core.List.{[], _∷_};

@@ -9,7 +9,7 @@ use Rattle.searches.specs.Verdicts.{numberOf}
 use Rattle.search.specs.Calls.{Opens, Runs, Chooses}
 use Rattle.search.specs.declared.state.Opened.{Opened}
 use Rattle.search.specs.declared.state.Ran.{Ran}
-use Rattle.search.proofs.Promises.{open-refusal-1, open-refusal-2, open-refusal-3}
+use Rattle.search.proofs.Promises.{open-refusals}
 use Rattle.files.specs.declared.saved.Saved.{Saved}
 use Rattle.files.specs.declared.saved.Loaded.{Loaded}
 use Rattle.files.proofs.Refusals.{load-14, load-15, load-3}
@@ -31,16 +31,24 @@ bytes-again b e h = (words.words-small b h, words.bytes-again b e h)
 -- ---- a slice that is not whole words
 
 pub unwhole-1 : Unwhole-1
-unwhole-1 n d = rw none-unwhole at (open-refusal-1 n d [] [] [])
+unwhole-1 n d =
+    let first = rw none-unwhole at (open-refusals n d [] [] [] .0) in (
+      (λ e. first .0 e .1),
+      (λ x. first .1 (tt, x)),
+    )
 
 pub unwhole-2 : Unwhole-2
-unwhole-2 n d = rw none-unwhole at (open-refusal-2 n d [] [] [])
+unwhole-2 n d =
+    let second = rw none-unwhole at (open-refusals n d [] [] [] .1 .0) in (
+      (λ e. (second .0 e .1, second .0 e .0 .1)),
+      (λ x. second .1 ((tt, x .1), x .0)),
+    )
 
 pub unwhole-3 : Unwhole-3
 unwhole-3 n d =
-    let both = rw none-unwhole at (open-refusal-3 n d [] [] []) in (
-      (λ e. (both .0 e .1, both .0 e .2)),
-      (λ f. both .1 (inl (λ e. f .0 (inl (omega arith))), f .0, f .1)),
+    let third = rw none-unwhole at (open-refusals n d [] [] [] .1 .1 .0) in (
+      (λ e. (third .0 e .0 .0 .1, third .0 e .0 .1)),
+      (λ f. third .1 (((tt, f .0), f .1), inl (λ e. f .0 (inl (omega arith))))),
     )
 
 pub unwhole-14 : Unwhole-14

@@ -21,13 +21,13 @@ use Rattle.splits.specs.declared.subproblem.Subproblem.{Subproblem}
 use Rattle.problem.proofs.Tests.{every-at, every-all, same-test}
 use Rattle.search.specs.Agenda.{subproblemOf, slotAt, stackOf, slotsIn, stackWords, agendaOf}
 use Rattle.search.specs.Slots.{slots, Search, Stopped}
-use Rattle.searches.specs.Runs.{step, refusalOfTop, refusalOfRequest, runFrom, run, requestsIn}
+use Rattle.searches.specs.Runs.{stop, step, refusalOfTop, refusalOfRequest, runFrom, run, requestsIn}
 use Rattle.searches.specs.Machines.{splitTop}
 use Rattle.search.specs.Tests.FirstChecks.{refusalOfLengths, zerosFrom, refusalOfSearch, runRefusal}
 use Rattle.search.specs.Calls.{searchOf, Ends, Runs}
 use Rattle.search.specs.declared.state.State.{State}
 use Rattle.search.specs.declared.state.Ran.{Ran}
-use Rattle.searches.proofs.Runs.{after, stop, run-finished, run-taken, run-refused, run-ind}
+use Rattle.searches.proofs.Runs.{after, run-finished, run-taken, run-refused, run-ind}
 use Rattle.search.proofs.Encoding.{length-stackOf}
 use Rattle.search.proofs.first_checks.Deserved.{slots-is}
 use Rattle.problem.proofs.Copies.{zeros-at}
@@ -83,7 +83,8 @@ module _ (p : Problem) where
   split-few r (P ∷ S) = rw length-append (omega (arith, pieces-few (p .n) (p .allowed) P r))
 
   module _ (room room′ : ℕ) (more : room ≤ room′) where
-    top-roomy : (r : List ℕ) (S : List Subproblem) → length S + (p .n + 1) ≤ room → refusalOfTop p room′ r S ≡ refusalOfTop p room r S
+    top-roomy : (r : List ℕ) (S : List Subproblem) → length S + (p .n + 1) ≤ room 
+        → refusalOfTop p (slots room′ .full p r S) r S ≡ refusalOfTop p (slots room .full p r S) r S
     unfolding refusalOfTop
     top-roomy r [] l = refl
     top-roomy r (P ∷ S) l =
@@ -103,7 +104,7 @@ module _ (p : Problem) where
         (λ r rs s e h. run-finished p (slots room′) (r ∷ rs) s e)
         (λ r rs s e k h.
         let same = refusal-roomy r s (omega (arith, turn (length rs))) in
-        run-refused p (slots room′) r rs s e (λ z. k (sym same ∙ z)) ∙ ap (stop s) same)
+        run-refused p (slots room′) r rs s e (λ z. k (sym same ∙ z)) ∙ ap (λ (k : ℕ). stop s k 0) same)
         (λ r rs s x e k ih h.
         run-taken p (slots room′) r rs s e (refusal-roomy r s (omega (arith, turn (length rs))) ∙ k)
         ∙ ap (after 1) (ih (omega (arith, turn (length rs), split-few r (s .memory)))))
@@ -205,11 +206,11 @@ ends-front first n a y z s x r kept h ends = record {
     go false e = ap (λ (l : List ℕ). l ++ z) e
 
 -- A run in the front, of whole slots, more than the requests can use, of an agenda of whole slots that has only zeros after it.
-pub runs-front : (n d : ℕ) (domains tables a y z requests : List ℕ) (s : State) (r : Ran) (slots all : ℕ) → length a ≡ slots * (n + 2)
-    → length (a ++ z) ≡ all * (n + 2) → 1 ≤ slots → slots ≤ all → all ≤ 512 → length y ≡ length a → Zeros z
-    → s .subproblems + (n + 1) * length (requestsIn n requests) ≤ slots
+pub runs-front : (n d : ℕ) (domains tables a y z requests : List ℕ) (s : State) (r : Ran) (front all : ℕ) → length a ≡ front * (n + 2)
+    → length (a ++ z) ≡ all * (n + 2) → 1 ≤ front → front ≤ all → all ≤ 512 → length y ≡ length a → Zeros z
+    → s .subproblems + (n + 1) * length (requestsIn n requests) ≤ front
     → Runs n d domains tables a y requests s r → Runs n d domains tables (a ++ z) (y ++ z) requests s r
-runs-front n d domains tables a y z requests s r slots all its whole some within few kept h room runs =
+runs-front n d domains tables a y z requests s r front all its whole some within few kept h room runs =
     subst (λ (k : ℕ). Ends k n (a ++ z) (y ++ z) s (run p (slots (slotsIn n (length (a ++ z)))) rs (searchOf n (a ++ z) s)) r) (sym first-same)
     (subst (λ (x : Stopped). Ends (first a) n (a ++ z) (y ++ z) s x r) (sym run-same) (ends-front (first a) n a y z s _ r kept h runs))
   where
@@ -222,21 +223,21 @@ runs-front n d domains tables a y z requests s r slots all its whole some within
     first : List ℕ → ℕ
     first agenda = runRefusal n d domains tables agenda requests (s .counts .steps .0) (s .counts .checks .0) (s .subproblems)
 
-    few-slots : slotsIn n (length a) ≡ slots
-    few-slots = ap (slotsIn n) its ∙ slots-in n slots
+    few-slots : slotsIn n (length a) ≡ front
+    few-slots = ap (slotsIn n) its ∙ slots-in n front
 
     all-slots : slotsIn n (length (a ++ z)) ≡ all
     all-slots = ap (slotsIn n) whole ∙ slots-in n all
 
     held : s .subproblems * (n + 2) ≤ length a
-    held = let up : s .subproblems * (n + 2) ≤ slots * (n + 2) = mul-le-mul-right (n + 2) (omega arith) in omega arith
+    held = let up : s .subproblems * (n + 2) ≤ front * (n + 2) = mul-le-mul-right (n + 2) (omega arith) in omega arith
 
     stack-same : stackOf n (a ++ z) (s .subproblems) ≡ stackOf n a (s .subproblems)
     stack-same = stack-front n (s .subproblems) a z held
 
     first-same : first (a ++ z) ≡ first a
     first-same =
-        first-front n d domains tables a z requests (s .counts .steps .0) (s .counts .checks .0) (s .subproblems) slots all its whole some within few
+        first-front n d domains tables a z requests (s .counts .steps .0) (s .counts .checks .0) (s .subproblems) front all its whole some within few
         (omega arith) h
 
     run-same : run p (slots (slotsIn n (length (a ++ z)))) rs (searchOf n (a ++ z) s) ≡ run p (slots (slotsIn n (length a))) rs (searchOf n a s)

@@ -19,7 +19,7 @@ use Rattle.splits.specs.declared.subproblem.Subproblem.{Subproblem}
 use Rattle.search.specs.Agenda.{stackOf, stackWords, slotsIn, agendaOf}
 use Rattle.search.specs.Slots.{slots, Search, Stopped}
 use Rattle.searches.specs.Verdicts.{numberOf, finished, verdictOf}
-use Rattle.searches.specs.Runs.{step, run, requestsIn}
+use Rattle.searches.specs.Runs.{stop, step, run, requestsIn}
 use Rattle.searches.specs.Machines.{splitTop}
 use Rattle.search.specs.FirstChecks.{WholeRequests}
 use Rattle.search.specs.Tests.FirstChecks.{runRefusal}

@@ -6,7 +6,7 @@ use search::state::Opened;
 use search::state::Ran;
 use search::state::State;
 use search::state::Steps;
-use search::state::Verdict;
+use searches::verdict::Verdict;
 ghost use mathlib.Core.Path.{_≡_};
 ghost use Prim.Native.Nat.{_<_};
 ghost use Rattle.searches.specs.Verdicts.{numberOf};
