@@ -26,7 +26,7 @@ use Rattle.search.specs.Calls.{searchOf, Ends, Runs}
 use Rattle.search.specs.declared.state.State.{State}
 use Rattle.search.specs.declared.state.Ran.{Ran}
 use Rattle.search.proofs.Runs.{after, stop, run-finished, run-taken, run-refused, run-ind}
-use Rattle.search.proofs.agenda.Encoding.{length-stackOf}
+use Rattle.search.proofs.Encoding.{length-stackOf}
 use Rattle.search.proofs.first_checks.Deserved.{slots-is}
 use Rattle.problem.proofs.Copies.{zeros-at}
 use Rattle.files.proofs.Lists.{below-length, padded-at}

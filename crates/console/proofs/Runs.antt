@@ -28,7 +28,7 @@ use Rattle.search.specs.declared.state.Ran.{Ran}
 use Rattle.search.specs.declared.state.Verdict.the-variants.{Running}
 use Rattle.search.proofs.Verdicts.{running}
 use Rattle.search.proofs.Runs.{after, after-none, run-finished, run-taken, run-refused, run-ind, stops}
-use Rattle.search.proofs.agenda.Encoding.{length-stackOf, stack-of-words}
+use Rattle.search.proofs.Encoding.{length-stackOf, stack-of-words}
 use Rattle.search.proofs.first_checks.FirstPassing.{requests-none, search-is-passed, run-is-passed}
 use Rattle.search.proofs.Picking.{picked}
 use Rattle.search.proofs.HandedOn.{known, run-leaves-so, chooser-leaves-so}

@@ -10,8 +10,8 @@ use lib.ListN.{length, getD, take, length-append, length-take, length-replicate,
 use lib.Seq.{length-take-le}
 use Rattle.splits.specs.declared.subproblem.Subproblem.{Subproblem}
 use Rattle.search.specs.Agenda.{holding, Shape, slotWords, subproblemOf, slotAt, slotsIn, stackOf, stackWords}
-use Rattle.search.proofs.agenda.Encoding.{slot-long, part-small, length-stack}
-use Rattle.files.proofs.Lists.{padded-at}
+use Rattle.search.proofs.Encoding.{slot-long, part-small, length-stack}
+use Rattle.blocks.proofs.Lists.{padded-at}
 
 -- Whole slots are as many as they are.
 pub slots-in : (n slots : ℕ) → slotsIn n (slots * (n + 2)) ≡ slots

@@ -40,7 +40,7 @@ use Rattle.search.proofs.Refusals.{is-none}
 use Rattle.search.proofs.Passing.{step-is, step-passes, run-passes, top-held}
 use Rattle.search.proofs.step.Shapes.{pieces-regular}
 use Rattle.problem.proofs.Copies.{zeros-at}
-use Rattle.search.proofs.agenda.Encoding.{length-stack, length-stackOf, length-agenda, agenda-back}
+use Rattle.search.proofs.Encoding.{length-stack, length-stackOf, length-agenda, agenda-back}
 
 -- Every subproblem of a stack has the shape of a slot.
 abbrev pub Shaped : ℕ → ℕ → List Subproblem → Type 0

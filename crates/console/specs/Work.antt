@@ -1,0 +1,3 @@
+-- What only mirrors the code.
+pub mod Rooms
+pub mod Parts
