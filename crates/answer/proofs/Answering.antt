@@ -27,9 +27,11 @@ use Rattle.searches.specs.declared.verdict.Verdict.the-variants.{Solved}
 use Rattle.search.proofs.Promises.{chooser-leaves, handed-passes}
 use Rattle.search.proofs.Slots.{slots-lawful}
 use Rattle.searches.proofs.Promises.{chooser-refusals, stops, picks as picks-run}
-use Rattle.files.specs.Reading.{saidN, saidSearch, refusalOfFile, refusalOfWords}
+use Rattle.files.specs.Reading.{saidN, saidSearch, refusalOfWords}
+use Rattle.blocks.specs.Tests.Whole.{refusalOfFile}
 use Rattle.files.specs.Calls.{loadRefusal, Loads}
-use Rattle.files.specs.Promises.{Bytes, Left-by-load}
+use Rattle.blocks.specs.Reading.{Bytes}
+use Rattle.files.specs.Promises.{Left-by-load}
 use Rattle.files.specs.declared.saved.Loaded.{Loaded}
 use Rattle.files.proofs.Accepted.{words-accept}
 use Rattle.files.proofs.Promises.{load-leaves}

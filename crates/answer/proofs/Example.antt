@@ -22,7 +22,7 @@ use Rattle.searches.specs.Machines.{splitTop}
 use Rattle.searches.specs.Chooser.{fewestOf, chosenOf, chosen, chooseFrom, choose}
 use Rattle.search.specs.Calls.{opening, begun}
 use Rattle.search.proofs.Promises.{open-leaves}
-use Rattle.files.specs.Content.{each}
+use Rattle.blocks.specs.Lists.{each}
 use Rattle.files.specs.Reading.{saidN, saidD, saidAllowed, tableWords}
 use Rattle.files.specs.Calls.{loadRefusal}
 use Rattle.files.specs.Promises.{Says}

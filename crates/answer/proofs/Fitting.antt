@@ -14,9 +14,10 @@ use Rattle.splits.specs.Subproblems.{domain}
 use Rattle.splits.specs.declared.subproblem.Subproblem.{Subproblem}
 use Rattle.search.specs.Agenda.{stackOf}
 use Rattle.searches.specs.Verdicts.{ascii, numberOf, verdictOf}
-use Rattle.files.specs.Reading.{saidN, refusalOfFile, refusalOfWords}
-use Rattle.files.specs.Promises.{Bytes}
-use Rattle.files.proofs.Whole.{file-either, refusal-14, refusal-not-14}
+use Rattle.files.specs.Reading.{saidN, refusalOfWords}
+use Rattle.blocks.specs.Tests.Whole.{refusalOfFile}
+use Rattle.blocks.specs.Reading.{Bytes}
+use Rattle.blocks.proofs.Whole.{file-either, refusal-14, refusal-not-14}
 use Rattle.files.proofs.Accepted.{words-accept, words-either, refusal-15, refusal-not-15}
 use Rattle.answer.specs.Text.{verdictLine, countsLine, planOf, planLines, refusedLine}
 use Rattle.answer.specs.Calls.{answer}

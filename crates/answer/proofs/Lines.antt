@@ -15,8 +15,9 @@ use Rattle.problem.specs.Lists.{below}
 use Rattle.search.specs.Agenda.{holding, subproblemOf, slotAt, stackOf}
 use Rattle.searches.specs.Verdicts.{numberOf, verdictOf}
 use Rattle.searches.specs.declared.verdict.Verdict.{Verdict}
-use Rattle.files.specs.Content.{each}
-use Rattle.files.proofs.Lists.{each-more, each-none, each-same}
+use Rattle.blocks.specs.Lists.{each}
+use Rattle.blocks.proofs.Lists.{each-more, each-none}
+use Rattle.blocks.proofs.Lists.{each-same}
 use Rattle.answer.specs.Text.{planLine, planOf, planLines}
 use Rattle.answer.specs.Work.Writing.{valueLines}
 

@@ -27,9 +27,10 @@ use Rattle.searches.specs.declared.verdict.Verdict.{Verdict}
 use Rattle.searches.specs.declared.verdict.Verdict.the-variants.{None, Running, Solved, Unsolvable}
 use Rattle.search.proofs.first_checks.FirstPassing.{search-is-passed}
 use Rattle.search.proofs.Promises.{chooser-says}
-use Rattle.files.specs.Reading.{saidN, saidD, saidSteps, saidChecks, saidSubproblems, saidDomains, saidAllowed, saidSearch, tableWords, Deserves-14, Deserves-15}
+use Rattle.files.specs.Reading.{saidN, saidD, saidSteps, saidChecks, saidSubproblems, saidDomains, saidAllowed, saidSearch, tableWords, Deserves-15}
+use Rattle.blocks.specs.Reading.{Deserves-14, Bytes}
 use Rattle.files.specs.Calls.{loadRefusal}
-use Rattle.files.specs.Promises.{Bytes, Says, Left-by-load, Lived}
+use Rattle.files.specs.Promises.{Says, Left-by-load, Lived}
 use Rattle.files.specs.declared.saved.Loaded.{Loaded}
 use Rattle.files.proofs.Accepted.{Accepts}
 use Rattle.files.proofs.Solutions.{solution-agree}

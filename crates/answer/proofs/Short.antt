@@ -9,7 +9,7 @@ use Rattle.problem.specs.Masks.{lowest}
 use Rattle.searches.specs.Verdicts.{ascii, wordOf}
 use Rattle.searches.specs.declared.verdict.Verdict.{Verdict}
 use Rattle.searches.specs.declared.verdict.Verdict.the-variants.{None, Running, Solved, Unsolvable}
-use Rattle.files.proofs.Lists.{each-more, each-none}
+use Rattle.blocks.proofs.Lists.{each-more, each-none}
 use Rattle.answer.specs.Text.{decimal, verdictLine, countsLine, planLine, planOf, refusedLine}
 use Rattle.answer.proofs.Decimals.{two-digits, twenty-digits}
 

@@ -11,9 +11,10 @@ use Rattle.searches.specs.Promises.{Has-solution}
 use Rattle.search.specs.declared.state.State.{State}
 use Rattle.search.specs.declared.state.Opened.{Opened}
 use Rattle.search.specs.declared.state.Ran.{Ran}
-use Rattle.files.specs.Reading.{saidN, saidD, saidDomains, saidAllowed, Deserves-14, Deserves-15}
+use Rattle.files.specs.Reading.{saidN, saidD, saidDomains, saidAllowed, Deserves-15}
+use Rattle.blocks.specs.Reading.{Deserves-14, Bytes}
 use Rattle.files.specs.Calls.{Saves, Loads}
-use Rattle.files.specs.Promises.{Bytes, Lived}
+use Rattle.files.specs.Promises.{Lived}
 use Rattle.files.specs.declared.saved.Saved.{Saved}
 use Rattle.files.specs.declared.saved.Loaded.{Loaded}
 use Rattle.answer.specs.Text.{decimal, countsLine, planOf, refusedLine, textOf, textFrom}

@@ -12,7 +12,7 @@ use Rattle.search.specs.Slots.{Stopped}
 use Rattle.searches.specs.Verdicts.{numberOf, ascii, wordOf, verdictOf}
 use Rattle.search.specs.declared.state.Ran.{Ran}
 use Rattle.searches.specs.declared.verdict.Verdict.{Verdict}
-use Rattle.files.specs.Content.{each}
+use Rattle.blocks.specs.Lists.{each}
 
 -- A number in decimal, no zero in front, of at most so many digits after the first. The digit 0 is byte 48.
 unfoldable pub decimalOf : ℕ → ℕ → List ℕ

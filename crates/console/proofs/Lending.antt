@@ -15,7 +15,7 @@ use Rattle.search.specs.declared.state.State.{State}
 use Rattle.search.specs.declared.state.Opened.{Opened}
 use Rattle.search.specs.declared.state.Ran.{Ran}
 use Rattle.search.proofs.first_checks.FirstPassing.{search-is-passed}
-use Rattle.files.specs.Blocks.{blocksFor}
+use Rattle.blocks.specs.Blocks.{blocksFor}
 use Rattle.files.specs.Calls.{handedContent, saveRefusal, Saves, Loads}
 use Rattle.files.specs.declared.saved.Saved.{Saved}
 use Rattle.files.specs.declared.saved.Loaded.{Loaded}

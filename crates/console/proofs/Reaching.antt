@@ -31,7 +31,7 @@ use Rattle.searches.proofs.Runs.{after, run-finished, run-taken, run-refused, r
 use Rattle.search.proofs.Encoding.{length-stackOf}
 use Rattle.search.proofs.first_checks.Deserved.{slots-is}
 use Rattle.problem.proofs.Copies.{zeros-at}
-use Rattle.files.proofs.Lists.{below-length, padded-at}
+use Rattle.blocks.proofs.Lists.{below-length, padded-at}
 use Rattle.files.proofs.Stacks.{slots-in}
 
 -- ---- a request makes n + 2 pieces at most

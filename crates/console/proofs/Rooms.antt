@@ -22,8 +22,9 @@ use Rattle.problem.specs.Tests.FirstChecks.{orElse, refusalOfNumbers, refusalOf
 use Rattle.search.specs.Tests.FirstChecks.{wholeSlots, refusalOfLengths, refusalOfRequests, refusalOfSearch, zerosFrom, openRefusal, searchRefusal, runRefusal}
 use Rattle.search.proofs.first_checks.Deserved.{slots-true}
 use Rattle.problem.proofs.first_checks.Passing.{numbers-none}
-use Rattle.files.proofs.Tests.{and-cases}
-use Rattle.files.specs.Reading.{saidN, saidD, refusalOfFile, refusalOfWords}
+use Rattle.blocks.proofs.Tests.{and-cases}
+use Rattle.files.specs.Reading.{saidN, saidD, refusalOfWords}
+use Rattle.blocks.specs.Tests.Whole.{refusalOfFile}
 use Rattle.files.specs.Calls.{saveRefusal, loadRefusal}
 use Rattle.search.specs.declared.state.State.{State}
 use Rattle.files.proofs.Accepted.{Accepts, words-accept}

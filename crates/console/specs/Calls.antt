@@ -10,7 +10,8 @@ use Rattle.search.specs.declared.state.State.{State}
 use Rattle.search.specs.declared.state.Opened.{Opened}
 use Rattle.search.specs.declared.state.Ran.{Ran}
 use Rattle.searches.specs.declared.verdict.Verdict.the-variants.{None}
-use Rattle.files.specs.Reading.{refusalOfFile, refusalOfWords}
+use Rattle.blocks.specs.Tests.Whole.{refusalOfFile}
+use Rattle.files.specs.Reading.{refusalOfWords}
 use Rattle.files.specs.Calls.{Saves, Loads}
 use Rattle.files.specs.declared.saved.Saved.{Saved}
 use Rattle.files.specs.declared.saved.Loaded.{Loaded}

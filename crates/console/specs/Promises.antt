@@ -12,9 +12,9 @@ use Rattle.search.specs.Calls.{Opens, Runs, Chooses}
 use Rattle.search.specs.declared.state.State.{State}
 use Rattle.search.specs.declared.state.Opened.{Opened}
 use Rattle.search.specs.declared.state.Ran.{Ran}
-use Rattle.files.specs.Reading.{Deserves-14, Deserves-15}
+use Rattle.blocks.specs.Reading.{Deserves-14, Bytes}
+use Rattle.files.specs.Reading.{Deserves-15}
 use Rattle.problem.specs.Problem.{Words}
-use Rattle.files.specs.Promises.{Bytes}
 use Rattle.files.specs.Calls.{Loads}
 use Rattle.files.specs.declared.saved.Loaded.{Loaded}
 use Rattle.console.specs.Bytes.{Whole, wordsOf, bytesOf}

@@ -1,8 +1,8 @@
 -- Files whose words are accepted: what passing 15 says, and what 15 says, rule by rule.
 -- Assumes nothing.
 use mathlib.Core.Path.{_≡_, refl, sym, ap, _∙_}
-use mathlib.Core.Logic.{_⊎_, inl, inr, _↔_}
-use mathlib.Core.Bool.{Bool, true, false, not, cond, _&&_, _||_, or-true}
+use mathlib.Core.Logic.{_⊎_, inl, inr, ⊎-elim, _↔_}
+use mathlib.Core.Bool.{Bool, true, false, cond, _&&_, _||_}
 use mathlib.Core.List.{List, List·Memᴰ}
 use Prim.Native.Nat.{ℕ, zero, _+_, _-_, _*_, _^_, _≤_, _<_}
 use native.Mathlib.Omega.{arith}
@@ -10,26 +10,31 @@ use native.Mathlib.Decide.{decLt}
 use lib.Arith.{lt-of-le-ne}
 use lib.ListN.{length}
 use lib.Dec.{eqb, leb, ltb}
-use borrow.Author.Tests.{eq-eqb, le-leb, lt-ltb, le-ltb, eqb-true, eqb-false, leb-true, leb-false, ltb-true, ltb-false, not-false}
+use borrow.Author.Tests.{eq-eqb, le-leb, lt-ltb, le-ltb, eqb-true, eqb-false, leb-true, leb-false}
 use Rattle.problem.specs.Masks.{bit}
 use Rattle.problem.specs.Problem.{Proper}
 use Rattle.splits.specs.Subproblems.{Rules}
 use Rattle.problem.specs.Lists.{every}
 use Rattle.splits.specs.declared.subproblem.Subproblem.{Subproblem}
 use Rattle.problem.proofs.mask.Masks.{bit-le}
-use Rattle.problem.proofs.Tests.{true-false, and-left, and-right, or-left, or-right, every-at, every-all}
+use Rattle.problem.proofs.Tests.{true-false, and-left, and-right, every-at, every-all}
 use Rattle.search.specs.Agenda.{slotsIn}
-use Rattle.problem.specs.FirstChecks.{Deserves-4}
-use Rattle.search.specs.Tests.FirstChecks.{allObey}
-use Rattle.problem.proofs.Decisions.{Refutes, every-fails}
+use Rattle.problem.specs.FirstChecks.{Deserves-1, Deserves-2, Deserves-4, Deserves-5}
+use Rattle.search.specs.FirstChecks.{Deserves-6}
+use Rattle.problem.specs.Tests.FirstChecks.{refusalOfNumbers, masksBelow, symmetric, refusalOfProblem}
+use Rattle.search.specs.Tests.FirstChecks.{allObey, zerosFrom, refusalOfSearch}
+use Rattle.problem.proofs.Decisions.{Decides, Refutes, every-fails}
 use Rattle.problem.proofs.first_checks.Parts.{given-if}
-use Rattle.problem.proofs.first_checks.Deserved.{over-of, over-not}
-use Rattle.search.proofs.first_checks.Deserved.{refutes-rules, all-rules, all-obey}
-use Rattle.problem.proofs.first_checks.Passing.{gives-none}
-use Rattle.files.specs.Blocks.{blocksFor}
-use Rattle.files.specs.Reading.{blocksIn, contentWord, saidN, saidD, saidSteps, saidChecks, saidSubproblems, saidAllowed, saidProblem, saidAgenda, saidSearch, saidWords, agendaFrom, gathered, Deserves-15, masksBelowTriangle, refusalOfWords}
-use Rattle.files.proofs.Tests.{either, one-of, given-exactly}
-use Rattle.files.proofs.Places.{length-from}
+use Rattle.problem.proofs.first_checks.Deserved.{decides-1, decides-2, over-not, refutes-4, refutes-5}
+use Rattle.search.proofs.first_checks.Deserved.{refutes-6, all-rules}
+use Rattle.problem.proofs.first_checks.Passing.{numbers-none, gives-none, problem-none, proper-is-passed}
+use Rattle.search.proofs.first_checks.FirstPassing.{search-none}
+use Rattle.blocks.specs.Blocks.{blocksFor}
+use Rattle.blocks.specs.Reading.{blocksIn, contentWord}
+use Rattle.files.specs.Reading.{saidN, saidD, saidSteps, saidChecks, saidSubproblems, saidAllowed, saidProblem, saidAgenda, saidSearch, saidWords, agendaFrom, gathered, Deserves-15, refusalOfWords}
+use Rattle.blocks.proofs.Tests.{either, one-of}
+use Rattle.files.proofs.Tests.{given-exactly}
+use Rattle.blocks.proofs.Contents.{length-from}
 use Rattle.files.proofs.Stacks.{slots-in}
 use Rattle.files.proofs.Gathered.{gathered-lt, gathered-bit}
 
@@ -60,6 +65,12 @@ module _ (file : List ℕ) where
       (ap (λ (x : ℕ). bit x a) (above-is j i b l) ∙ gathered-bit (saidD file) (λ v. bit (saidAllowed file i j v) b)
       (λ v. bit-le (saidAllowed file i j v) b) a m)
 
+  both-ways : (i j v w : ℕ) → (i ≡ j → ⊥) → v < saidD file → w < saidD file → bit (saidAllowed file i j v) w ≡ bit (saidAllowed file j i w) v
+  both-ways i j v w f m o = elim (decLt i j) [
+    | yes h ↦ mirror i j v w h m
+    | no h ↦ let less : j < i = lt-of-le-ne (omega arith) (λ e. f (sym e)) in sym (mirror j i w v less o)
+  ]
+
   -- A problem of such numbers, domains and masks is proper.
   proper-said : 1 ≤ saidN file → saidN file ≤ 32 → 1 ≤ saidD file → saidD file ≤ 16
       → ((i : ℕ) → i < saidN file → saidProblem file .domain i < 2 ^ saidD file)
@@ -76,27 +87,15 @@ module _ (file : List ℕ) where
           let less : j < i = lt-of-le-ne (omega arith) (λ e. f (sym e)) in
           rw (above-is i j v less) (gathered-lt (saidD file) (λ b. bit (saidAllowed file j i b) v) (λ b. bit-le (saidAllowed file j i b) v))
     ];
-    symmetric = λ i j v w l k f m o. elim (decLt i j) [
-      | yes h ↦ mirror i j v w h m
-      | no h ↦ let less : j < i = lt-of-le-ne (omega arith) (λ e. f (sym e)) in sym (mirror j i w v less o)
-    ];
+    symmetric = λ i j v w l k f m o. both-ways i j v w f m o;
   }
 
   -- The problem that an accepted file says is proper.
   pub said-proper : Accepts file → Proper (saidProblem file)
   said-proper a = proper-said (a .some-variable) (a .variables) (a .some-value) (a .values) (a .domains) (a .masks)
 
-  t-one : Bool
-  t-one = leb 1 (saidN file)
-
-  t-vars : Bool
-  t-vars = leb (saidN file) 32
-
-  t-val : Bool
-  t-val = leb 1 (saidD file)
-
-  t-vals : Bool
-  t-vals = leb (saidD file) 16
+  t-numbers : Bool
+  t-numbers = eqb (refusalOfNumbers (saidN file) (saidD file)) 0
 
   t-few : Bool
   t-few = leb (saidSubproblems file) 512
@@ -107,194 +106,70 @@ module _ (file : List ℕ) where
   t-zero : Bool
   t-zero = every (blocksIn file * 253 - saidWords file) (λ k. eqb (contentWord file (saidWords file + k)) 0)
 
-  t-doms : Bool
-  t-doms = every (saidN file) (λ i. ltb (saidProblem file .domain i) (2 ^ saidD file))
+  t-problem : Bool
+  t-problem = eqb (refusalOfProblem (saidProblem file)) 0
 
-  t-masks : Bool
-  t-masks = masksBelowTriangle file
-
-  t-rules : Bool
-  t-rules = allObey (saidProblem file) (saidSearch file .memory)
-
-  t-count : Bool
-  t-count = leb (saidChecks file) (496 * saidSteps file)
+  t-search : Bool
+  t-search = eqb (refusalOfSearch (saidProblem file) (saidAgenda file) (saidSteps file) (saidChecks file) (saidSubproblems file)) 0
 
   tests : Bool
-  tests = t-one && t-vars && t-val && t-vals && t-few && t-fills && t-zero && t-doms && t-masks && t-rules && t-count
+  tests = t-numbers && t-few && t-fills && t-zero && t-problem && t-search
 
   is-tests : refusalOfWords file ≡ cond tests 0 15
-  unfolding refusalOfWords tests t-one t-vars t-val t-vals t-few t-fills t-zero t-doms t-masks t-rules t-count
+  unfolding refusalOfWords tests t-numbers t-few t-fills t-zero t-problem t-search
   is-tests = refl
 
-  domains-say : t-doms ≡ true → (i : ℕ) → i < saidN file → saidProblem file .domain i < 2 ^ saidD file
-  unfolding t-doms
-  domains-say e i l =
-      ltb-true (saidProblem file .domain i) (2 ^ saidD file) (every-at (λ i. ltb (saidProblem file .domain i) (2 ^ saidD file)) (saidN file) i l e)
-
-  masks-say : t-masks ≡ true → (i j a : ℕ) → i < j → j < saidN file → a < saidD file → saidAllowed file i j a < 2 ^ saidD file
-  unfolding t-masks masksBelowTriangle
-  masks-say e i j a h l m =
-      let test : ℕ → ℕ → ℕ → Bool = λ i j a. ltb (saidAllowed file i j a) (2 ^ saidD file) in
-      let pair : ℕ → ℕ → Bool = λ i j. not (ltb i j) || every (saidD file) (test i j) in
-      let here = every-at (pair i) (saidN file) j l (every-at (λ i. every (saidN file) (pair i)) (saidN file) i (omega arith) e) in
-      let all : every (saidD file) (test i j) ≡ true = rw (lt-ltb i j h) at here in
-      ltb-true (saidAllowed file i j a) (2 ^ saidD file) (every-at (test i j) (saidD file) a m all)
-
-  say-masks : ((i j a : ℕ) → i < j → j < saidN file → a < saidD file → saidAllowed file i j a < 2 ^ saidD file) → t-masks ≡ true
-  unfolding t-masks masksBelowTriangle
-  say-masks h =
-      let test : ℕ → ℕ → ℕ → Bool = λ i j a. ltb (saidAllowed file i j a) (2 ^ saidD file) in
-      let pair : ℕ → ℕ → Bool = λ i j. not (ltb i j) || every (saidD file) (test i j) in
-      every-all (λ i. every (saidN file) (pair i)) (saidN file) (λ i l. every-all (pair i) (saidN file) (λ j k. elim (decLt i j) [
-        | yes q ↦ simp (every-all (test i j) (saidD file) (λ a m. lt-ltb (saidAllowed file i j a) (2 ^ saidD file) (h i j a q k m)), or-true)
-        | no q ↦ simp (le-ltb i j (omega arith))
-      ]))
-
-  masks-fail : t-masks ≡ false → Deserves-4 (saidProblem file)
-  unfolding t-masks masksBelowTriangle
-  masks-fail e =
-      let test : ℕ → ℕ → ℕ → Bool = λ i j a. ltb (saidAllowed file i j a) (2 ^ saidD file) in
-      let pair : ℕ → ℕ → Bool = λ i j. not (ltb i j) || every (saidD file) (test i j) in
-      let (i, l, x) = every-fails (λ i. every (saidN file) (pair i)) (saidN file) e in
-      let (j, k, y) = every-fails (pair i) (saidN file) x in
-      let (a, m, z) = every-fails (test i j) (saidD file) (or-right (not (ltb i j)) (every (saidD file) (test i j)) y) in
-      let h : i < j = ltb-true i j (not-false (ltb i j) (or-left (not (ltb i j)) (every (saidD file) (test i j)) y)) in
-      inr (
-        i,
-        j,
-        a,
-        l,
-        k,
-        (λ e. absurd (omega arith)),
-        m,
-        over-of (saidD file) (saidAllowed file i j a) (ltb-false (saidAllowed file i j a) (2 ^ saidD file) z),
+  -- The stack of its agenda obeys the rules, and the checks are few enough, where 6 is not given.
+  searched : Proper (saidProblem file)
+      → refusalOfSearch (saidProblem file) (saidAgenda file) (saidSteps file) (saidChecks file) (saidSubproblems file) ≡ 0
+      → ((P : Subproblem) → List·Memᴰ P (saidSearch file .memory) → Rules (saidProblem file) P) × (saidChecks file ≤ 496 * saidSteps file)
+  unfolding refusalOfSearch
+  searched proper e =
+      let room : Bool = leb (saidSubproblems file) (slotsIn (saidN file) (length (saidAgenda file))) in
+      let rules : Bool = allObey (saidProblem file) (saidSearch file .memory) in
+      let zeros : Bool = zerosFrom (saidSubproblems file * (saidN file + 2)) (saidAgenda file) in
+      let limit : Bool = leb (saidChecks file) (496 * saidSteps file) in
+      let all : (room && rules && zeros && limit) ≡ true = given-if (room && rules && zeros && limit) 6 (λ z. absurd (omega arith)) e in
+      (
+        all-rules (saidProblem file) (saidSearch file .memory) proper
+        (and-right room rules (and-left (room && rules) zeros (and-left (room && rules && zeros) limit all))),
+        leb-true (saidChecks file) (496 * saidSteps file) (and-right (room && rules && zeros) limit all),
       )
 
   -- What the tests say.
   tests-accept : tests ≡ true → Accepts file
-  unfolding tests t-one t-vars t-val t-vals t-few t-fills t-zero t-doms t-rules t-count
-  tests-accept e11 =
-      let e10 : (t-one && t-vars && t-val && t-vals && t-few && t-fills && t-zero && t-doms && t-masks && t-rules) ≡ true = and-left
-      (t-one && t-vars && t-val && t-vals && t-few && t-fills && t-zero && t-doms && t-masks && t-rules) t-count e11 in
-      let e9 : (t-one && t-vars && t-val && t-vals && t-few && t-fills && t-zero && t-doms && t-masks) ≡ true = and-left
-      (t-one && t-vars && t-val && t-vals && t-few && t-fills && t-zero && t-doms && t-masks) t-rules e10 in
-      let e8 : (t-one && t-vars && t-val && t-vals && t-few && t-fills && t-zero && t-doms) ≡ true = and-left
-      (t-one && t-vars && t-val && t-vals && t-few && t-fills && t-zero && t-doms) t-masks e9 in
-      let e7 : (t-one && t-vars && t-val && t-vals && t-few && t-fills && t-zero) ≡ true = and-left
-      (t-one && t-vars && t-val && t-vals && t-few && t-fills && t-zero) t-doms e8 in
-      let e6 : (t-one && t-vars && t-val && t-vals && t-few && t-fills) ≡ true = and-left (t-one && t-vars && t-val && t-vals && t-few && t-fills)
-      t-zero e7 in
-      let e5 : (t-one && t-vars && t-val && t-vals && t-few) ≡ true = and-left (t-one && t-vars && t-val && t-vals && t-few) t-fills e6 in
-      let e4 : (t-one && t-vars && t-val && t-vals) ≡ true = and-left (t-one && t-vars && t-val && t-vals) t-few e5 in
-      let e3 : (t-one && t-vars && t-val) ≡ true = and-left (t-one && t-vars && t-val) t-vals e4 in
-      let e2 : (t-one && t-vars) ≡ true = and-left (t-one && t-vars) t-val e3 in
-      let e1 : (t-one) ≡ true = and-left (t-one) t-vars e2 in
-      let doms = domains-say (and-right (t-one && t-vars && t-val && t-vals && t-few && t-fills && t-zero) t-doms e8) in
-      let masks = masks-say (and-right (t-one && t-vars && t-val && t-vals && t-few && t-fills && t-zero && t-doms) t-masks e9) in
-      let n₁ : 1 ≤ saidN file = leb-true 1 (saidN file) e1 in
-      let n₂ : saidN file ≤ 32 = leb-true (saidN file) 32 (and-right (t-one) t-vars e2) in
-      let d₁ : 1 ≤ saidD file = leb-true 1 (saidD file) (and-right (t-one && t-vars) t-val e3) in
-      let d₂ : saidD file ≤ 16 = leb-true (saidD file) 16 (and-right (t-one && t-vars && t-val) t-vals e4) in
+  unfolding tests t-numbers t-few t-fills t-zero t-problem t-search
+  tests-accept e6 =
+      let e5 : (t-numbers && t-few && t-fills && t-zero && t-problem) ≡ true = and-left (t-numbers && t-few && t-fills && t-zero && t-problem) t-search
+      e6 in
+      let e4 : (t-numbers && t-few && t-fills && t-zero) ≡ true = and-left (t-numbers && t-few && t-fills && t-zero) t-problem e5 in
+      let e3 : (t-numbers && t-few && t-fills) ≡ true = and-left (t-numbers && t-few && t-fills) t-zero e4 in
+      let e2 : (t-numbers && t-few) ≡ true = and-left (t-numbers && t-few) t-fills e3 in
+      let none : refusalOfNumbers (saidN file) (saidD file) ≡ 0 = eqb-true (refusalOfNumbers (saidN file) (saidD file)) 0
+      (and-left t-numbers t-few e2) in
+      let problem : refusalOfProblem (saidProblem file) ≡ 0 = eqb-true (refusalOfProblem (saidProblem file)) 0
+      (and-right (t-numbers && t-few && t-fills && t-zero) t-problem e5) in
+      let proper = proper-is-passed (saidProblem file) none problem in
+      let search = searched proper
+      (eqb-true (refusalOfSearch (saidProblem file) (saidAgenda file) (saidSteps file) (saidChecks file) (saidSubproblems file)) 0
+      (and-right (t-numbers && t-few && t-fills && t-zero && t-problem) t-search e6)) in
       record {
-        some-variable = n₁;
-        variables = n₂;
-        some-value = d₁;
-        values = d₂;
-        few = leb-true (saidSubproblems file) 512 (and-right (t-one && t-vars && t-val && t-vals) t-few e5);
-        fills = eqb-true (blocksIn file) (blocksFor (saidWords file)) (and-right (t-one && t-vars && t-val && t-vals && t-few) t-fills e6);
+        some-variable = proper .some-variable;
+        variables = proper .variables;
+        some-value = proper .some-value;
+        values = proper .values;
+        few = leb-true (saidSubproblems file) 512 (and-right t-numbers t-few e2);
+        fills = eqb-true (blocksIn file) (blocksFor (saidWords file)) (and-right (t-numbers && t-few) t-fills e3);
         zeros = λ k l m.
             let at : saidWords file + (k - saidWords file) ≡ k = omega arith in
             rw (← at) (eqb-true (contentWord file (saidWords file + (k - saidWords file))) 0
             (every-at (λ k. eqb (contentWord file (saidWords file + k)) 0) (blocksIn file * 253 - saidWords file) (k - saidWords file) (omega arith)
-            (and-right (t-one && t-vars && t-val && t-vals && t-few && t-fills) t-zero e7)));
-        domains = doms;
-        masks = masks;
-        rules =
-            all-rules (saidProblem file) (saidSearch file .memory) (proper-said n₁ n₂ d₁ d₂ doms masks)
-            (and-right (t-one && t-vars && t-val && t-vals && t-few && t-fills && t-zero && t-doms && t-masks) t-rules e10);
-        counted =
-            leb-true (saidChecks file) (496 * saidSteps file)
-            (and-right (t-one && t-vars && t-val && t-vals && t-few && t-fills && t-zero && t-doms && t-masks && t-rules) t-count e11);
+            (and-right (t-numbers && t-few && t-fills) t-zero e4)));
+        domains = proper .domains;
+        masks = λ i j a l k m. proper .masks i j a (omega arith) k (λ e. absurd (omega arith)) m;
+        rules = search .0;
+        counted = search .1;
       }
-
-  accept-tests : Accepts file → tests ≡ true
-  unfolding tests t-one t-vars t-val t-vals t-few t-fills t-zero t-doms t-rules t-count
-  accept-tests a =
-      let zero : t-zero ≡ true = every-all (λ k. eqb (contentWord file (saidWords file + k)) 0) (blocksIn file * 253 - saidWords file)
-      (λ k l. eq-eqb (contentWord file (saidWords file + k)) 0 (a .zeros (saidWords file + k) (omega arith) (omega arith))) in
-      let doms : t-doms ≡ true = every-all (λ i. ltb (saidProblem file .domain i) (2 ^ saidD file)) (saidN file)
-      (λ i l. lt-ltb (saidProblem file .domain i) (2 ^ saidD file) (a .domains i l)) in
-      let rules : t-rules ≡ true = all-obey (saidProblem file) (saidSearch file .memory) (said-proper a) (a .rules) in
-      rw (
-        le-leb 1 (saidN file) (a .some-variable),
-        le-leb (saidN file) 32 (a .variables),
-        le-leb 1 (saidD file) (a .some-value),
-        le-leb (saidD file) 16 (a .values),
-        le-leb (saidSubproblems file) 512 (a .few),
-        eq-eqb (blocksIn file) (blocksFor (saidWords file)) (a .fills),
-        zero,
-        doms,
-        say-masks (a .masks),
-        rules,
-      ) (le-leb (saidChecks file) (496 * saidSteps file) (a .counted))
-
-  -- If they do not all pass, a rule is broken.
-  tests-deserve : tests ≡ false → Deserves-15 file
-  unfolding tests t-one t-vars t-val t-vals t-few t-fills t-zero t-doms t-rules t-count
-  tests-deserve e = one (either t-one) (either t-vars) (either t-val) (either t-vals)
-    where
-      Way : Bool → Type 0
-      Way b = (b ≡ true) ⊎ (b ≡ false)
-
-      counts : t-one ≡ true → t-vars ≡ true → t-val ≡ true → t-vals ≡ true → t-few ≡ true → t-fills ≡ true → t-zero ≡ true → t-doms ≡ true
-          → t-masks ≡ true → t-rules ≡ true → Way t-count → Deserves-15 file
-      counts a b c d f g h i j k (inl x) = absurd (true-false (sym (rw (a, b, c, d, f, g, h, i, j, k) x) ∙ e))
-      counts a b c d f g h i j k (inr x) =
-          inr (inr (inr (inr (inr (inr (inr (inr (inr (leb-false (saidChecks file) (496 * saidSteps file) x)))))))))
-
-      rules : t-one ≡ true → t-vars ≡ true → t-val ≡ true → t-vals ≡ true → t-few ≡ true → t-fills ≡ true → t-zero ≡ true → t-doms ≡ true
-          → t-masks ≡ true → Way t-rules → Deserves-15 file
-      rules a b c d f g h i j (inl x) = counts a b c d f g h i j x (either t-count)
-      rules a b c d f g h i j (inr x) =
-          let proper = proper-said (leb-true 1 (saidN file) a) (leb-true (saidN file) 32 b) (leb-true 1 (saidD file) c) (leb-true (saidD file) 16 d)
-          (domains-say i) (masks-say j) in
-          inr (inr (inr (inr (inr (inr (inl (refutes-rules (saidProblem file) (saidSearch file .memory) proper .holds x)))))))
-
-      masks : t-one ≡ true → t-vars ≡ true → t-val ≡ true → t-vals ≡ true → t-few ≡ true → t-fills ≡ true → t-zero ≡ true → t-doms ≡ true
-          → Way t-masks → Deserves-15 file
-      masks a b c d f g h i (inl x) = rules a b c d f g h i x (either t-rules)
-      masks a b c d f g h i (inr x) = inr (inr (inr (inr (inr (inl (masks-fail x))))))
-
-      doms : t-one ≡ true → t-vars ≡ true → t-val ≡ true → t-vals ≡ true → t-few ≡ true → t-fills ≡ true → t-zero ≡ true → Way t-doms
-          → Deserves-15 file
-      doms a b c d f g h (inl x) = masks a b c d f g h x (either t-masks)
-      doms a b c d f g h (inr x) =
-          let (i, l, z) = every-fails (λ i. ltb (saidProblem file .domain i) (2 ^ saidD file)) (saidN file) x in
-          inr
-          (inr
-          (inr
-          (inr (inr (inl (inl (i, l, over-of (saidD file) (saidProblem file .domain i) (ltb-false (saidProblem file .domain i) (2 ^ saidD file) z))))))))
-
-      zeros : t-one ≡ true → t-vars ≡ true → t-val ≡ true → t-vals ≡ true → t-few ≡ true → t-fills ≡ true → Way t-zero → Deserves-15 file
-      zeros a b c d f g (inl x) = doms a b c d f g x (either t-doms)
-      zeros a b c d f g (inr x) =
-          let (k, l, z) = every-fails (λ k. eqb (contentWord file (saidWords file + k)) 0) (blocksIn file * 253 - saidWords file) x in
-          inr (inr (inr (inr (inl (saidWords file + k, omega arith, omega arith, eqb-false (contentWord file (saidWords file + k)) 0 z)))))
-
-      fills : t-one ≡ true → t-vars ≡ true → t-val ≡ true → t-vals ≡ true → t-few ≡ true → Way t-fills → Deserves-15 file
-      fills a b c d f (inl x) = zeros a b c d f x (either t-zero)
-      fills a b c d f (inr x) = inr (inr (inr (inl (eqb-false (blocksIn file) (blocksFor (saidWords file)) x))))
-
-      fewer : t-one ≡ true → t-vars ≡ true → t-val ≡ true → t-vals ≡ true → Way t-few → Deserves-15 file
-      fewer a b c d (inl x) = fills a b c d x (either t-fills)
-      fewer a b c d (inr x) = inr (inr (inl (leb-false (saidSubproblems file) 512 x)))
-
-      one : Way t-one → Way t-vars → Way t-val → Way t-vals → Deserves-15 file
-      one (inl a) (inl b) (inl c) (inl d) = fewer a b c d (either t-few)
-      one (inr a) y z w = inl (inl (leb-false 1 (saidN file) a))
-      one (inl a) (inr b) z w = inl (inr (leb-false (saidN file) 32 b))
-      one (inl a) (inl b) (inr c) w = inr (inl (inl (leb-false 1 (saidD file) c)))
-      one (inl a) (inl b) (inl c) (inr d) = inr (inl (inr (leb-false (saidD file) 16 d)))
 
   -- Its agenda has no slot that is not used.
   pub agenda-length : length (saidAgenda file) ≡ saidSubproblems file * (saidN file + 2)
@@ -318,6 +193,100 @@ module _ (file : List ℕ) where
       omega (arith, l, ap (slotsIn (saidN file)) agenda-length, slots-in (saidN file) (saidSubproblems file))
   accepts-deserves-not a (inr (inr (inr (inr (inr (inr (inr (inr (inl (k, l, m, f)))))))))) = omega (arith, l, m, agenda-length)
   accepts-deserves-not a (inr (inr (inr (inr (inr (inr (inr (inr (inr l))))))))) = omega (arith, a .counted)
+
+  -- No pair is allowed one way only: each is said once.
+  said-both-ways : Deserves-5 (saidProblem file) → ⊥
+  said-both-ways x = x .10 (sym (both-ways (x .0) (x .1) (x .2) (x .3) (x .6) (x .7) (x .8)) ∙ x .9)
+
+  -- It passes every test.
+  accept-tests : Accepts file → tests ≡ true
+  unfolding tests t-numbers t-few t-fills t-zero t-problem t-search
+  accept-tests a =
+      let no = accepts-deserves-not a in
+      let proper = said-proper a in
+      let numbers : refusalOfNumbers (saidN file) (saidD file) ≡ 0 = numbers-none (saidN file) (saidD file) .1
+      ((λ h. no (inl h)), (λ h. no (inr (inl h)))) in
+      let problem : refusalOfProblem (saidProblem file) ≡ 0 = problem-none (saidProblem file) .1
+      ((λ h. no (inr (inr (inr (inr (inr (inl h))))))), said-both-ways) in
+      let search : refusalOfSearch (saidProblem file) (saidAgenda file) (saidSteps file) (saidChecks file) (saidSubproblems file) ≡ 0 =
+      search-none (saidProblem file) (saidAgenda file) (saidSteps file) (saidChecks file) (saidSubproblems file) proper .1
+      (λ h. no (inr (inr (inr (inr (inr (inr h))))))) in
+      let zero : t-zero ≡ true = every-all (λ k. eqb (contentWord file (saidWords file + k)) 0) (blocksIn file * 253 - saidWords file)
+      (λ k l. eq-eqb (contentWord file (saidWords file + k)) 0 (a .zeros (saidWords file + k) (omega arith) (omega arith))) in
+      rw (
+        numbers,
+        le-leb (saidSubproblems file) 512 (a .few),
+        eq-eqb (blocksIn file) (blocksFor (saidWords file)) (a .fills),
+        zero,
+        problem,
+        search,
+      ) refl
+
+  -- A test of numbers that fails: 1 or 2 is deserved.
+  numbers-fail : (refusalOfNumbers (saidN file) (saidD file) ≡ 0 → ⊥) → Deserves-1 (saidN file) ⊎ Deserves-2 (saidD file)
+  unfolding refusalOfNumbers
+  numbers-fail f =
+      go (ltb (saidN file) 1 || ltb 32 (saidN file)) (ltb (saidD file) 1 || ltb 16 (saidD file)) (decides-1 (saidN file)) (decides-2 (saidD file)) f
+    where
+      go : (a b : Bool) → Decides a (Deserves-1 (saidN file)) → Decides b (Deserves-2 (saidD file)) → (_≡_ {A = ℕ} (cond a 1 (cond b 2 0)) 0 → ⊥)
+          → Deserves-1 (saidN file) ⊎ Deserves-2 (saidD file)
+      go true b s t g = inl (s .holds refl)
+      go false true s t g = inr (t .holds refl)
+      go false false s t g = absurd (g refl)
+
+  -- One of the problem: 4 or 5.
+  problem-fails : (refusalOfProblem (saidProblem file) ≡ 0 → ⊥) → Deserves-4 (saidProblem file) ⊎ Deserves-5 (saidProblem file)
+  unfolding refusalOfProblem
+  problem-fails f =
+      go (masksBelow (saidProblem file)) (symmetric (saidProblem file)) (refutes-4 (saidProblem file)) (refutes-5 (saidProblem file)) f
+    where
+      go : (a b : Bool) → Refutes a (Deserves-4 (saidProblem file)) → Refutes b (Deserves-5 (saidProblem file))
+          → (_≡_ {A = ℕ} (cond a (cond b 0 5) 4) 0 → ⊥)
+          → Deserves-4 (saidProblem file) ⊎ Deserves-5 (saidProblem file)
+      go false b s t g = inl (s .holds refl)
+      go true false s t g = inr (t .holds refl)
+      go true true s t g = absurd (g refl)
+
+  -- One of the search: 6.
+  search-fails : Proper (saidProblem file)
+      → (refusalOfSearch (saidProblem file) (saidAgenda file) (saidSteps file) (saidChecks file) (saidSubproblems file) ≡ 0 → ⊥)
+      → Deserves-6 (saidProblem file) (saidAgenda file) (saidSteps file) (saidChecks file) (saidSubproblems file)
+  unfolding refusalOfSearch
+  search-fails proper f =
+      go _ (refutes-6 (saidProblem file) (saidAgenda file) (saidSteps file) (saidChecks file) (saidSubproblems file) proper) f
+    where
+      go : (b : Bool) → Refutes b (Deserves-6 (saidProblem file) (saidAgenda file) (saidSteps file) (saidChecks file) (saidSubproblems file))
+          → (_≡_ {A = ℕ} (cond b 0 6) 0 → ⊥) → Deserves-6 (saidProblem file) (saidAgenda file) (saidSteps file) (saidChecks file) (saidSubproblems file)
+      go true s g = absurd (g refl)
+      go false s g = s .holds refl
+
+  -- If they do not all pass, a rule is broken.
+  tests-deserve : tests ≡ false → Deserves-15 file
+  unfolding tests t-numbers t-few t-fills t-zero t-problem t-search
+  tests-deserve e = one (either t-numbers) (either t-few) (either t-fills) (either t-zero) (either t-problem) (either t-search)
+    where
+      Way : Bool → Type 0
+      Way b = (b ≡ true) ⊎ (b ≡ false)
+
+      searched-not : t-numbers ≡ true → t-problem ≡ true → t-search ≡ false → Deserves-15 file
+      searched-not a g h =
+          let proper = proper-is-passed (saidProblem file) (eqb-true (refusalOfNumbers (saidN file) (saidD file)) 0 a)
+          (eqb-true (refusalOfProblem (saidProblem file)) 0 g) in
+          inr (inr (inr (inr (inr (inr (search-fails proper
+          (eqb-false (refusalOfSearch (saidProblem file) (saidAgenda file) (saidSteps file) (saidChecks file) (saidSubproblems file)) 0 h)))))))
+
+      one : Way t-numbers → Way t-few → Way t-fills → Way t-zero → Way t-problem → Way t-search → Deserves-15 file
+      one (inr a) w x y z v = ⊎-elim (λ h. inl h) (λ h. inr (inl h)) (numbers-fail (eqb-false (refusalOfNumbers (saidN file) (saidD file)) 0 a))
+      one (inl a) (inr b) x y z v = inr (inr (inl (leb-false (saidSubproblems file) 512 b)))
+      one (inl a) (inl b) (inr c) y z v = inr (inr (inr (inl (eqb-false (blocksIn file) (blocksFor (saidWords file)) c))))
+      one (inl a) (inl b) (inl c) (inr d) z v =
+          let (k, l, w) = every-fails (λ k. eqb (contentWord file (saidWords file + k)) 0) (blocksIn file * 253 - saidWords file) d in
+          inr (inr (inr (inr (inl (saidWords file + k, omega arith, omega arith, eqb-false (contentWord file (saidWords file + k)) 0 w)))))
+      one (inl a) (inl b) (inl c) (inl d) (inr g) v =
+          ⊎-elim (λ h. inr (inr (inr (inr (inr (inl h)))))) (λ h. absurd (said-both-ways h))
+          (problem-fails (eqb-false (refusalOfProblem (saidProblem file)) 0 g))
+      one (inl a) (inl b) (inl c) (inl d) (inl g) (inr h) = searched-not a g h
+      one (inl a) (inl b) (inl c) (inl d) (inl g) (inl h) = absurd (true-false (sym (rw (a, b, c, d, g) h) ∙ e))
 
   -- Passing 15 says that the file is accepted.
   pub words-accept : refusalOfWords file ≡ 0 → Accepts file

@@ -17,15 +17,16 @@ use Rattle.search.specs.Calls.{searchOf}
 use Rattle.search.specs.declared.state.State.{State}
 use Rattle.search.proofs.Encoding.{length-stackOf, agenda-back}
 use Rattle.search.proofs.first_checks.FirstPassing.{PassedSearch, search-is-passed}
-use Rattle.files.specs.Blocks.{blocksFor, fileOf}
+use Rattle.blocks.specs.Blocks.{blocksFor, fileOf}
 use Rattle.files.specs.Content.{contentOf}
 use Rattle.files.specs.Reading.{saidN, saidD, saidSteps, saidChecks, saidSubproblems, saidDomains, saidAllowed, saidSearch, tableWords}
 use Rattle.files.specs.Calls.{handedContent, saveRefusal, Saves, loadRefusal, Loads}
-use Rattle.files.specs.Promises.{Bytes, Says, Given-back}
+use Rattle.blocks.specs.Reading.{Bytes}
+use Rattle.files.specs.Promises.{Says, Given-back}
 use Rattle.files.specs.declared.saved.Saved.{Saved}
 use Rattle.files.specs.declared.saved.Loaded.{Loaded}
 use Rattle.files.proofs.Triangle.{table-other, triangle-same}
-use Rattle.files.proofs.Blocks.{file-length}
+use Rattle.blocks.proofs.Blocks.{file-length}
 use Rattle.files.proofs.RoundTrip.{saved-again}
 use Rattle.files.proofs.Saving.{stack-shape, saved-says}
 use Rattle.files.proofs.Loading.{Fits, fit-lengths, load-taken, said-passing, memory-read, said-agree}

@@ -18,33 +18,34 @@ use Rattle.problem.proofs.Tests.{and-left, and-right, every-at}
 use Rattle.search.specs.Agenda.{slotsIn, stackOf, stackWords, agendaOf}
 use Rattle.search.specs.FirstChecks.{WholeSlots}
 use Rattle.search.specs.Tests.FirstChecks.{searchRefusal}
-use Rattle.search.specs.declared.state.State.{State}
 use Rattle.problem.proofs.Copies.{zeros-at}
 use Rattle.search.proofs.Encoding.{stack-of-words, agenda-back}
 use Rattle.search.proofs.first_checks.FirstPassing.{search-is-passed}
-use Rattle.files.specs.Blocks.{blocksFor}
-use Rattle.files.specs.Reading.{blocksIn, contentWord, contentFrom, saidN, saidD, saidSteps, saidChecks, saidSubproblems, saidDomains, saidAllowed, saidAgenda, saidSearch, saidWords, agendaFrom, tableWords, refusalOfWords}
-use Rattle.files.specs.Promises.{Bytes}
-use Rattle.files.specs.Work.Said.{Numbers, StateSaid, numbersSaid, zeroIn, filled, sizedIn, Read, Ready, partIn}
-use Rattle.files.proofs.Lists.{seq, seq-join, map-is}
+use Rattle.blocks.specs.Blocks.{blocksFor}
+use Rattle.blocks.specs.Reading.{blocksIn, contentWord, contentFrom, Bytes}
+use Rattle.files.specs.Reading.{saidN, saidD, saidSteps, saidChecks, saidSubproblems, saidDomains, saidAllowed, saidAgenda, saidSearch, saidWords, agendaFrom, tableWords, refusalOfWords}
+use Rattle.files.specs.Loops.Said.{Numbers, numbersIn, zeroIn, filled, sizedIn, Read, Ready, partIn}
+use Rattle.files.specs.Calls.{Header-of}
+use Rattle.files.specs.declared.saved.Header.{Header}
+use Rattle.blocks.proofs.Lists.{seq, seq-join, map-is}
 use Rattle.files.proofs.Triangle.{table-other}
 use Rattle.files.proofs.Stacks.{slots-in}
-use Rattle.files.proofs.Whole.{Whole, file-whole}
+use Rattle.blocks.proofs.Whole.{Whole, file-whole}
 use Rattle.files.proofs.Accepted.{Accepts, words-accept, accept-words, words-either}
 use Rattle.files.proofs.Tables.{rules-agree}
 use Rattle.files.proofs.RoundTrip.{said-shape, said-length}
 use Rattle.files.proofs.Loading.{said-passing}
-use Rattle.files.proofs.Places.{length-from, from-small}
+use Rattle.blocks.proofs.Contents.{length-from, from-small}
 use Rattle.files.proofs.Mirrors.{part-at, part-long, triangle-few}
-use Rattle.files.proofs.Filled.{content-past}
-use Rattle.files.proofs.Refused.{sized-numbers}
+use Rattle.blocks.proofs.reading.Filled.{content-past}
+use Rattle.files.proofs.Refused.{sized-numbers, read-numbers}
 
 -- ---- parts of the words read
 
 -- A part of them is so many words of the content.
-pub part-read : (file words : List ℕ) → Read file words → (from w : ℕ) → from + w ≤ 25553 → partIn words from w ≡ contentFrom file from w
+pub part-read : (file words : List ℕ) (h : Header) → Read file words h → (from w : ℕ) → from + w ≤ 25553 → partIn words from w ≡ contentFrom file from w
 unfolding contentFrom partIn
-part-read file words read from w h =
+part-read file words header read from w h =
     sym (map-is (λ k. contentWord file (from + k)) w (take ((from + w) - from) (drop from words)) (part-long words from w (omega (arith, read .long)))
     (λ k l. sym (read .says (from + k)) ∙ sym (part-at words from w k l)))
 
@@ -86,7 +87,7 @@ module _ (file : List ℕ) (small : Bytes file) (whole : Whole file) (sized : si
       let words : ℕ = saidWords file in
       let test : ℕ → Bool = λ k. eqb (contentWord file (words + k)) 0 in
       let blocks : Bool = eqb (blocksIn file) (blocksFor words) in
-      let both = and-right (numbersSaid file) (blocks && every (blocksIn file * 253 - words) test) sized in
+      let both = and-right (numbersIn (saidN file) (saidD file) (saidSubproblems file)) (blocks && every (blocksIn file * 253 - words) test) sized in
       record {
         fills = eqb-true (blocksIn file) (blocksFor words) (and-left blocks (every (blocksIn file * 253 - words) test) both);
         zeros = λ k l. elim (decLt k (blocksIn file * 253)) [
@@ -178,23 +179,26 @@ module _ (file : List ℕ) (small : Bytes file) (whole : Whole file) (sized : si
 
 -- ---- as the code makes them
 
-module _ (file words tables ds slots : List ℕ) (small : Bytes file) (ready : Ready file words tables) (n d r : ℕ) (s : State) (is-n : n ≡ saidN file)
-    (is-d : d ≡ saidD file) (is-ds : ds ≡ partIn words 9 n) (is-slots : slots ≡ partIn words (agendaFrom (saidN file) (saidD file)) (512 * (saidN file + 2)))
-    (said : StateSaid file s) (is-r : r ≡ searchRefusal n d ds tables slots (s .counts .steps .0) (s .counts .checks .0) (s .subproblems)) where
-  fitting : Numbers (saidN file) (saidD file) × (saidSubproblems file ≤ 512)
-  fitting = sized-numbers file (saidN file) (saidD file) (saidSubproblems file) refl refl refl (ready .read .sized)
+module _ (file words tables ds slots : List ℕ) (h : Header) (small : Bytes file) (ready : Ready file words tables h) (r : ℕ)
+    (is-ds : ds ≡ partIn words 9 (h .n)) (is-slots : slots ≡ partIn words (agendaFrom (h .n) (h .d)) (512 * (h .n + 2)))
+    (is-r : r ≡ searchRefusal (h .n) (h .d) ds tables slots (h .state .counts .steps .0) (h .state .counts .checks .0) (h .state .subproblems)) where
+  abbrev said : Header-of file h
+  said = ready .read .header
+
+  fitting : Numbers (h .n) (h .d) × (h .state .subproblems ≤ 512)
+  fitting = read-numbers file words h (ready .read)
 
   domains-read : ds ≡ saidDomains file
-  domains-read = is-ds ∙ part-read file words (ready .read) 9 n (omega (arith, fitting .0 .variables)) ∙ ap (contentFrom file 9) is-n
+  domains-read = is-ds ∙ part-read file words h (ready .read) 9 (h .n) (omega (arith, fitting .0 .variables)) ∙ ap (contentFrom file 9) (said .its-n)
 
   slots-read : slots ≡ agendaOf (saidN file) (512 * (saidN file + 2)) (saidSearch file .memory)
   slots-read =
-      is-slots ∙ part-read file words (ready .read) (agendaFrom (saidN file) (saidD file)) (512 * (saidN file + 2))
-      (omega (arith, triangle-few (saidN file) (saidD file) (fitting .0), fitting .0 .variables))
-      ∙ memory-is file small (file-whole file (ready .read .whole)) (ready .read .sized)
+      is-slots ∙ part-read file words h (ready .read) (agendaFrom (h .n) (h .d)) (512 * (h .n + 2))
+      (omega (arith, triangle-few (h .n) (h .d) (fitting .0), fitting .0 .variables))
+      ∙ rw (said .its-n, said .its-d) (memory-is file small (file-whole file (ready .read .whole)) (ready .read .sized))
 
   made : r ≡ checked file small (file-whole file (ready .read .whole)) (ready .read .sized)
-  made = is-r ∙ rw (domains-read, slots-read, ready .made, said .steps, said .checks, said .subproblems, is-n, is-d) refl
+  made = is-r ∙ rw (domains-read, slots-read, ready .made, said .steps, said .checks, said .subproblems, said .its-n, said .its-d) refl
 
   -- They pass.
   pub rules-kept : r ≡ 0 → 0 ≡ refusalOfWords file

@@ -15,8 +15,9 @@ use Rattle.search.specs.Agenda.{Shape, stackOf, stackWords}
 use Rattle.search.specs.Slots.{Search}
 use Rattle.search.proofs.Encoding.{stack-back}
 use Rattle.files.specs.Content.{triangle, contentOf}
-use Rattle.files.specs.Reading.{contentWord, contentFrom, saidN, saidD, saidSteps, saidChecks, saidSubproblems, saidDomains, saidAllowed, saidAgenda, saidSearch, saidWords, triangleWords, trianglePlace, gathered}
-use Rattle.files.proofs.Lists.{map-is}
+use Rattle.blocks.specs.Reading.{contentWord, contentFrom}
+use Rattle.files.specs.Reading.{saidN, saidD, saidSteps, saidChecks, saidSubproblems, saidDomains, saidAllowed, saidAgenda, saidSearch, saidWords, triangleWords, trianglePlace, gathered}
+use Rattle.blocks.proofs.Lists.{map-is}
 use Rattle.files.proofs.Triangle.{triangle-length, triangle-at, place-lt}
 use Rattle.files.proofs.Gathered.{gathered-same, gathered-bits}
 use Rattle.files.proofs.Stacks.{shape-length}

@@ -11,39 +11,19 @@ use native.Mathlib.Numerals.{add-one}
 use native.Mathlib.Decide.{decLt}
 use lib.ListN.{length, getD, take, drop, set, replicate, length-set, length-append, length-drop, length-replicate, replicate-append-replicate, take-append-drop, List·getD-eq-default}
 use lib.Seq.{getD-take, getD-drop, drop-cons, append-snoc, set-at, take-all, drop-drop, drop-length, length-take-le}
-use borrow.Rule.Slice.PartMut.{putMid}
+use borrow.Author.Tests.{le-leb}
 use Rattle.problem.specs.Lists.{total, below, splice}
-use Rattle.problem.proofs.Copies.{zeros-at, drop-zeros, put-part, splice-between, splice-splice, splice-none}
-use Rattle.files.specs.Blocks.{wordAt}
-use Rattle.files.specs.Content.{each}
-use Rattle.files.specs.Reading.{blockWord, contentWord, contentFrom, trianglePlace}
-use Rattle.files.specs.Work.Said.{Numbers, allowedIn, columnPart, pairPart, rowPart, afterPart, tablePart, partIn}
-use Rattle.files.specs.Work.Saved.{zeros}
-use Rattle.files.proofs.Lists.{map-length, map-at, map-is, map-same, each-more, each-same, each-split, each-one, each-length, total-const, seq, seq-is, seq-each, seq-join}
-use Rattle.files.proofs.Places.{content-from, length-from}
-use Rattle.files.proofs.Found.{part-words}
+use Rattle.problem.proofs.Copies.{zeros-at, drop-zeros, splice-splice, splice-none}
+use Rattle.blocks.specs.Lists.{each}
+use Rattle.blocks.specs.Reading.{blocksIn, contentWord, contentFrom}
+use Rattle.blocks.specs.Calls.{Put-content}
+use Rattle.files.specs.Reading.{trianglePlace}
+use Rattle.files.specs.Loops.Said.{Numbers, allowedIn, columnPart, pairPart, rowPart, afterPart, tablePart, partIn}
+use Rattle.files.specs.Loops.Saved.{zeros}
+use Rattle.blocks.proofs.Lists.{map-length, map-at, map-is, map-same, each-more, each-same, each-split, each-one, each-length, total-const, seq, seq-is, seq-each, seq-join}
+use Rattle.blocks.proofs.Contents.{content-from, length-from}
+use Rattle.blocks.proofs.reading.Filled.{from-join, content-past}
 use Rattle.files.proofs.Mirrors.{after-within, part-at, pair-turned, pair-zeros, mask-at}
-
--- ---- values written one after the other
-
-module _ (f : ℕ → ℕ) where
-  -- None is written yet.
-  pub front-none : (l : List ℕ) → l ≡ map f (below 0) ++ drop 0 l
-  unfolding below
-  front-none l = refl
-
-  -- One more.
-  pub front-more : (l m : List ℕ) (k x : ℕ) → m ≡ map f (below k) ++ drop k l → x ≡ f k → k < length l
-      → set m k x ≡ map f (below (k + 1)) ++ drop (k + 1) l
-  unfolding below
-  front-more l m k x e s h =
-      rw (e, s, drop-cons l k 0 h)
-      (set-at (map f (below k)) (getD l k 0) (drop (suc k) l) (f k) k (map-length f k)
-      ∙ sym (append-snoc (map f (below k)) (f k) (drop (suc k) l)) ∙ rw (add-one, map-append f (below k) (k ∷ [])) refl)
-
-  -- All.
-  pub front-end : (l m : List ℕ) (k n : ℕ) → m ≡ map f (below k) ++ drop k l → k ≡ n → length l ≡ n → m ≡ map f (below n)
-  front-end l m k n e s h = rw (e, s, sym h, drop-length, append-nil) refl
 
 -- A copy is what was copied.
 pub copy-whole : (src l m : List ℕ) (k : ℕ) → m ≡ take k src ++ drop k l → k ≡ length src → length src ≡ length l → m ≡ src
@@ -152,68 +132,10 @@ module _ (f : ℕ → List ℕ) (l : List ℕ) (at : ℕ) where
         made = e ∙ rw (inv .made) (splice-splice l at (each f (below i)) ys end (sym (inv .ends)) h) ∙ ap (splice l at) next;
       }
 
--- What a callee left in the part that was lent to it comes after what was written before.
-pub part-more : (p q l m ys : List ℕ) (a w : ℕ) → m ≡ p ++ drop a l → length p ≡ a → ys ≡ q → length q ≡ w → a + w ≤ length l
-    → putMid a ((a + w) - a) m ys ≡ (p ++ q) ++ drop (a + w) l
-part-more p q l m ys a w e s y k h =
-    let old : List ℕ = take w (drop a l) in
-    let fits : length q ≡ length old = k ∙ sym (length-take-le w (drop a l) (omega (arith, length-drop a l))) in
-    let parts : drop a l ≡ old ++ drop w (drop a l) = sym (take-append-drop w (drop a l)) in
-    put-part m ys q a w y k ∙ rw (e ∙ ap (λ (t : List ℕ). p ++ t) parts) (splice-between p old (drop w (drop a l)) q a s fits)
-    ∙ sym (append-assoc p q (drop w (drop a l))) ∙ ap (λ (t : List ℕ). (p ++ q) ++ t) (drop-drop w a l)
-
 -- ---- the content
 
--- Word k of a block's content.
-pub content-in : (block : List ℕ) (k : ℕ) → k < 253 → blockWord block 0 (2 + k) ≡ contentWord block (0 + k)
-unfolding contentWord
-content-in block k h =
-    let div : (0 + k) / 253 ≡ 0 = omega arith in
-    let at : 2 + (0 + k) % 253 ≡ 2 + k = omega arith in
-    rw (div, at) refl
-
--- The content of a block is its words between the first two and the check.
-content-block : (block : List ℕ) → take (255 - 2) (drop 2 (map (blockWord block 0) (below 256))) ≡ contentFrom block 0 253
-unfolding contentFrom
-content-block block =
-    let all : List ℕ = map (blockWord block 0) (below 256) in
-    let long : length (take 253 (drop 2 all)) ≡ 253 = length-take-le 253 (drop 2 all)
-    (omega (arith, length-drop 2 all, map-length (blockWord block 0) 256)) in
-    sym (map-is (λ k. contentWord block (0 + k)) 253 (take 253 (drop 2 all)) long
-    (λ k h.
-    sym (content-in block k h) ∙ sym (getD-take 253 (drop 2 all) k 0 h ∙ getD-drop 2 all k 0 ∙ map-at (blockWord block 0) 256 (2 + k) 0 (omega arith))))
-
--- It is that of its words in the file.
-content-part : (file : List ℕ) (b : ℕ) → contentFrom (partIn file (b * 512) 512) 0 253 ≡ contentFrom file (b * 253) 253
-unfolding contentFrom contentWord
-content-part file b =
-    let block : List ℕ = partIn file (b * 512) 512 in
-    map-same (λ k. contentWord block (0 + k)) (λ k. contentWord file (b * 253 + k)) 253 (λ k h.
-    let div : (b * 253 + k) / 253 ≡ b = omega arith in
-    let at : 2 + (b * 253 + k) % 253 ≡ 2 + k = omega arith in
-    sym (content-in block k h) ∙ part-words file b (2 + k) (omega arith) ∙ rw (div, at) refl)
-
--- The content of a block is written.
-pub block-put : (file block l m all : List ℕ) (b : ℕ) → block ≡ partIn file (b * 512) 512 → all ≡ map (blockWord block 0) (below 256)
-    → m ≡ splice l (b * 253) (take (255 - 2) (drop 2 all)) → m ≡ splice l (b * 253) (contentFrom file (b * 253) 253)
-block-put file block l m all b is-block e s =
-    s ∙ ap (splice l (b * 253)) (rw e (content-block block) ∙ ap (λ (x : List ℕ). contentFrom x 0 253) is-block ∙ content-part file b)
-
--- Words of the content one after the other.
-from-join : (file : List ℕ) (a b : ℕ) → contentFrom file 0 (a + b) ≡ contentFrom file 0 a ++ contentFrom file a b
-unfolding contentFrom seq
-from-join file a b = seq-join (contentWord file) 0 a b ∙ ap (λ (x : ℕ). contentFrom file 0 a ++ contentFrom file x b) (zero-add a)
-
--- Past its blocks the words of a content are zeros.
-pub content-past : (file : List ℕ) (k : ℕ) → length file ≤ k / 253 * 512 → contentWord file k ≡ 0
-unfolding contentWord blockWord wordAt
-content-past file k h =
-    let high : length file ≤ 2 * (256 * (k / 253) + (2 + k % 253)) = omega arith in
-    let low : length file ≤ 2 * (256 * (k / 253) + (2 + k % 253)) + 1 = omega arith in
-    rw (List·getD-eq-default file 0 high, List·getD-eq-default file 0 low) refl
-
--- So the words read and zeros after them are the words from the first on.
-pub content-padded : (file : List ℕ) (blocks : ℕ) → length file ≡ blocks * 512 → blocks ≤ 101
+-- The words read and zeros after them are the words from the first on.
+content-padded : (file : List ℕ) (blocks : ℕ) → length file ≡ blocks * 512 → blocks ≤ 101
     → contentFrom file 0 (blocks * 253) ++ replicate (25553 - blocks * 253) 0 ≡ contentFrom file 0 25553
 unfolding contentFrom
 content-padded file blocks e h =
@@ -234,37 +156,15 @@ content-says file words blocks e h s k = elim (decLt k 25553) [
       List·getD-eq-default words 0 past ∙ sym (content-past file k (omega arith))
 ]
 
--- The blocks passed are read into the words l, which are m now.
-pub record Blocks (file l m : List ℕ) (b : ℕ) : Type 0 where
-  pub passed : b ≤ length file / 512
-  pub long : length m ≡ 25553
-  pub made : m ≡ splice l 0 (contentFrom file 0 (b * 253))
-
--- None is read yet.
-pub blocks-none : (file l : List ℕ) → l ≡ zeros 25553 → Blocks file l l 0
-unfolding contentFrom below
-blocks-none file l z = record { passed = omega arith; long = zeros-long l 25553 z; made = splice-none l 0 }
-
--- One block more.
-pub blocks-more : (file l m m′ : List ℕ) (b : ℕ) → l ≡ zeros 25553 → Blocks file l m b → b < length file / 512 → length file / 512 ≤ 101
-    → m′ ≡ splice m (b * 253) (contentFrom file (b * 253) 253) → length m′ ≡ length m → Blocks file l m′ (b + 1)
-blocks-more file l m m′ b z inv h few e same =
-    let up : b * 253 + 253 ≡ (b + 1) * 253 = omega arith in
-    record {
-      passed = omega arith;
-      long = same ∙ inv .long;
-      made = e ∙ rw (inv .made) (splice-splice l 0 (contentFrom file 0 (b * 253)) (contentFrom file (b * 253) 253) (b * 253)
-          (omega (arith, length-from file 0 (b * 253))) (omega (arith, zeros-long l 25553 z)))
-          ∙ ap (splice l 0) (sym (from-join file (b * 253) 253) ∙ ap (contentFrom file 0) up);
-    }
-
--- All blocks are read, and zeros stand after them.
-pub blocks-end : (file l m : List ℕ) (b : ℕ) → l ≡ zeros 25553 → Blocks file l m b → b ≡ length file / 512 → length file ≡ length file / 512 * 512
-    → length file / 512 ≤ 101 → m ≡ contentFrom file 0 25553
-blocks-end file l m b z inv last whole few =
-    inv .made ∙ rw (z, last, ← content-padded file (length file / 512) whole few)
-    (front-of-zeros (contentFrom file 0 (length file / 512 * 253)) 25553
-    ∙ ap (λ (k : ℕ). contentFrom file 0 (length file / 512 * 253) ++ replicate (25553 - k) 0) (length-from file 0 (length file / 512 * 253)))
+-- What is read of the blocks of a whole file into zeros.
+pub content-read : (file l m : List ℕ) → l ≡ zeros 25553 → length file ≡ blocksIn file * 512 → blocksIn file ≤ 101 → Put-content file l m
+    → m ≡ contentFrom file 0 25553
+unfolding zeros
+content-read file l m z whole few put =
+    let room : blocksIn file * 253 ≤ length l = omega (arith, zeros-long l 25553 z) in
+    (rw (le-leb (blocksIn file * 253) (length l) room) at put)
+    ∙ ap (λ (x : List ℕ). contentFrom file 0 (blocksIn file * 253) ++ x) (ap (drop (blocksIn file * 253)) z ∙ drop-zeros 25553 (blocksIn file * 253))
+    ∙ content-padded file (blocksIn file) whole few
 
 -- ---- rows
 

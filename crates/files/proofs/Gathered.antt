@@ -9,7 +9,7 @@ use Rattle.problem.specs.Masks.{bit}
 use Rattle.problem.specs.Lists.{total}
 use Rattle.problem.proofs.mask.Masks.{bit-zero, bit-suc}
 use Rattle.files.specs.Reading.{gathered}
-use Rattle.files.proofs.Lists.{total-same}
+use Rattle.blocks.proofs.Lists.{total-same}
 use Rattle.files.proofs.Triangle.{total-mul}
 
 -- A sum by its first.

@@ -1,9 +1,5 @@
 pub mod Lists
-mod Sums
-mod Words
-mod Blocks
 pub mod Tests
-pub mod Whole
 mod Triangle
 pub mod Stacks
 mod Gathered
@@ -27,7 +23,6 @@ pub mod Solutions
 mod Living
 pub mod OneOutcome
 pub mod Promises
-mod Places
 mod Mirrors
 mod Found
 mod Filled

@@ -30,7 +30,7 @@ use Rattle.search.proofs.Promises.{open-leaves, run-leaves, chooser-leaves, run
 use Rattle.search.proofs.Reaching.{reached-opened, reached-moved, reached-passes, reached-unsolvable}
 use Rattle.searches.specs.Reached.{Reached as ReachedBy}
 use Rattle.searches.proofs.Promises.{solved-shows}
-use Rattle.files.specs.Blocks.{fileOf}
+use Rattle.blocks.specs.Blocks.{fileOf}
 use Rattle.files.specs.Reading.{saidAllowed, tableWords}
 use Rattle.files.specs.Calls.{handedContent, saveRefusal, Saves, Loads}
 use Rattle.files.specs.Promises.{Says, Lived, opened, ran, chose, loaded, moved}

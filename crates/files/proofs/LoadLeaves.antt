@@ -13,10 +13,11 @@ use Rattle.search.proofs.first_checks.FirstPassing.{search-is-passed}
 use Rattle.search.proofs.HandedOn.{Shaped, agenda-small}
 use Rattle.files.specs.Reading.{saidN, saidD, saidSteps, saidChecks, saidSubproblems, saidDomains, saidAllowed, saidSearch, tableWords}
 use Rattle.files.specs.Calls.{loadRefusal, Loads}
-use Rattle.files.specs.Promises.{Bytes, Left-by-load}
+use Rattle.blocks.specs.Reading.{Bytes}
+use Rattle.files.specs.Promises.{Left-by-load}
 use Rattle.files.specs.declared.saved.Loaded.{Loaded}
 use Rattle.files.proofs.Loading.{load-taken, memory-length, memory-read, said-passing}
-use Rattle.files.proofs.Places.{content-word-small}
+use Rattle.blocks.proofs.Contents.{content-word-small}
 use Rattle.files.proofs.RoundTrip.{said-shape}
 
 pub load-leaves : (file domains domains′ tables tables′ agenda agenda′ : List ℕ) (r : Loaded) → Bytes file

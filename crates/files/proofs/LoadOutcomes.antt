@@ -1,7 +1,7 @@
 -- What load returns and leaves, refused or not.
 -- Assumes nothing.
 use mathlib.Core.Path.{_≡_, refl, sym, ap, _∙_}
-use mathlib.Core.Bool.{Bool, true, false, cond, _&&_}
+use mathlib.Core.Bool.{Bool, true, false, not, cond, _&&_}
 use mathlib.Core.List.{List}
 use Prim.Native.Nat.{ℕ, _+_, _-_, _*_, _≤_}
 use native.Mathlib.Omega.{arith}
@@ -10,24 +10,28 @@ use native.Mathlib.Decide.{ℕ-discrete}
 use lib.ListN.{length, getD, take, replicate, length-append}
 use lib.Seq.{take-at}
 use lib.Dec.{eqb, ltb}
-use borrow.Author.Tests.{eq-eqb, ne-eqb, eqb-true, ltb-false}
+use borrow.Author.Tests.{eq-eqb, ne-eqb, eqb-true, ltb-false, not-false}
 use Rattle.problem.proofs.Tests.{and-left, and-right}
 use Rattle.search.specs.Agenda.{slotsIn, agendaOf}
 use Rattle.problem.specs.Lists.{splice}
 use Rattle.problem.specs.Tests.FirstChecks.{orElse}
 use Rattle.search.specs.Tests.FirstChecks.{wholeSlots, refusalOfLengths}
+use Rattle.search.specs.declared.state.State.{State}
 use Rattle.problem.proofs.first_checks.Parts.{given-if, else-pass}
-use Rattle.files.specs.Reading.{blocksIn, contentWord, contentFrom, saidN, saidD, saidSteps, saidChecks, saidSubproblems, saidDomains, saidAllowed, saidSearch, triangleWords, tableWords, refusalOfFile, refusalOfWords}
-use Rattle.files.specs.Calls.{loadRefusal, Loads}
-use Rattle.files.specs.Promises.{Bytes}
-use Rattle.files.specs.Work.Said.{Numbers, sizedIn, allowedIn, pairPart, rowPart, tablePart, partIn, slotsPart, Lent, Read, Ready, Refused, Told}
-use Rattle.files.specs.Work.Saved.{zeros}
+use Rattle.blocks.specs.Reading.{blocksIn, contentWord, contentFrom, Bytes}
+use Rattle.files.specs.Reading.{saidN, saidD, saidSteps, saidChecks, saidSubproblems, saidDomains, saidAllowed, saidSearch, agendaFrom, tableWords, refusalOfWords}
+use Rattle.blocks.specs.Tests.Whole.{refusalOfFile}
+use Rattle.blocks.specs.Calls.{Refusal-of-file, Put-content}
+use Rattle.files.specs.Calls.{Header-of, loadRefusal, Loads}
+use Rattle.files.specs.Loops.Said.{Numbers, sizedIn, allowedIn, pairPart, rowPart, tablePart, partIn, slotsPart, Lent, Read, Ready, Refused, Accepted}
+use Rattle.files.specs.Loops.Saved.{zeros}
+use Rattle.files.specs.declared.saved.Header.{Header}
 use Rattle.files.specs.declared.saved.Loaded.{Loaded}
-use Rattle.files.proofs.Lists.{each-same, map-same}
+use Rattle.blocks.proofs.Lists.{each-same, map-same}
 use Rattle.files.proofs.Triangle.{table-length}
-use Rattle.files.proofs.Whole.{file-whole}
-use Rattle.files.proofs.Places.{length-from}
-use Rattle.files.proofs.Filled.{front-of-zeros, content-says}
+use Rattle.blocks.proofs.Whole.{file-whole, refusal-is}
+use Rattle.blocks.proofs.Contents.{length-from}
+use Rattle.files.proofs.Filled.{front-of-zeros, content-read, content-says}
 use Rattle.files.proofs.Mirrors.{triangle-few, slots-few, allowed-self, allowed-said}
 use Rattle.files.proofs.Refused.{numbers-passed}
 use Rattle.files.proofs.Checked.{part-read, agenda-said}
@@ -104,32 +108,38 @@ tables-said file words t n d says is-n is-d e =
     (each-same _ _ (saidN file) (λ i l. each-same _ _ (saidN file) (λ j q. map-same _ _ (saidD file) (λ a p. mask-said file words says i j a))))
 
 -- The words that were read say the content.
-pub content-read : (file words : List ℕ) → refusalOfFile file ≡ 0 → sizedIn file ≡ true → words ≡ contentFrom file 0 25553 → Read file words
-content-read file words e sized h =
-    let whole = file-whole file e in
+pub load-read : (file l words : List ℕ) (h : Header) (r : ℕ) (b : Bool) → Refusal-of-file file r → r ≡ 0 → Header-of file h → b ≡ sizedIn file
+    → not b ≡ false → l ≡ zeros 25553 → Put-content file l words → Read file words h
+load-read file l words h r b e z said sized y zero put =
+    let passed : refusalOfFile file ≡ 0 = sym (refusal-is file r e) ∙ z in
+    let whole = file-whole file passed in
+    let read = content-read file l words zero (whole .whole) (whole .few) put in
     record {
-      whole = e;
-      sized = sized;
-      long = ap length h ∙ length-from file 0 25553;
-      says = content-says file words (blocksIn file) (whole .whole) (whole .few) h;
+      header = said;
+      whole = passed;
+      sized = sym sized ∙ not-false b y;
+      long = ap length read ∙ length-from file 0 25553;
+      says = content-says file words (blocksIn file) (whole .whole) (whole .few) read;
     }
 
 -- What was made stands in the front of the room for it.
-module _ (file words l m : List ℕ) (n d count : ℕ) (read : Read file words) (is-n : n ≡ saidN file) (is-d : d ≡ saidD file) (z : l ≡ zeros 16384)
-    (e : m ≡ splice l 0 (tablePart words n d n)) (is-count : count ≡ n * (n * d)) where
-  made : tablePart words n d n ≡ tableWords (saidN file) (saidD file) (saidAllowed file)
-  made = tables-said file words (tablePart words n d n) n d (read .says) is-n is-d refl
+module _ (file words l m : List ℕ) (h : Header) (count : ℕ) (read : Read file words h) (z : l ≡ zeros 16384)
+    (e : m ≡ splice l 0 (tablePart words (h .n) (h .d) (h .n))) (is-count : count ≡ h .n * (h .n * h .d)) where
+  made : tablePart words (h .n) (h .d) (h .n) ≡ tableWords (saidN file) (saidD file) (saidAllowed file)
+  made =
+      tables-said file words (tablePart words (h .n) (h .d) (h .n)) (h .n) (h .d) (read .says) (read .header .its-n) (read .header .its-d) refl
 
-  made-long : length (tablePart words n d n) ≡ count
+  made-long : length (tablePart words (h .n) (h .d) (h .n)) ≡ count
   made-long =
-      ap length made ∙ table-length (saidN file) (saidD file) (saidAllowed file) ∙ sym (is-count ∙ sym (mul-assoc n n d) ∙ rw (is-n, is-d) refl)
+      ap length made ∙ table-length (saidN file) (saidD file) (saidAllowed file) ∙ sym
+      (is-count ∙ sym (mul-assoc (h .n) (h .n) (h .d)) ∙ rw (read .header .its-n, read .header .its-d) refl)
 
-  made-taken : take count m ≡ tablePart words n d n
+  made-taken : take count m ≡ tablePart words (h .n) (h .d) (h .n)
   made-taken =
-      ap (take count) (e ∙ rw z (front-of-zeros (tablePart words n d n) 16384)) ∙ take-at (tablePart words n d n)
-      (replicate (16384 - length (tablePart words n d n)) 0) count made-long
+      ap (take count) (e ∙ rw z (front-of-zeros (tablePart words (h .n) (h .d) (h .n)) 16384)) ∙ take-at (tablePart words (h .n) (h .d) (h .n))
+      (replicate (16384 - length (tablePart words (h .n) (h .d) (h .n))) 0) count made-long
 
-  pub made-ready : Ready file words (take count m)
+  pub made-ready : Ready file words (take count m) h
   made-ready = record { read = read; made = made-taken ∙ made }
 
   pub made-fits : count ≤ length m
@@ -162,45 +172,56 @@ module _ (file domains tables agenda : List ℕ) (r : ℕ) (is-r : r ≡ loadRef
       }
 
   -- Accepted: what the file says.
-  module _ (zero-r : r ≡ 0) (words masks : List ℕ) (ready : Ready file words masks) where
-    abbrev fitted : Fitted (length domains) (length tables) (length agenda) (saidN file) (saidD file) (saidSubproblems file)
+  module _ (zero-r : r ≡ 0) (words masks : List ℕ) (h : Header) (ready : Ready file words masks h) where
+    abbrev said : Header-of file h
+    said = ready .read .header
+
+    abbrev fitted : Fitted (length domains) (length tables) (length agenda) (h .n) (h .d) (h .state .subproblems)
     fitted =
-        load-passed file (length domains) (length tables) (length agenda) (saidN file) (saidD file) (saidSubproblems file) refl refl refl
-        (sym is-r ∙ zero-r)
+        load-passed file (length domains) (length tables) (length agenda) (h .n) (h .d) (h .state .subproblems) (said .its-n) (said .its-d)
+        (said .subproblems) (sym is-r ∙ zero-r)
 
     -- What is lent takes the search.
-    pub load-lent : Lent file words masks domains tables agenda
+    pub load-lent : Lent (h .n) (h .d) (h .state .subproblems) words masks domains tables agenda
     load-lent = record {
       numbers = fitted .numbers;
       few = fitted .few;
       long = ready .read .long;
       domains-words = fitted .domains-words;
-      tables-words = ap length (ready .made) ∙ table-length (saidN file) (saidD file) (saidAllowed file) ∙ sym (fitted .tables-words);
+      tables-words =
+          ap length (ready .made) ∙ table-length (saidN file) (saidD file) (saidAllowed file) ∙ sym
+          (fitted .tables-words ∙ rw (said .its-n, said .its-d) refl);
       agenda-words = fitted .agenda-words;
     }
 
     -- Everything that load returns and leaves.
-    pub load-accepted : (small : Bytes file) (s : Loaded) (domains′ tables′ agenda′ : List ℕ) → Told file s → domains′ ≡ partIn words 9 (saidN file)
-        → tables′ ≡ masks
-        → agenda′ ≡ slotsPart words (saidN file) (saidD file) (saidSubproblems file) (length agenda) → Loads file domains domains′ tables tables′ agenda agenda′ s
+    pub load-accepted : (small : Bytes file) (s : Loaded) (domains′ tables′ agenda′ : List ℕ) → Accepted h s
+        → domains′ ≡ partIn words 9 (h .n) → tables′ ≡ masks
+        → agenda′ ≡ slotsPart words (h .n) (h .d) (h .state .subproblems) (length agenda)
+        → Loads file domains domains′ tables tables′ agenda agenda′ s
     unfolding refusal slotsPart
     load-accepted small s domains′ tables′ agenda′ told ds ts as′ =
         let n : ℕ = saidN file in
         let z : refusal ≡ 0 = sym is-r ∙ zero-r in
-        let from : ℕ = 9 + n + triangleWords n (saidD file) in
-        let used : ℕ = saidSubproblems file * (n + 2) in
-        let start : from ≤ 7977 = omega (arith, triangle-few n (saidD file) (fitted .numbers), fitted .numbers .variables) in
-        let few : used ≤ 17408 = slots-few n (saidSubproblems file) 512 (fitted .numbers .variables) (fitted .few) (omega arith) in
-        let front : partIn words 9 n ≡ saidDomains file = part-read file words (ready .read) 9 n (omega (arith, fitted .numbers .variables)) in
-        let back : partIn words from used ≡ contentFrom file from used = part-read file words (ready .read) from used (omega arith) in
-        let slots : agenda′ ≡ agendaOf n (length agenda) (saidSearch file .memory) = as′ ∙ rw back (agenda-said file (length agenda) small) in
+        let from : ℕ = agendaFrom (h .n) (h .d) in
+        let used : ℕ = h .state .subproblems * (h .n + 2) in
+        let start : from ≤ 7977 = omega (arith, triangle-few (h .n) (h .d) (fitted .numbers), fitted .numbers .variables) in
+        let few : used ≤ 17408 = slots-few (h .n) (h .state .subproblems) 512 (fitted .numbers .variables) (fitted .few) (omega arith) in
+        let front : partIn words 9 (h .n) ≡ saidDomains file =
+        part-read file words h (ready .read) 9 (h .n) (omega (arith, fitted .numbers .variables)) ∙ rw (said .its-n) refl in
+        let back : partIn words from used ≡ contentFrom file from used = part-read file words h (ready .read) from used (omega arith) in
+        let slots : agenda′ ≡ agendaOf n (length agenda) (saidSearch file .memory) =
+        as′ ∙ rw (back, said .its-n, said .its-d, said .subproblems) (agenda-said file (length agenda) small) in
         record {
           refusal = told .its ∙ sym z;
-          its-n = given refusal n 0 (s .n) z (told .its-n);
-          its-d = given refusal (saidD file) 0 (s .d) z (told .its-d);
-          steps = given refusal (saidSteps file) 0 (s .state .counts .steps .0) z (told .state .steps);
-          checks = given refusal (saidChecks file) 0 (s .state .counts .checks .0) z (told .state .checks);
-          subproblems = given refusal (saidSubproblems file) 0 (s .state .subproblems) z (told .state .subproblems);
+          its-n = given refusal n 0 (s .n) z (told .its-n ∙ said .its-n);
+          its-d = given refusal (saidD file) 0 (s .d) z (told .its-d ∙ said .its-d);
+          steps =
+              given refusal (saidSteps file) 0 (s .state .counts .steps .0) z (ap (λ (x : State). x .counts .steps .0) (told .its-state) ∙ said .steps);
+          checks =
+              given refusal (saidChecks file) 0 (s .state .counts .checks .0) z (ap (λ (x : State). x .counts .checks .0) (told .its-state) ∙ said .checks);
+          subproblems =
+              given refusal (saidSubproblems file) 0 (s .state .subproblems) z (ap (λ (x : State). x .subproblems) (told .its-state) ∙ said .subproblems);
           its-domains = given refusal (saidDomains file) domains domains′ z (ds ∙ front);
           its-tables = given refusal (tableWords n (saidD file) (saidAllowed file)) tables tables′ z (ts ∙ ready .made);
           its-agenda = given refusal (agendaOf n (length agenda) (saidSearch file .memory)) agenda agenda′ z slots;

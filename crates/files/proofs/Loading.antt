@@ -20,13 +20,14 @@ use Rattle.search.proofs.Encoding.{agenda-back, length-agenda}
 use Rattle.problem.proofs.first_checks.Parts.{given-if, else-pass}
 use Rattle.search.proofs.HandedOn.{agenda-zeros}
 use Rattle.search.proofs.first_checks.Deserved.{slots-true, slots-is}
-use Rattle.files.specs.Reading.{contentWord, contentFrom, saidN, saidD, saidSteps, saidChecks, saidSubproblems, saidDomains, saidAllowed, saidSearch, tableWords, refusalOfFile, refusalOfWords}
+use Rattle.blocks.specs.Reading.{contentWord, contentFrom, Bytes}
+use Rattle.files.specs.Reading.{saidN, saidD, saidSteps, saidChecks, saidSubproblems, saidDomains, saidAllowed, saidSearch, tableWords, refusalOfWords}
+use Rattle.blocks.specs.Tests.Whole.{refusalOfFile}
 use Rattle.files.specs.Calls.{loadRefusal}
-use Rattle.files.specs.Promises.{Bytes}
-use Rattle.files.proofs.Lists.{map-length}
+use Rattle.blocks.proofs.Lists.{map-length}
 use Rattle.files.proofs.Triangle.{table-length, table-other}
 use Rattle.files.proofs.Stacks.{shape-length}
-use Rattle.files.proofs.Whole.{Whole, file-whole}
+use Rattle.blocks.proofs.Whole.{Whole, file-whole}
 use Rattle.files.proofs.Accepted.{Accepts, said-proper, words-accept}
 use Rattle.files.proofs.Tables.{rules-agree, proper-agree}
 use Rattle.files.proofs.RoundTrip.{said-shape, said-length}

@@ -18,9 +18,10 @@ use Rattle.problem.specs.Lists.{total, below, splice}
 use Rattle.problem.proofs.mask.Masks.{bit-above}
 use Rattle.problem.specs.Matrix.{Turned}
 use Rattle.problem.proofs.Copies.{zeros-at, drop-zeros}
-use Rattle.files.specs.Reading.{contentWord, saidN, saidD, saidAllowed, triangleWords, trianglePlace, gathered, agendaFrom}
-use Rattle.files.specs.Work.Said.{Numbers, maskIn, allowedIn, columnOf, columnPart, pairPart, partIn, slotsPart}
-use Rattle.files.proofs.Lists.{map-is, map-same, total-below, padded-at}
+use Rattle.blocks.specs.Reading.{contentWord}
+use Rattle.files.specs.Reading.{saidN, saidD, saidAllowed, triangleWords, trianglePlace, gathered, agendaFrom}
+use Rattle.files.specs.Loops.Said.{Numbers, maskIn, allowedIn, columnOf, columnPart, pairPart, partIn, slotsPart}
+use Rattle.blocks.proofs.Lists.{map-is, map-same, total-below, padded-at}
 use Rattle.files.proofs.Triangle.{rest-total, place-lt}
 use Rattle.files.proofs.Gathered.{gathered-same, gathered-bits}
 
@@ -209,27 +210,28 @@ part-in words out from w e = e
 pub domains-put : (words part out : List ℕ) (k n : ℕ) → part ≡ partIn words 9 k → out ≡ part → k ≡ n → out ≡ partIn words 9 n
 domains-put words part out k n e s h = s ∙ e ∙ ap (partIn words 9) h
 
--- Slots in the words of a content, of numbers that a file says: they lie within, and are these.
-module _ (n d count : ℕ) (s : Numbers n d) (few : count ≤ 512) (m e from : ℕ) (is-m : m ≡ n) (is-e : e ≡ d) (start : (from ≡ agendaFrom m e) × (from ≤ 7977)) where
-  pub slots-fit : Fits w64 (count * (m + 2))
-  slots-fit = rw is-m (omega (arith, slots-few n count 512 (s .variables) few (omega arith)))
+-- Slots in the words of a content lie within.
+module _ (n d count : ℕ) (s : Numbers n d) (few : count ≤ 512) where
+  pub slots-fit : Fits w64 (count * (n + 2))
+  slots-fit = omega (arith, slots-few n count 512 (s .variables) few (omega arith))
 
-  pub slots-within : (words : ℕ) → words ≡ 25553 → from + count * (m + 2) ≤ words
-  slots-within words long = rw is-m (omega (arith, slots-few n count 512 (s .variables) few (omega arith), start .1))
+  pub slots-within : (from words : ℕ) → from ≤ 7977 → words ≡ 25553 → from + count * (n + 2) ≤ words
+  slots-within from words start long = omega (arith, slots-few n count 512 (s .variables) few (omega arith))
 
-  pub slots-found : (words slots : List ℕ) → (slots ≡ partIn words from (count * (m + 2))) × (length slots ≡ count * (m + 2))
-      → (slots ≡ partIn words (agendaFrom n d) (count * (n + 2))) × (length slots ≡ count * (n + 2))
-  slots-found words slots (found, size) = (found ∙ rw (start .0, is-m, is-e) refl, size ∙ rw is-m refl)
+-- They are those from where the agenda begins.
+pub slots-found : (n d count from : ℕ) (words slots : List ℕ) → from ≡ agendaFrom n d
+    → (slots ≡ partIn words from (count * (n + 2))) × (length slots ≡ count * (n + 2))
+    → (slots ≡ partIn words (agendaFrom n d) (count * (n + 2))) × (length slots ≡ count * (n + 2))
+slots-found n d count from words slots e (found, size) = (found ∙ rw e refl, size)
 
 -- They fit into memory, and zeros stand after them.
-module _ (words slots : List ℕ) (n d count m all : ℕ) (is-count : count ≡ m)
-    (found : (slots ≡ partIn words (agendaFrom n d) (count * (n + 2))) × (length slots ≡ count * (n + 2))) where
+module _ (words slots : List ℕ) (n d m all : ℕ) (found : (slots ≡ partIn words (agendaFrom n d) (m * (n + 2))) × (length slots ≡ m * (n + 2))) where
   pub slots-room : m * (n + 2) ≤ all → length slots ≤ all
-  slots-room h = rw (found .1, is-count) h
+  slots-room h = rw (found .1) h
 
   pub slots-put : (out : List ℕ) → out ≡ slots ++ replicate (all - length slots) 0 → out ≡ slotsPart words n d m all
   unfolding slotsPart
-  slots-put out s = s ∙ rw (found .1, found .0, is-count) refl
+  slots-put out s = s ∙ rw (found .1, found .0) refl
 
 -- What the words allow at the numbers that the file says is what the file says.
 pub allowed-said : (file words : List ℕ) → ((k : ℕ) → getD words k 0 ≡ contentWord file k) → (i j a : ℕ)

@@ -1,12 +1,27 @@
--- Two outcomes that satisfy the statement of save, or of load, at one input are equal.
+-- Two outcomes that satisfy one statement at one input are equal.
 -- Assumes nothing.
 use mathlib.Core.Path.{_≡_, sym, _∙_}
 use mathlib.Core.List.{List}
 use Prim.Native.Nat.{ℕ}
 use Rattle.search.specs.declared.state.State.{State}
-use Rattle.files.specs.Calls.{Saves, Loads}
+use Rattle.files.specs.Calls.{Header-of, Saves, Loads}
+use Rattle.files.specs.declared.saved.Header.{Header}
 use Rattle.files.specs.declared.saved.Saved.{Saved}
 use Rattle.files.specs.declared.saved.Loaded.{Loaded}
+
+-- What the first words of a file say.
+pub header-one : (file : List ℕ) (r s : Header) → Header-of file r → Header-of file s → r ≡ s
+header-one file r s h k =
+    let n : r .n ≡ s .n = h .its-n ∙ sym (k .its-n) in
+    let d : r .d ≡ s .d = h .its-d ∙ sym (k .its-d) in
+    let steps : r .state .counts .steps .0 ≡ s .state .counts .steps .0 = h .steps ∙ sym (k .steps) in
+    let checks : r .state .counts .checks .0 ≡ s .state .counts .checks .0 = h .checks ∙ sym (k .checks) in
+    let subproblems : r .state .subproblems ≡ s .state .subproblems = h .subproblems ∙ sym (k .subproblems) in
+    λ i. record {
+      n = n i;
+      d = d i;
+      state = record { counts = record { steps = record { 0 = steps i }; checks = record { 0 = checks i } }; subproblems = subproblems i };
+    }
 
 -- Save.
 module _ (n d : ℕ) (domains tables agenda : List ℕ) (s : State) (before after after′ : List ℕ) (r r′ : Saved)

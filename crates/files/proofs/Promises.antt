@@ -3,17 +3,15 @@
 use mathlib.Core.Path.{_≡_, refl, _∙_}
 use native.Mathlib.Omega.{arith}
 use lib.ListN.{length}
-use Rattle.files.specs.Blocks.{blocksFor, carried, onesSum, checkOf}
+use Rattle.blocks.specs.Blocks.{blocksFor, carried, onesSum, checkOf}
 use Rattle.files.specs.Content.{contentOf}
-use Rattle.files.specs.Promises.{N-one, D-one, Check-of-one, RFC-1071, Blocks-whole, Blocks-read, Blocks-length, Blocks-bytes, Check-word, Sum-folded, Load-after-save, Save-after-load, Loaded-passes, Load-leaves, Loads-back, Saves-back, Largest, Largest-met, Save-enough, Save-first, Save-13, Save-none, Load-14, Load-15, Load-3, Load-12, Load-none, Save-one, Load-one, Diagonal-open, Diagonal-run, Diagonal-choose, Diagonal-save, Lived, Lived-reached, Lived-solvable, Lived-steps, Lived-checks, Unsolvable-run, Unsolvable-choose, Solved-run, Solved-choose, Same-solutions, Cut-any, Cut-lived, Cut-choose}
+use Rattle.files.specs.Promises.{Header-of-one, Load-after-save, Save-after-load, Loaded-passes, Load-leaves, Loads-back, Saves-back, Largest, Largest-met, Save-enough, Save-first, Save-13, Save-none, Load-14, Load-15, Load-3, Load-12, Load-none, Save-one, Load-one, Diagonal-open, Diagonal-run, Diagonal-choose, Diagonal-save, Lived, Lived-reached, Lived-solvable, Lived-steps, Lived-checks, Unsolvable-run, Unsolvable-choose, Solved-run, Solved-choose, Same-solutions, Cut-any, Cut-lived, Cut-choose}
 use Rattle.problem.proofs.Answers.{one}
 use Rattle.search.proofs.Encoding.{length-stack}
 use Rattle.search.proofs.first_checks.FirstPassing.{search-is-passed}
-use Rattle.search.proofs.Reaching.{reached-solvable, reached-steps, reached-checks}
+use Rattle.searches.proofs.Promises.{reached-solvable, reached-steps, reached-checks}
 use Rattle.search.proofs.Promises.{chooser-says}
-use Rattle.files.proofs.Sums
-use Rattle.files.proofs.Blocks
-use Rattle.files.proofs.Whole
+use Rattle.blocks.proofs.Whole
 use Rattle.files.proofs.Accepted
 use Rattle.files.proofs.Contents
 use Rattle.files.proofs.RoundTrip
@@ -28,24 +26,6 @@ use Rattle.files.proofs.Back
 use Rattle.files.proofs.Solutions
 use Rattle.files.proofs.Living
 use Rattle.files.proofs.OneOutcome
-
-pub blocks-whole : Blocks-whole
-blocks-whole = Blocks.file-passes
-
-pub blocks-read : Blocks-read
-blocks-read = Blocks.file-content
-
-pub blocks-length : Blocks-length
-blocks-length = Blocks.file-length
-
-pub blocks-bytes : Blocks-bytes
-blocks-bytes content words few = Blocks.file-small content few words
-
-pub check-word : Check-word
-check-word = Sums.check-complement
-
-pub sum-folded : Sum-folded
-sum-folded ws t y z words few = Sums.twice-is ws t y z words (omega arith)
 
 pub load-after-save : Load-after-save
 load-after-save n d domains tables agenda s words e =
@@ -182,15 +162,5 @@ cut-lived n d domains opened-tables tables agenda s requests more h w v t =
 pub cut-choose : Cut-choose
 cut-choose = Cutting.choose-end
 
-pub n-one : N-one
-n-one file = one _
-
-pub d-one : D-one
-d-one file = one _
-
-pub check-of-one : Check-of-one
-check-of-one block = one _
-
-pub rfc-1071 : RFC-1071
-unfolding checkOf onesSum carried
-rfc-1071 = (refl, refl)
+pub header-of-one : Header-of-one
+header-of-one = OneOutcome.header-one

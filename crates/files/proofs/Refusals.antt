@@ -17,11 +17,14 @@ use Rattle.search.specs.Tests.FirstChecks.{wholeSlots, refusalOfLengths, search
 use Rattle.search.specs.declared.state.State.{State}
 use Rattle.search.proofs.first_checks.FirstPassing.{lengths-none}
 use Rattle.search.proofs.Exactly.{search-refusal-few}
-use Rattle.files.specs.Blocks.{blocksFor}
-use Rattle.files.specs.Reading.{saidN, saidD, saidSubproblems, Deserves-14, Deserves-15, refusalOfFile, refusalOfWords}
+use Rattle.blocks.specs.Blocks.{blocksFor}
+use Rattle.files.specs.Reading.{saidN, saidD, saidSubproblems, Deserves-15, refusalOfWords}
+use Rattle.blocks.specs.Reading.{Deserves-14}
+use Rattle.blocks.specs.Tests.Whole.{refusalOfFile}
 use Rattle.files.specs.Calls.{handedContent, saveRefusal, loadRefusal, Deserves-13, Deserves-12-load}
-use Rattle.files.proofs.Tests.{one-of, else-none, else-some}
-use Rattle.files.proofs.Whole.{refusal-14, refusal-not-14, file-either}
+use Rattle.blocks.proofs.Tests.{one-of}
+use Rattle.files.proofs.Tests.{else-none, else-some}
+use Rattle.blocks.proofs.Whole.{refusal-14, refusal-not-14, file-either}
 use Rattle.files.proofs.Accepted.{refusal-15, refusal-not-15, words-either}
 use Rattle.files.proofs.Loading.{Fits, lengths-fit, fit-lengths}
 

@@ -17,17 +17,18 @@ use Rattle.splits.specs.declared.subproblem.Subproblem.{Subproblem}
 use Rattle.search.specs.Agenda.{Shape, stackWords}
 use Rattle.search.specs.Slots.{Search}
 use Rattle.search.proofs.Encoding.{length-stackOf, stack-of-words}
-use Rattle.files.specs.Blocks.{blocksFor, fileOf}
+use Rattle.blocks.specs.Blocks.{blocksFor, fileOf}
 use Rattle.files.specs.Content.{contentOf, triangle}
-use Rattle.files.specs.Reading.{blocksIn, contentWord, contentFrom, saidN, saidD, saidSteps, saidChecks, saidSubproblems, saidDomains, saidAllowed, saidAgenda, saidSearch, saidWords, agendaFrom, triangleWords}
-use Rattle.files.specs.Promises.{Bytes, Says}
-use Rattle.files.proofs.Whole.{Whole, rebuilt}
+use Rattle.blocks.specs.Reading.{blocksIn, contentWord, contentFrom, Bytes}
+use Rattle.files.specs.Reading.{saidN, saidD, saidSteps, saidChecks, saidSubproblems, saidDomains, saidAllowed, saidAgenda, saidSearch, saidWords, agendaFrom, triangleWords}
+use Rattle.files.specs.Promises.{Says}
+use Rattle.blocks.proofs.Whole.{Whole, rebuilt}
 use Rattle.files.proofs.Triangle.{triangle-from}
-use Rattle.files.proofs.Blocks.{file-blocks, file-content, file-passes}
+use Rattle.blocks.proofs.Blocks.{file-blocks, file-content, file-passes}
 use Rattle.files.proofs.Accepted.{Accepts, agenda-length, accept-words}
 use Rattle.files.proofs.Contents.{content-words, content-length, says-n, says-d, says-steps, says-checks, says-subproblems, says-domains, says-words, says-search, says-stack, says-below, says-above}
-use Rattle.files.proofs.Places.{content-word-small, from-small}
-use Rattle.files.proofs.Lists.{seq, seq-join, seq-length, seq-at}
+use Rattle.blocks.proofs.Contents.{content-word-small, from-small}
+use Rattle.blocks.proofs.Lists.{seq, seq-join, seq-length, seq-at}
 use Rattle.files.proofs.Stacks.{stack-most, of-shape}
 use Rattle.files.proofs.Tables.{with-table, rules-agree, agree-back}
 

@@ -2,12 +2,13 @@
 -- Assumes nothing.
 use mathlib.Core.Path.{_≡_, refl, sym, ap, _∙_}
 use mathlib.Core.Bool.{Bool, true, cond, _&&_}
-use mathlib.Core.List.{List, _++_}
-use Prim.Native.Nat.{ℕ, _+_, _-_, _*_, _/_, _%_, _^_, _≤_, _<_}
+use mathlib.Core.List.{List, [], _∷_, _++_}
+use Prim.Native.Nat.{ℕ, zero, suc, _+_, _-_, _*_, _/_, _%_, _^_, _≤_, _<_}
 use native.Mathlib.Omega.{arith}
-use lib.ListN.{length, getD, drop, replicate}
+use lib.ListN.{length, getD, take, drop, replicate, length-append, length-replicate}
+use lib.Seq.{length-take-le}
 use lib.Dec.{eqb, leb, ltb}
-use borrow.Author.Tests.{lt-ltb, le-ltb, leb-true}
+use borrow.Author.Tests.{eq-eqb, le-leb, lt-ltb, le-ltb, leb-true}
 use Rattle.problem.proofs.Tests.{and-left, and-right}
 use Rattle.problem.specs.Problem.{problemOf}
 use Rattle.search.specs.Agenda.{slotsIn, stackOf}
@@ -15,14 +16,47 @@ use Rattle.search.specs.Tests.FirstChecks.{wholeSlots, refusalOfLengths, allObe
 use Rattle.search.specs.declared.state.State.{State}
 use Rattle.problem.proofs.first_checks.Parts.{given-if, else-first, else-rest, else-pass, numbers-pass}
 use Rattle.search.proofs.first_checks.FirstParts.{lengths-pass, open-parts, slots-within}
-use Rattle.files.specs.Blocks.{blocksFor, firstBlocks, fileOf}
+use Rattle.blocks.specs.Blocks.{blocksFor, fileOf}
+use Rattle.blocks.specs.Calls.{Put-blocks}
 use Rattle.files.specs.Reading.{wordCount}
 use Rattle.files.specs.Calls.{handedContent, saveRefusal, Saves}
-use Rattle.files.specs.Work.Saved.{Savable, filePart}
+use Rattle.files.specs.Loops.Saved.{Savable}
 use Rattle.files.specs.declared.saved.Saved.{Saved}
-use Rattle.files.proofs.Blocks.{blocks-length}
-use Rattle.files.proofs.Written.{handed-length, file-same}
+use Rattle.blocks.proofs.Blocks.{file-length, same-file}
+use Rattle.files.proofs.Written.{handed-length}
 use Rattle.files.proofs.LoadOutcomes.{given, not-given}
+
+-- What is left of a list with zeros after it, cut among the zeros.
+take-padded : (l : List ℕ) (z k : ℕ) → length l ≤ k → k ≤ length l + z → take k (l ++ replicate z 0) ≡ l ++ replicate (k - length l) 0
+take-padded [] z k h m = let e : k ≡ k - 0 = omega arith in take-zeros z k (omega arith) ∙ ap (λ (j : ℕ). replicate {A = ℕ} j 0) e
+  where
+    take-zeros : (z k : ℕ) → k ≤ z → take {A = ℕ} k (replicate z 0) ≡ replicate k 0
+    take-zeros z zero h = refl
+    take-zeros zero (suc k) h = absurd (omega arith)
+    take-zeros (suc z) (suc k) h = ap (λ (t : List ℕ). 0 ∷ t) (take-zeros z k (omega arith))
+take-padded (x ∷ l) z zero h m = absurd (omega arith)
+take-padded (x ∷ l) z (suc k) h m =
+    let e : k - length l ≡ suc k - suc (length l) = omega arith in
+    ap (λ (t : List ℕ). x ∷ t) (take-padded l z k (omega arith) (omega arith) ∙ ap (λ (j : ℕ). l ++ replicate j 0) e)
+
+-- The words of the blocks to write.
+pub save-part : (content : List ℕ) (words : ℕ) → length content ≡ 25553 → words ≤ 25385
+    → (words + 252) / 253 * 253 ≡ length (take ((words + 252) / 253 * 253) content)
+save-part content words long few = sym (length-take-le ((words + 252) / 253 * 253) content (omega arith))
+
+-- Whole blocks need no block more.
+whole-count : (blocks : ℕ) → blocksFor (blocks * 253) ≡ blocks
+unfolding blocksFor
+whole-count blocks = omega arith
+
+-- What is written of a content that is filled up with zeros is its own file.
+blocks-written : (c file after : List ℕ) (z blocks : ℕ) → length c + z ≡ blocks * 253 → blocksFor (length c) ≡ blocks → blocks ≤ 101
+    → 512 * blocks ≤ length file → Put-blocks (c ++ replicate z 0) file after → after ≡ fileOf c ++ drop (512 * blocks) file
+blocks-written c file after z blocks whole e few room put =
+    let long : length (c ++ replicate z 0) ≡ blocks * 253 = length-append c (replicate z 0) ∙ omega (arith, length-replicate {A = ℕ} z 0) in
+    let count : blocksFor (blocks * 253) ≡ blocks = whole-count blocks in
+    (rw (long, count, eq-eqb (blocks * 253) (blocks * 253) refl, le-leb blocks 101 few, le-leb (512 * blocks) (length file) room) at put)
+    ∙ ap (λ (x : List ℕ). x ++ drop (512 * blocks) file) (same-file c z (ap blocksFor whole ∙ count ∙ sym e))
 
 module _ (n d : ℕ) (domains tables agenda : List ℕ) (s : State) where
   -- There are at most 512 slots.
@@ -129,30 +163,38 @@ module _ (n d : ℕ) (domains tables agenda : List ℕ) (s : State) where
             file = not-given refusal _ file file some refl;
           }
 
-      -- The blocks are written.
-      written : filePart ((words + 252) / 253) (handedContent n d domains tables agenda s) ((words + 252) / 253) file
-          ≡ fileOf (handedContent n d domains tables agenda s) ++ drop (length (fileOf (handedContent n d domains tables agenda s))) file
-      unfolding filePart fileOf
-      written =
-          let content : List ℕ = handedContent n d domains tables agenda s in
-          let blocks : ℕ = blocksFor (length content) in
-          ap (λ (x : ℕ). firstBlocks x x content ++ drop (512 * x) file) counted-blocks
-          ∙ ap (λ (x : ℕ). firstBlocks blocks blocks content ++ drop x file) (sym (blocks-length blocks blocks content))
+      -- The content with the zeros that fill its last block.
+      filling : (content : List ℕ) → content ≡ handedContent n d domains tables agenda s ++ replicate (25553 - wordCount n d (s .subproblems)) 0
+          → (words + 252) / 253 ≤ 101
+          → take ((words + 252) / 253 * 253) content ≡ handedContent n d domains tables agenda s ++ replicate ((words + 252) / 253 * 253 - words) 0
+      filling content c few =
+          let long : length (handedContent n d domains tables agenda s) ≡ words =
+          handed-length n d domains tables agenda s (save-passed r is-r zero-r) small ∙ sym is-words in
+          ap (take ((words + 252) / 253 * 253)) (c ∙ rw (← is-words) refl)
+          ∙ take-padded (handedContent n d domains tables agenda s) (25553 - words) ((words + 252) / 253 * 253) (omega arith) (omega arith)
+          ∙ rw long refl
 
-      pub save-written : (x : Saved) (after : List ℕ) → 512 * ((words + 252) / 253) ≤ length file → x .refusal ≡ 0 → x .blocks ≡ (words + 252) / 253
-          → (content : List ℕ) → content ≡ handedContent n d domains tables agenda s ++ replicate (25553 - wordCount n d (s .subproblems)) 0
-          → after ≡ filePart ((words + 252) / 253) content ((words + 252) / 253) file → Saves n d domains tables agenda s file after x
+      -- The blocks are written.
+      pub save-written : (x : Saved) (after content : List ℕ) → 512 * ((words + 252) / 253) ≤ length file → words ≤ 25385 → x .refusal ≡ 0
+          → x .blocks ≡ (words + 252) / 253
+          → content ≡ handedContent n d domains tables agenda s ++ replicate (25553 - wordCount n d (s .subproblems)) 0
+          → Put-blocks (take ((words + 252) / 253 * 253) content) file after → Saves n d domains tables agenda s file after x
       unfolding refusal
-      save-written x after h a b content c e =
-          let same : after ≡ filePart ((words + 252) / 253) (handedContent n d domains tables agenda s) ((words + 252) / 253) file =
-          e ∙ ap (λ (l : List ℕ). filePart ((words + 252) / 253) l ((words + 252) / 253) file) c
-          ∙ file-same (handedContent n d domains tables agenda s) (25553 - wordCount n d (s .subproblems)) ((words + 252) / 253) file in
+      save-written x after content h few a b c put =
+          let handed : List ℕ = handedContent n d domains tables agenda s in
+          let count : ℕ = (words + 252) / 253 in
+          let zero : ℕ = count * 253 - words in
+          let long : length handed ≡ words = handed-length n d domains tables agenda s (save-passed r is-r zero-r) small ∙ sym is-words in
+          let same : after ≡ fileOf handed ++ drop (512 * count) file =
+          blocks-written handed file after zero count (omega arith) (sym counted-blocks) (omega arith) h (subst-put (filling content c (omega arith)) put) in
           let none : refusal ≡ 0 = last ∙ rw (le-ltb (length file) (512 * ((words + 252) / 253)) h) refl in
+          let end : 512 * count ≡ length (fileOf handed) = ap (λ (k : ℕ). 512 * k) counted-blocks ∙ sym (file-length handed) in
           record {
             refusal = a ∙ sym none;
-            blocks = given refusal (blocksFor (length (handedContent n d domains tables agenda s))) 0 (x .blocks) none (b ∙ counted-blocks);
-            file =
-                given refusal
-                (fileOf (handedContent n d domains tables agenda s) ++ drop (length (fileOf (handedContent n d domains tables agenda s))) file) file
-                after none (same ∙ written);
+            blocks = given refusal (blocksFor (length handed)) 0 (x .blocks) none (b ∙ counted-blocks);
+            file = given refusal (fileOf handed ++ drop (length (fileOf handed)) file) file after none
+                (same ∙ ap (λ (k : ℕ). fileOf handed ++ drop k file) end);
           }
+        where
+          subst-put : {l m : List ℕ} → l ≡ m → Put-blocks l file after → Put-blocks m file after
+          subst-put e p = rw (← e) p

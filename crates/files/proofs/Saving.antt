@@ -16,12 +16,14 @@ use Rattle.search.specs.Calls.{searchOf}
 use Rattle.search.specs.declared.state.State.{State}
 use Rattle.search.proofs.first_checks.FirstPassing.{PassedSearch}
 use Rattle.search.proofs.Encoding.{length-stackOf, part-small, stack-of-words}
-use Rattle.search.proofs.HandedOn.{append-small}
-use Rattle.files.specs.Blocks.{blocksFor, fileOf}
-use Rattle.files.specs.Content.{each, after, triangle, contentOf}
+use Rattle.problem.proofs.Copies.{append-small}
+use Rattle.blocks.specs.Blocks.{blocksFor, fileOf}
+use Rattle.blocks.specs.Lists.{each}
+use Rattle.files.specs.Content.{after, triangle, contentOf}
 use Rattle.files.specs.Calls.{handedContent}
-use Rattle.files.specs.Promises.{Bytes, Says}
-use Rattle.files.proofs.Blocks.{file-small}
+use Rattle.blocks.specs.Reading.{Bytes}
+use Rattle.files.specs.Promises.{Says}
+use Rattle.blocks.proofs.Blocks.{file-small}
 use Rattle.files.proofs.Triangle.{triangle-same}
 use Rattle.files.proofs.Stacks.{slots-in, of-shape}
 use Rattle.files.proofs.RoundTrip.{blocks-few, file-says}

@@ -11,7 +11,7 @@ use lib.Seq.{length-take-le}
 use Rattle.splits.specs.declared.subproblem.Subproblem.{Subproblem}
 use Rattle.search.specs.Agenda.{holding, Shape, slotWords, subproblemOf, slotAt, slotsIn, stackOf, stackWords}
 use Rattle.search.proofs.Encoding.{slot-long, part-small, length-stack}
-use Rattle.files.proofs.Lists.{padded-at}
+use Rattle.blocks.proofs.Lists.{padded-at}
 
 -- Whole slots are as many as they are.
 pub slots-in : (n slots : ℕ) → slotsIn n (slots * (n + 2)) ≡ slots

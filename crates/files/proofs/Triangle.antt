@@ -13,9 +13,11 @@ use borrow.Author.Tests.{ne-eqb}
 use Rattle.problem.specs.Problem.{Table, Allow-same, tableOf}
 use Rattle.problem.specs.Lists.{total, below}
 use Rattle.problem.proofs.tables.Ranges.{word-at}
-use Rattle.files.specs.Content.{each, after, triangle}
+use Rattle.blocks.specs.Lists.{each}
+use Rattle.files.specs.Content.{after, triangle}
 use Rattle.files.specs.Reading.{triangleWords, trianglePlace, tableWords}
-use Rattle.files.proofs.Lists.{total-const, total-same, total-below, map-length, map-at, after-is, each-map, each-same, each-length, each-at, seq, seq-is, seq-each}
+use Rattle.blocks.proofs.Lists.{total-const, total-same, total-below, map-length, map-at, each-map, each-same, each-length, each-at, seq, seq-is, seq-each}
+use Rattle.files.proofs.Lists.{after-is}
 
 -- How many variables stand after each: n - 1, n - 2, down to none.
 abbrev pub rest : ℕ → ℕ → ℕ

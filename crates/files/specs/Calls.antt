@@ -11,15 +11,21 @@ use Rattle.problem.specs.Tests.FirstChecks.{orElse}
 use Rattle.search.specs.Tests.FirstChecks.{searchRefusal, refusalOfLengths}
 use Rattle.search.specs.Calls.{searchOf}
 use Rattle.search.specs.declared.state.State.{State}
-use Rattle.files.specs.Blocks.{checkOf, blocksFor, fileOf}
+use Rattle.blocks.specs.Blocks.{blocksFor, fileOf}
 use Rattle.files.specs.Content.{contentOf}
-use Rattle.files.specs.Reading.{headOf, saidN, saidD, saidSteps, saidChecks, saidSubproblems, saidDomains, saidAllowed, saidSearch, tableWords, refusalOfFile, refusalOfWords}
+use Rattle.files.specs.Reading.{saidN, saidD, saidSteps, saidChecks, saidSubproblems, saidDomains, saidAllowed, saidSearch, tableWords, refusalOfWords}
+use Rattle.blocks.specs.Tests.Whole.{refusalOfFile}
+use Rattle.files.specs.declared.saved.Header.{Header}
 use Rattle.files.specs.declared.saved.Saved.{Saved}
 use Rattle.files.specs.declared.saved.Loaded.{Loaded}
 
--- The check of the 255 words of a block before it.
-abbrev pub Check-of : List ℕ → ℕ → Type 0
-Check-of block r = r ≡ checkOf (headOf block 0)
+-- What the first words of a file say.
+pub record Header-of (file : List ℕ) (h : Header) : Type 0 where
+  pub its-n : h .n ≡ saidN file
+  pub its-d : h .d ≡ saidD file
+  pub steps : h .state .counts .steps .0 ≡ saidSteps file
+  pub checks : h .state .counts .checks .0 ≡ saidChecks file
+  pub subproblems : h .state .subproblems ≡ saidSubproblems file
 
 -- The content of the search that is handed to save.
 abbrev pub handedContent : ℕ → ℕ → List ℕ → List ℕ → List ℕ → State → List ℕ

@@ -1,17 +1,13 @@
 -- The content of a saved search, in document 01's order.
-use mathlib.Core.List.{List, [], _∷_, _++_, map}
+use mathlib.Core.List.{List, _∷_, _++_, map}
 use Prim.Native.Nat.{ℕ, _+_, _/_, _%_, _^_}
 use lib.ListN.{length}
 use lib.Dec.{ltb}
 use Rattle.problem.specs.Problem.{Table}
 use Rattle.problem.specs.Lists.{below, keep}
 use Rattle.search.specs.Agenda.{stackWords}
-use Rattle.search.specs.Slots.{Search}
-
--- The words that f gives for each of a list, one after the other.
-unfoldable pub each : (ℕ → List ℕ) → List ℕ → List ℕ
-each f [] = []
-each f (x ∷ xs) = f x ++ each f xs
+use Rattle.searches.specs.Runs.{Search}
+use Rattle.blocks.specs.Lists.{each}
 
 -- The variables after i.
 unfoldable pub after : ℕ → ℕ → List ℕ

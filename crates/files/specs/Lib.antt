@@ -1,7 +1,6 @@
--- Saved searches, in the order of document 01. What only mirrors a loop of the code stands in Work.
-pub mod Blocks
+-- Saved searches. What only mirrors a loop of the code stands in Loops.
 pub mod Content
 pub mod Reading
 pub mod Calls
 pub mod Promises
-pub mod Work
+pub mod Loops

@@ -1,11 +1,10 @@
 -- What save and load promise. Stated here, proved in proofs/Promises.antt.
 use mathlib.Core.Path.{_≡_}
 use mathlib.Core.Logic.{_↔_}
-use mathlib.Core.List.{List, List·Memᴰ, [], _∷_, _++_}
-use Prim.Native.Nat.{ℕ, _+_, _*_, _/_, _%_, _≤_, _<_}
+use mathlib.Core.List.{List, List·Memᴰ, _++_}
+use Prim.Native.Nat.{ℕ, _+_, _*_, _≤_}
 use lib.ListN.{length, getD, take, drop}
 use Rattle.problem.specs.Problem.{Problem, Proper, Table, Allow-same, Solution, tableOf, AgreeApart, Words, problemOf}
-use Rattle.problem.specs.Lists.{sum}
 use Rattle.splitting.specs.Promises.{Solvable}
 use Rattle.problem.specs.Answers.{One}
 use Rattle.splits.specs.declared.subproblem.Subproblem.{Subproblem}
@@ -20,45 +19,14 @@ use Rattle.searches.specs.Verdicts.{numberOf}
 use Rattle.search.specs.declared.state.State.{State}
 use Rattle.search.specs.declared.state.Opened.{Opened}
 use Rattle.search.specs.declared.state.Ran.{Ran}
-use Rattle.files.specs.Blocks.{onesSum, checkOf, blocksFor, fileOf}
+use Rattle.blocks.specs.Blocks.{blocksFor, fileOf}
 use Rattle.files.specs.Content.{contentOf}
-use Rattle.files.specs.Reading.{contentWord, saidN, saidD, saidSteps, saidChecks, saidSubproblems, saidDomains, saidAllowed, saidSearch, tableWords, Deserves-14, Deserves-15, refusalOfFile, refusalOfWords}
-use Rattle.files.specs.Calls.{Check-of, handedContent, saveRefusal, Saves, loadRefusal, Loads, Deserves-13, Deserves-12-load}
+use Rattle.blocks.specs.Reading.{Bytes, Deserves-14}
+use Rattle.files.specs.Reading.{saidN, saidD, saidSteps, saidChecks, saidSubproblems, saidDomains, saidAllowed, saidSearch, tableWords, Deserves-15, refusalOfWords}
+use Rattle.blocks.specs.Tests.Whole.{refusalOfFile}
+use Rattle.files.specs.Calls.{Header-of, handedContent, saveRefusal, Saves, loadRefusal, Loads, Deserves-13, Deserves-12-load}
 use Rattle.files.specs.declared.saved.Saved.{Saved}
 use Rattle.files.specs.declared.saved.Loaded.{Loaded}
-
--- A list of bytes.
-abbrev pub Bytes : List ℕ → Type 0
-Bytes l = (k : ℕ) → getD l k 0 < 256
-
--- ---- blocks
-
--- The blocks of a content of 1 to 101 blocks deserve no 14.
-abbrev pub Blocks-whole : Type 0
-Blocks-whole =
-    (content : List ℕ) → 1 ≤ blocksFor (length content) → blocksFor (length content) ≤ 101 → refusalOfFile (fileOf content) ≡ 0
-
--- A block holds 253 words of content; after the content zeros.
-abbrev pub Blocks-read : Type 0
-Blocks-read = (content : List ℕ) (k : ℕ) → k < blocksFor (length content) * 253 → contentWord (fileOf content) k ≡ getD content k 0
-
--- A block is 512 bytes.
-abbrev pub Blocks-length : Type 0
-Blocks-length = (content : List ℕ) → length (fileOf content) ≡ 512 * blocksFor (length content)
-
--- Its bytes are bytes.
-abbrev pub Blocks-bytes : Type 0
-Blocks-bytes = (content : List ℕ) → Words content → blocksFor (length content) ≤ 101 → Bytes (fileOf content)
-
--- The check of words is the complement of their sum: the two come to 65,535, so that it is a word.
-abbrev pub Check-word : Type 0
-Check-word = (ws : List ℕ) → Words ws → onesSum ws + checkOf ws ≡ 65535
-
--- RFC 1071's sum is what the sum of up to 255 words comes to when its carries are folded in twice.
-abbrev pub Sum-folded : Type 0
-Sum-folded =
-    (ws : List ℕ) (t y z : ℕ) → Words ws → length ws ≤ 255 → t ≡ sum (λ w. w) ws → y ≡ t % 65536 + t / 65536 → z ≡ y % 65536 + y / 65536
-    → z ≡ onesSum ws
 
 -- ---- load after save, and save after load
 
@@ -400,17 +368,6 @@ Cut-choose =
     (n d : ℕ) (domains tables agenda : List ℕ) (s : State) (m k : ℕ) → Handed n d domains tables agenda s
     → (t : Chooser-trip n d domains tables agenda s m k) → (k ≡ 0 → t .ways .first .refusal ≡ 0) → Same-end (t .ways)
 
--- The number of variables that a file says is one number, and that of values.
-abbrev pub N-one : Type 0
-N-one = (file : List ℕ) → One (λ r. r ≡ saidN file)
-
-abbrev pub D-one : Type 0
-D-one = (file : List ℕ) → One (λ r. r ≡ saidD file)
-
--- The check of a block is one number.
-abbrev pub Check-of-one : Type 0
-Check-of-one = (block : List ℕ) → One (Check-of block)
-
--- RFC 1071's own example: the words 0001, f203, f4f5 and f6f7 sum to ddf2, whose complement is 220d.
-abbrev pub RFC-1071 : Type 0
-RFC-1071 = (onesSum (1 ∷ 61955 ∷ 62709 ∷ 63223 ∷ []) ≡ 56818) × (checkOf (1 ∷ 61955 ∷ 62709 ∷ 63223 ∷ []) ≡ 8717)
+-- What the first words of a file say is one.
+abbrev pub Header-of-one : Type 0
+Header-of-one = (file : List ℕ) → One (Header-of file)

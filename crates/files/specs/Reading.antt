@@ -1,9 +1,9 @@
--- What a file's words say, and which files deserve refusals 14 and 15.
+-- What a file's words say, and which files deserve refusal 15.
 use mathlib.Core.Path.{_≡_}
 use mathlib.Core.Logic.{_⊎_}
-use mathlib.Core.Bool.{Bool, not, cond, _&&_, _||_}
+use mathlib.Core.Bool.{cond, _&&_}
 use mathlib.Core.List.{List, map}
-use Prim.Native.Nat.{ℕ, suc, _+_, _-_, _*_, _/_, _%_, _^_, _≤_, _<_}
+use Prim.Native.Nat.{ℕ, suc, _+_, _-_, _*_, _/_, _^_, _≤_, _<_}
 use lib.ListN.{length, getD}
 use lib.Dec.{eqb, leb, ltb}
 use Rattle.problem.specs.Masks.{bit}
@@ -13,36 +13,11 @@ use Rattle.search.specs.Agenda.{stackOf}
 use Rattle.search.specs.Slots.{Search}
 use Rattle.problem.specs.FirstChecks.{Deserves-1, Deserves-2, Deserves-4}
 use Rattle.search.specs.FirstChecks.{Deserves-6}
-use Rattle.search.specs.Tests.FirstChecks.{allObey}
-use Rattle.files.specs.Blocks.{wordAt, checkOf, blocksFor}
-use Rattle.files.specs.Content.{each}
-
--- The number of whole blocks of a file.
-abbrev pub blocksIn : List ℕ → ℕ
-blocksIn file = length file / 512
-
--- Word k of block b, from 0.
-unfoldable pub blockWord : List ℕ → ℕ → ℕ → ℕ
-blockWord file b k = wordAt file (256 * b + k)
-
--- The 255 words of block b before its check.
-unfoldable pub headOf : List ℕ → ℕ → List ℕ
-headOf file b = map (blockWord file b) (below 255)
-
--- 14: file not 1 to 101 whole blocks, or a block's check, number or count is wrong.
-abbrev pub Deserves-14 : List ℕ → Type 0
-Deserves-14 file =
-    ((length file ≡ blocksIn file * 512 → ⊥) ⊎ (blocksIn file < 1) ⊎ (101 < blocksIn file))
-    ⊎ ((b : ℕ) × (b < blocksIn file)
-    × ((blockWord file b 0 ≡ b + 1 → ⊥) ⊎ (blockWord file b 1 ≡ blocksIn file → ⊥) ⊎ (blockWord file b 255 ≡ checkOf (headOf file b) → ⊥)))
-
--- Word k of a file's content: 253 words of each block after its first two.
-unfoldable pub contentWord : List ℕ → ℕ → ℕ
-contentWord file k = blockWord file (k / 253) (2 + k % 253)
-
--- So many words of the content from one on.
-unfoldable pub contentFrom : List ℕ → ℕ → ℕ → List ℕ
-contentFrom file from words = map (λ k. contentWord file (from + k)) (below words)
+use Rattle.problem.specs.Tests.FirstChecks.{refusalOfNumbers, refusalOfProblem}
+use Rattle.search.specs.Tests.FirstChecks.{refusalOfSearch}
+use Rattle.blocks.specs.Blocks.{blocksFor}
+use Rattle.blocks.specs.Reading.{blocksIn, contentWord, contentFrom}
+use Rattle.blocks.specs.Lists.{each}
 
 -- What the words say, in the order in which they stand.
 abbrev pub saidN : List ℕ → ℕ
@@ -128,26 +103,12 @@ Deserves-15 file =
 unfoldable pub tableWords : ℕ → ℕ → Table → List ℕ
 tableWords n d allowed = each (λ i. each (λ j. map (λ a. cond (eqb i j) 0 (allowed i j a)) (below d)) (below n)) (below n)
 
--- The tests, worked out. What they give is said exactly by Load-14 and Load-15 of Promises, so that they need not be believed.
--- 14.
-unfoldable pub goodBlock : List ℕ → ℕ → Bool
-goodBlock file b =
-    eqb (blockWord file b 0) (b + 1) && eqb (blockWord file b 1) (blocksIn file) && eqb (blockWord file b 255) (checkOf (headOf file b))
-
-unfoldable pub refusalOfFile : List ℕ → ℕ
-refusalOfFile file =
-    cond (eqb (length file) (blocksIn file * 512) && leb 1 (blocksIn file) && leb (blocksIn file) 101 && every (blocksIn file) (goodBlock file)) 0 14
-
--- 15.
-unfoldable pub masksBelowTriangle : List ℕ → Bool
-masksBelowTriangle file =
-    every (saidN file) (λ i. every (saidN file) (λ j. not (ltb i j)
-    || every (saidD file) (λ a. ltb (saidAllowed file i j a) (2 ^ saidD file))))
-
+-- The test of 15, worked out: what it gives is said exactly by Load-15 of Promises, so that it need not be believed. The parts of the first checks
+-- are search's.
 unfoldable pub refusalOfWords : List ℕ → ℕ
 refusalOfWords file =
-    cond (leb 1 (saidN file) && leb (saidN file) 32 && leb 1 (saidD file) && leb (saidD file) 16 && leb (saidSubproblems file) 512
+    cond (eqb (refusalOfNumbers (saidN file) (saidD file)) 0 && leb (saidSubproblems file) 512
     && eqb (blocksIn file) (blocksFor (saidWords file))
     && every (blocksIn file * 253 - saidWords file) (λ k. eqb (contentWord file (saidWords file + k)) 0)
-    && every (saidN file) (λ i. ltb (saidProblem file .domain i) (2 ^ saidD file))
-    && masksBelowTriangle file && allObey (saidProblem file) (saidSearch file .memory) && leb (saidChecks file) (496 * saidSteps file)) 0 15
+    && eqb (refusalOfProblem (saidProblem file)) 0
+    && eqb (refusalOfSearch (saidProblem file) (saidAgenda file) (saidSteps file) (saidChecks file) (saidSubproblems file)) 0) 0 15

@@ -1,6 +1,5 @@
 // The content of a saved search: how many words it has, and the words.
 use crate::copying;
-use crate::said;
 use search::state::State;
 ghost use mathlib.Core.Path.{_≡_};
 ghost use mathlib.Core.List.{_++_};
@@ -8,11 +7,11 @@ ghost use Prim.Native.Nat.{_+_, _-_, _*_, _≤_, _<_};
 ghost use lib.ListN.{length, replicate};
 ghost use Rattle.problem.specs.Problem.{tableOf};
 ghost use Rattle.files.specs.Content.{triangle};
-ghost use Rattle.files.specs.Reading.{saidN, saidD, triangleWords, agendaFrom, wordCount};
+ghost use Rattle.files.specs.Reading.{triangleWords, agendaFrom, wordCount};
 ghost use Rattle.files.specs.Calls.{handedContent};
 ghost use Rattle.problem.specs.Lists.{splice};
-ghost use Rattle.files.specs.Work.Said.{Numbers, partIn};
-ghost use Rattle.files.specs.Work.Saved.{zeros, Savable, header};
+ghost use Rattle.files.specs.Loops.Said.{Numbers, partIn};
+ghost use Rattle.files.specs.Loops.Saved.{zeros, Savable, header};
 
 // How many words of a content come before its agenda.
 pub(crate) fn agenda_from(n: usize, d: usize) -> usize
@@ -31,12 +30,11 @@ pub(crate) fn words(n: usize, d: usize, subproblems: usize) -> usize
 }
 
 // The words of so many slots, in the words of a file's content.
-pub(crate) fn slots<'a>(file: &[u8], words: &'a [u16], count: usize) -> &'a [u16]
-    requires { ⌜ Numbers (saidN (now file)) (saidD (now file)) × ((count ≤ 512) × (length (now words) ≡ 25553)) ⌝ }
-    ensures { λ r. ⌜ (now r ≡ partIn (now (words .entry)) (agendaFrom (saidN (now (file .entry))) (saidD (now (file .entry)))) (count * (saidN (now (file .entry)) + 2))) × (length (now r) ≡ count * (saidN (now (file .entry)) + 2)) ⌝ }
+pub(crate) fn slots(n: usize, d: usize, words: &[u16], count: usize) -> &[u16]
+    requires { ⌜ Numbers n d × ((count ≤ 512) × (length (now words) ≡ 25553)) ⌝ }
+    ensures { λ r. ⌜ (now r ≡ partIn (now (words .entry)) (agendaFrom n d) (count * (n + 2))) × (length (now r) ≡ count * (n + 2)) ⌝ }
 {
-    let n = said::n(file);
-    copying::part(words, agenda_from(n, said::d(file)), count * (n + 2))
+    copying::part(words, agenda_from(n, d), count * (n + 2))
 }
 
 // The nine words before the domains: n, d, the steps in two words and the checks in four, high first, the number of subproblems.

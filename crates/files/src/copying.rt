@@ -3,7 +3,7 @@ ghost use mathlib.Core.Path.{_≡_};
 ghost use Prim.Native.Nat.{_+_, _-_, _≤_};
 ghost use lib.ListN.{length, replicate};
 ghost use Rattle.problem.specs.Lists.{splice};
-ghost use Rattle.files.specs.Work.Said.{partIn};
+ghost use Rattle.files.specs.Loops.Said.{partIn};
 
 // So many words from a place on.
 pub(crate) fn part(words: &[u16], from: usize, count: usize) -> &[u16]

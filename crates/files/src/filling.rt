@@ -1,37 +1,14 @@
-// What load writes: the content of a file in words, the tables in full, and the lent memory.
-use crate::block;
+// What load writes: the tables in full, and the lent memory.
 use crate::content;
 use crate::copying;
 use crate::said;
+use crate::saved::Header;
 ghost use mathlib.Core.Path.{_≡_};
 ghost use Prim.Native.Nat.{suc, _+_, _-_, _*_, _/_, _<_, _≤_};
 ghost use lib.ListN.{length};
 ghost use Rattle.problem.specs.Lists.{total, splice};
-ghost use Rattle.files.specs.Reading.{contentFrom, saidN, saidD, saidSubproblems};
-ghost use Rattle.files.specs.Work.Said.{Numbers, columnPart, rowPart, tablePart, partIn, slotsPart, Lent};
-ghost use Rattle.files.specs.Work.Saved.{zeros};
-
-// The words of the content of block `b`.
-fn put_block(file: &[u8], b: usize, words: &mut [u16])
-    requires { ⌜ (b < 101) × ((b * 512 + 512 ≤ length (now file)) × (length (now words) ≡ 25553)) ⌝ }
-    ensures { λ r. ⌜ now (words .exit) ≡ splice (now (words .entry)) (b * 253) (contentFrom (now (file .entry)) (b * 253) 253) ⌝ }
-{
-    let all = block::words_of(block::block_at(file, b));
-    copying::put_at(&all[2..255], words, b * 253);
-}
-
-// The words of a file's content, in words that are zeros.
-pub(crate) fn put_content(file: &[u8], words: &mut [u16])
-    requires { ⌜ (length (now file) ≡ length (now file) / 512 * 512) × ((length (now file) / 512 ≤ 101) × (now words ≡ zeros 25553)) ⌝ }
-    ensures { λ r. ⌜ now (words .exit) ≡ contentFrom (now (file .entry)) 0 25553 ⌝ }
-{
-    let blocks = file.len() / 512;
-    let mut b = 0;
-    while b < blocks {
-        put_block(file, b, words);
-        b += 1;
-    }
-}
+ghost use Rattle.files.specs.Loops.Said.{Numbers, columnPart, rowPart, tablePart, partIn, slotsPart, Lent};
+ghost use Rattle.files.specs.Loops.Saved.{zeros};
 
 // Rows for columns, from `at` on: the masks of two variables the other way round; where they end.
 fn put_turned(rows: &[u16], masks: &mut [u16], at: usize) -> usize
@@ -90,19 +67,19 @@ pub(crate) fn put_tables(words: &[u16], n: usize, d: usize, masks: &mut [u16]) -
 
 // The domains, the tables and the agenda into the lent memory, zeros after the subproblems.
 pub(crate) fn put_search(
-    file: &[u8],
+    header: Header,
     words: &[u16],
     masks: &[u16],
     domains: &mut [u16],
     tables: &mut [u16],
     agenda: &mut [u16],
 )
-    requires { ⌜ Lent (now file) (now words) (now masks) (now domains) (now tables) (now agenda) ⌝ }
-    ensures { λ r. ⌜ (now (domains .exit) ≡ partIn (now (words .entry)) 9 (saidN (now (file .entry)))) × ((now (tables .exit) ≡ now (masks .entry)) × (now (agenda .exit) ≡ slotsPart (now (words .entry)) (saidN (now (file .entry))) (saidD (now (file .entry))) (saidSubproblems (now (file .entry))) (length (now (agenda .entry))))) ⌝ }
+    requires { ⌜ Lent (header .n) (header .d) (header .state .subproblems) (now words) (now masks) (now domains) (now tables) (now agenda) ⌝ }
+    ensures { λ r. ⌜ (now (domains .exit) ≡ partIn (now (words .entry)) 9 (header .n)) × ((now (tables .exit) ≡ now (masks .entry)) × (now (agenda .exit) ≡ slotsPart (now (words .entry)) (header .n) (header .d) (header .state .subproblems) (length (now (agenda .entry))))) ⌝ }
 {
     copying::put_words(copying::part(words, 9, domains.len()), domains);
     copying::put_words(masks, tables);
-    let slots = content::slots(file, words, said::subproblems(file));
+    let slots = content::slots(header.n, header.d, words, header.state.subproblems);
     let end = copying::put_at(slots, agenda, 0);
     copying::put_zeros(agenda, end);
 }

@@ -1,4 +1,5 @@
 // A saved search: blocks of 512 bytes, save and load.
+use crate::saved::Header;
 use crate::saved::Loaded;
 use crate::saved::Saved;
 use search::state::Checks;
@@ -7,18 +8,15 @@ use search::state::State;
 use search::state::Steps;
 ghost use mathlib.Core.Path.{_≡_};
 ghost use Rattle.files.specs.Calls.{Saves, Loads};
-ghost use Rattle.files.specs.Work.Said.{Refused, Told, Read};
-ghost use Rattle.files.specs.Work.Saved.{zeros};
+ghost use Rattle.files.specs.Loops.Said.{Refused, Accepted, Read};
+ghost use Rattle.files.specs.Loops.Saved.{zeros};
 
-mod block;
-pub mod checksum;
 mod content;
 mod copying;
 mod filling;
 mod reading;
 pub mod said;
 pub mod saved;
-mod writing;
 
 // Writes the blocks of a search into the file buffer and leaves the rest of it; refused, changes nothing.
 pub fn save(
@@ -45,7 +43,7 @@ pub fn save(
     }
     let mut words = room_for_content();
     content::put(n, d, domains, tables, agenda, state, &mut words[..25553]);
-    writing::put_blocks(&words[..25553], blocks, file);
+    blocks::writing::put_blocks(&words[..blocks * 253], file);
     Saved { refusal: 0, blocks }
 }
 
@@ -68,14 +66,15 @@ fn refuse(refusal: u32) -> Loaded
 }
 
 // What a file says that is not refused.
-fn accept(file: &[u8]) -> Loaded
-    ensures { λ r. ⌜ Told (now (file .entry)) r ⌝ }
+fn accept(header: Header) -> Loaded
+    ensures { λ r. ⌜ Accepted header r ⌝ }
 {
+    let state = header.state;
     Loaded {
         refusal: 0,
-        n: said::n(file),
-        d: said::d(file),
-        state: said::state(file),
+        n: header.n,
+        d: header.d,
+        state,
     }
 }
 
@@ -96,30 +95,36 @@ fn room_for_tables() -> [u16; 16384]
 pub fn load(file: &[u8], domains: &mut [u16], tables: &mut [u16], agenda: &mut [u16]) -> Loaded
     ensures { λ r. ⌜ Loads (now (file .entry)) (now (domains .entry)) (now (domains .exit)) (now (tables .entry)) (now (tables .exit)) (now (agenda .entry)) (now (agenda .exit)) r ⌝ }
 {
-    let refusal = reading::refusal_of_sizes(file);
+    let refusal = blocks::reading::refusal_of_file(file);
     if refusal != 0 {
         return refuse(refusal);
     }
+    let header = said::header_of(file);
+    if !reading::is_sized(file, header) {
+        return refuse(15);
+    }
     let mut words = room_for_content();
-    filling::put_content(file, &mut words[..25553]);
-    load_content(file, &words[..25553], domains, tables, agenda)
+    blocks::reading::put_content(file, &mut words[..25553]);
+    load_content(header, file, &words[..25553], domains, tables, agenda)
 }
 
 // The same of a file whose sizes fit, with the words of its content.
 fn load_content(
+    header: Header,
     file: &[u8],
     words: &[u16],
     domains: &mut [u16],
     tables: &mut [u16],
     agenda: &mut [u16],
 ) -> Loaded
-    requires { ⌜ Read (now file) (now words) ⌝ }
+    requires { ⌜ Read (now file) (now words) header ⌝ }
     ensures { λ r. ⌜ Loads (now (file .entry)) (now (domains .entry)) (now (domains .exit)) (now (tables .entry)) (now (tables .exit)) (now (agenda .entry)) (now (agenda .exit)) r ⌝ }
 {
     let mut room = room_for_tables();
-    let count = filling::put_tables(words, said::n(file), said::d(file), &mut room[..16384]);
+    let count = filling::put_tables(words, header.n, header.d, &mut room[..16384]);
     let masks = &room[..count];
     let refusal = reading::refusal(
+        header,
         file,
         words,
         masks,
@@ -130,6 +135,6 @@ fn load_content(
     if refusal != 0 {
         return refuse(refusal);
     }
-    filling::put_search(file, words, masks, domains, tables, agenda);
-    accept(file)
+    filling::put_search(header, words, masks, domains, tables, agenda);
+    accept(header)
 }

@@ -1,87 +1,22 @@
-// Which refusal a file deserves: 14, 15, 3, 12.
-use crate::block;
-use crate::checksum;
+// Which refusal a file deserves past 14: 15, 3, 12.
 use crate::content;
 use crate::copying;
-use crate::said;
+use crate::saved::Header;
 ghost use mathlib.Core.Path.{_≡_};
-ghost use mathlib.Core.Bool.{cond};
 ghost use Prim.Native.Nat.{_+_, _-_, _*_, _/_, _<_, _≤_};
-ghost use lib.ListN.{length};
 ghost use Rattle.problem.specs.Lists.{every};
-ghost use Rattle.problem.specs.Tests.FirstChecks.{orElse};
-ghost use Rattle.files.specs.Reading.{goodBlock, refusalOfFile, refusalOfWords};
-ghost use Rattle.files.specs.Calls.{loadRefusal};
-ghost use Rattle.files.specs.Work.Said.{goodIn, numbersSaid, zeroIn, filled, sizedIn, Ready};
+ghost use Rattle.files.specs.Reading.{refusalOfWords};
+ghost use Rattle.files.specs.Calls.{Header-of, loadRefusal};
+ghost use Rattle.files.specs.Loops.Said.{numbersIn, zeroIn, filled, sizedIn, Ready};
 
-// Whether a block has its number, that of blocks and its check.
-fn is_good(block: &[u8], number: usize, blocks: usize) -> bool
-    requires { ⌜ length (now block) ≡ 512 ⌝ }
-    ensures { λ r. ⌜ r ≡ goodIn (now (block .entry)) number blocks ⌝ }
+// Whether n and d are in their ranges, where no memory at all is refused 3 and not 1 or 2, and the number of subproblems is.
+fn numbers_fit(n: usize, d: usize, subproblems: usize) -> bool
+    ensures { λ r. ⌜ r ≡ numbersIn n d subproblems ⌝ }
 {
-    if (block::word(block, 0) as usize) != number {
+    if search::first_checks::sizes_refusal(n, d, 0, 0, 0) != 3 {
         return false;
     }
-    if (block::word(block, 1) as usize) != blocks {
-        return false;
-    }
-    block::word(block, 255) == checksum::check(block)
-}
-
-// Whether every block is good.
-fn all_good(file: &[u8], blocks: usize) -> bool
-    requires { ⌜ (length (now file) ≡ blocks * 512) × (blocks ≤ 101) ⌝ }
-    ensures { λ r. ⌜ r ≡ every blocks (goodBlock (now (file .entry))) ⌝ }
-{
-    let mut number = 1;
-    while number <= blocks {
-        if !is_good(block::block_at(file, number - 1), number, blocks) {
-            return false;
-        }
-        number += 1;
-    }
-    true
-}
-
-// 14, or none.
-fn refusal_of_file(file: &[u8]) -> u32
-    ensures { λ r. ⌜ r ≡ refusalOfFile (now (file .entry)) ⌝ }
-{
-    let blocks = file.len() / 512;
-    if file.len() != blocks * 512 {
-        return 14;
-    }
-    if blocks < 1 {
-        return 14;
-    }
-    if 101 < blocks {
-        return 14;
-    }
-    if all_good(file, blocks) {
-        return 0;
-    }
-    14
-}
-
-// Whether n, d and the number of subproblems are in their ranges.
-fn numbers_fit(file: &[u8]) -> bool
-    ensures { λ r. ⌜ r ≡ numbersSaid (now (file .entry)) ⌝ }
-{
-    let n = said::n(file);
-    if n < 1 {
-        return false;
-    }
-    if 32 < n {
-        return false;
-    }
-    let d = said::d(file);
-    if d < 1 {
-        return false;
-    }
-    if 16 < d {
-        return false;
-    }
-    said::subproblems(file) <= 512
+    subproblems <= 512
 }
 
 // Whether every word of the content from one on is zero, of so many.
@@ -91,7 +26,7 @@ fn zeros_from(file: &[u8], from: usize, words: usize) -> bool
 {
     let mut k = 0;
     while k < words {
-        if block::content_word(file, from + k) != 0 {
+        if blocks::reading::content_word(file, from + k) != 0 {
             return false;
         }
         k += 1;
@@ -111,44 +46,35 @@ fn fills(file: &[u8], words: usize) -> bool
     zeros_from(file, words, blocks * 253 - words)
 }
 
-// 15, or none, of the numbers and of how many words there are.
-fn refusal_of_numbers(file: &[u8]) -> u32
-    ensures { λ r. ⌜ r ≡ cond (sizedIn (now (file .entry))) 0 15 ⌝ }
+// Whether the numbers are in their ranges and the words that they say fill the blocks.
+pub(crate) fn is_sized(file: &[u8], header: Header) -> bool
+    requires { ⌜ Header-of (now file) header ⌝ }
+    ensures { λ r. ⌜ r ≡ sizedIn (now (file .entry)) ⌝ }
 {
-    if !numbers_fit(file) {
-        return 15;
+    let n = header.n;
+    let d = header.d;
+    let subproblems = header.state.subproblems;
+    if !numbers_fit(n, d, subproblems) {
+        return false;
     }
-    let words = content::words(said::n(file), said::d(file), said::subproblems(file));
-    if fills(file, words) {
-        return 0;
-    }
-    15
-}
-
-// 14; then 15 of the numbers and of how many words there are; or none.
-pub(crate) fn refusal_of_sizes(file: &[u8]) -> u32
-    ensures { λ r. ⌜ r ≡ orElse (refusalOfFile (now (file .entry))) (cond (sizedIn (now (file .entry))) 0 15) ⌝ }
-{
-    let refusal = refusal_of_file(file);
-    if refusal != 0 {
-        return refusal;
-    }
-    refusal_of_numbers(file)
+    fills(file, content::words(n, d, subproblems))
 }
 
 // 15, or none, of the rules: the first checks of the search that the words say, in an agenda of 512 slots.
-fn refusal_of_rules(file: &[u8], words: &[u16], tables: &[u16]) -> u32
-    requires { ⌜ Ready (now file) (now words) (now tables) ⌝ }
+fn refusal_of_rules(header: Header, file: &[u8], words: &[u16], tables: &[u16]) -> u32
+    requires { ⌜ Ready (now file) (now words) (now tables) header ⌝ }
     ensures { λ r. ⌜ r ≡ refusalOfWords (now (file .entry)) ⌝ }
 {
-    let n = said::n(file);
+    let n = header.n;
+    let d = header.d;
+    let state = header.state;
     let refusal = search::first_checks::search_refusal(
         n,
-        said::d(file),
+        d,
         copying::part(words, 9, n),
         tables,
-        content::slots(file, words, 512),
-        said::state(file),
+        content::slots(n, d, words, 512),
+        state,
     );
     if refusal == 0 {
         return 0;
@@ -158,6 +84,7 @@ fn refusal_of_rules(file: &[u8], words: &[u16], tables: &[u16]) -> u32
 
 // The refusal of load past 14 and the sizes, of the numbers of words lent as domains, tables and agenda; 0 for none.
 pub(crate) fn refusal(
+    header: Header,
     file: &[u8],
     words: &[u16],
     masks: &[u16],
@@ -165,19 +92,19 @@ pub(crate) fn refusal(
     tables: usize,
     agenda: usize,
 ) -> u32
-    requires { ⌜ Ready (now file) (now words) (now masks) ⌝ }
+    requires { ⌜ Ready (now file) (now words) (now masks) header ⌝ }
     ensures { λ r. ⌜ r ≡ loadRefusal (now (file .entry)) domains tables agenda ⌝ }
 {
-    let rules = refusal_of_rules(file, words, masks);
+    let n = header.n;
+    let rules = refusal_of_rules(header, file, words, masks);
     if rules != 0 {
         return rules;
     }
-    let n = said::n(file);
-    let sizes = search::first_checks::sizes_refusal(n, said::d(file), domains, tables, agenda);
+    let sizes = search::first_checks::sizes_refusal(n, header.d, domains, tables, agenda);
     if sizes != 0 {
         return sizes;
     }
-    if agenda / (n + 2) < said::subproblems(file) {
+    if agenda / (n + 2) < header.state.subproblems {
         return 12;
     }
     0

@@ -1,5 +1,5 @@
-// What the words of a file say.
-use crate::block;
+// What the first words of a file say, and where the masks stand.
+use crate::saved::Header;
 use search::state::Checks;
 use search::state::Counts;
 use search::state::State;
@@ -7,48 +7,34 @@ use search::state::Steps;
 ghost use mathlib.Core.Path.{_≡_};
 ghost use Prim.Native.Nat.{suc, _+_, _-_, _*_, _<_, _≤_};
 ghost use Rattle.problem.specs.Lists.{total};
-ghost use Rattle.files.specs.Reading.{contentWord, saidN, saidD, saidSubproblems, trianglePlace};
-ghost use Rattle.files.specs.Work.Said.{Numbers, StateSaid};
-
-// The number of variables.
-pub fn n(file: &[u8]) -> usize
-    ensures { λ r. ⌜ r ≡ saidN (now (file .entry)) ⌝ }
-{
-    block::content_word(file, 0) as usize
-}
-
-// The number of values.
-pub fn d(file: &[u8]) -> usize
-    ensures { λ r. ⌜ r ≡ saidD (now (file .entry)) ⌝ }
-{
-    block::content_word(file, 1) as usize
-}
-
-// The number of subproblems.
-pub(crate) fn subproblems(file: &[u8]) -> usize
-    ensures { λ r. ⌜ r ≡ saidSubproblems (now (file .entry)) ⌝ }
-{
-    block::content_word(file, 8) as usize
-}
+ghost use Rattle.blocks.specs.Reading.{contentWord};
+ghost use Rattle.files.specs.Reading.{trianglePlace};
+ghost use Rattle.files.specs.Calls.{Header-of};
+ghost use Rattle.files.specs.Loops.Said.{Numbers};
 
 // Two words of the content as one number, high first.
 fn pair_at(file: &[u8], k: usize) -> u32
     requires { ⌜ k < 65535 ⌝ }
     ensures { λ r. ⌜ r ≡ contentWord (now (file .entry)) k * 65536 + contentWord (now (file .entry)) (k + 1) ⌝ }
 {
-    (block::content_word(file, k) as u32) * 65536 + (block::content_word(file, k + 1) as u32)
+    (blocks::reading::content_word(file, k) as u32) * 65536
+        + (blocks::reading::content_word(file, k + 1) as u32)
 }
 
-// The steps taken in two words, the checks made in four, and the number of subproblems.
-pub(crate) fn state(file: &[u8]) -> State
-    ensures { λ r. ⌜ StateSaid (now (file .entry)) r ⌝ }
+// n, d, the steps taken in two words, the checks made in four, the number of subproblems.
+pub fn header_of(file: &[u8]) -> Header
+    ensures { λ r. ⌜ Header-of (now (file .entry)) r ⌝ }
 {
-    State {
-        counts: Counts {
-            steps: Steps(pair_at(file, 2)),
-            checks: Checks((pair_at(file, 4) as u64) * 4294967296 + (pair_at(file, 6) as u64)),
+    Header {
+        n: blocks::reading::content_word(file, 0) as usize,
+        d: blocks::reading::content_word(file, 1) as usize,
+        state: State {
+            counts: Counts {
+                steps: Steps(pair_at(file, 2)),
+                checks: Checks((pair_at(file, 4) as u64) * 4294967296 + (pair_at(file, 6) as u64)),
+            },
+            subproblems: blocks::reading::content_word(file, 8) as usize,
         },
-        subproblems: subproblems(file),
     }
 }
 

@@ -1,4 +1,4 @@
-// What save and load return.
+// What save and load return, and what the first words of a file say.
 use search::state::State;
 
 pub struct Saved {
@@ -8,6 +8,12 @@ pub struct Saved {
 
 pub struct Loaded {
     pub refusal: u32,
+    pub n: usize,
+    pub d: usize,
+    pub state: State,
+}
+
+pub struct Header {
     pub n: usize,
     pub d: usize,
     pub state: State,

@@ -43,7 +43,7 @@ use Rattle.searches.proofs.Refusals.{is-none}
 use Rattle.searches.proofs.Passing.{step-passes, run-passes, top-held}
 use Rattle.search.proofs.Slots.{slots-lawful, step-is}
 use Rattle.search.proofs.step.Shapes.{pieces-regular}
-use Rattle.problem.proofs.Copies.{zeros-at}
+use Rattle.problem.proofs.Copies.{append-small, zeros-at}
 use Rattle.search.proofs.Encoding.{length-stack, length-stackOf, length-agenda, agenda-back}
 
 -- Every subproblem of a stack has the shape of a slot.
@@ -74,12 +74,6 @@ module _ (n d : ℕ) (domains tables : List ℕ) (room : ℕ) (fit : Sized n d t
       more (step-passes (problemOf n d domains tables) (slots room) (slots-lawful room) P S s r h top f) (step-shaped P S s r h top f k))
 
 -- ---- words of 16 bits
-
--- two lists of numbers below B, one after the other, are such a list
-pub append-small : (B : ℕ) (a b : List ℕ) → ((i : ℕ) → getD a i 0 < B) → ((i : ℕ) → getD b i 0 < B) → (i : ℕ) → getD (a ++ b) i 0 < B
-append-small B [] b h k i = k i
-append-small B (x ∷ a) b h k zero = h 0
-append-small B (x ∷ a) b h k (suc i) = append-small B a b (λ j. h (suc j)) k i
 
 take-small : (B n : ℕ) (a : List ℕ) → 0 < B → ((i : ℕ) → getD a i 0 < B) → (i : ℕ) → getD (take n a) i 0 < B
 take-small B zero a z h i = z

@@ -1,7 +1,7 @@
 -- `load_content` meets its contract: refused, nothing is changed; else the search is written.
 -- Assumes nothing.
-use borrow.Author.Needs.{needs}
 use native.Mathlib.Omega.{arith}
+use borrow.Author.Needs.{needs}
 use Rattle.files.proofs.Refused.{read-numbers}
 use Rattle.files.proofs.LoadOutcomes.{load-refused, made-ready, made-count, made-fits, load-lent, load-accepted}
 use Rattle.files.proofs.load_content.Statement.{statement}
@@ -10,42 +10,28 @@ use Rattle.files.proofs.load_content.Tie as tie
 room-for-tables-requires : tie.Need-room-for-tables-requires
 room-for-tables-requires c κs = search needs
 
-n-requires : tie.Need-n-requires
-n-requires c κs = search needs
-
-d-requires : tie.Need-d-requires
-d-requires c κs = search needs
-
 slice-aggregate-put-tables : tie.Need-slice-aggregate-put-tables
 slice-aggregate-put-tables c = search needs
 
 put-tables-requires : tie.Need-put-tables-requires
 put-tables-requires c κs =
-    let pre = c .before .before .before .before .before .before .before .before .before .pre in (
-      read-numbers _ _ _ _ pre (c .before .before .n .ensures) (c .before .d .ensures) .0,
-      (pre .long, c .before .before .before .room-for-tables .ensures),
-    )
+    let read = c .before .before .before .before .before .before .before .pre in
+    (read-numbers _ _ _ read .0, (read .long, c .before .room-for-tables .ensures))
 
 array-share-prefix-room : tie.Need-array-share-prefix-room
 array-share-prefix-room c =
-    let made = c .before in
-    let pre = made .before .before .before .before .before .before .before .before .before .before .pre in
-    made-fits _ _ _ _ _ _ _ (pre) (made .before .before .before .n .ensures) (made .before .before .d .ensures)
-    (made .before .before .before .before .room-for-tables .ensures) (made .put-tables .ensures .0) (made .put-tables .ensures .1)
+    made-fits _ _ _ _ _ _ (c .before .before .before .before .before .before .before .before .before .pre) (c .before .before .before .room-for-tables .ensures) (c .before .put-tables .ensures .0)
+    (c .before .put-tables .ensures .1)
 
 slice-aggregate-masks : tie.Need-slice-aggregate-masks
 slice-aggregate-masks c =
-    let made = c .before .before in
-    let pre = made .before .before .before .before .before .before .before .before .before .before .pre in
-    made-count _ _ _ _ _ _ _ (pre) (made .before .before .before .n .ensures) (made .before .before .d .ensures)
-    (made .before .before .before .before .room-for-tables .ensures) (made .put-tables .ensures .0) (made .put-tables .ensures .1)
+    made-count _ _ _ _ _ _ (c .before .before .before .before .before .before .before .before .before .before .pre) (c .before .before .before .before .room-for-tables .ensures) (c .before .before .put-tables .ensures .0)
+    (c .before .before .put-tables .ensures .1)
 
 refusal-requires : tie.Need-refusal-requires
 refusal-requires c κs =
-    let made = c .before .before in
-    let pre = made .before .before .before .before .before .before .before .before .before .before .pre in
-    made-ready _ _ _ _ _ _ _ (pre) (made .before .before .before .n .ensures) (made .before .before .d .ensures)
-    (made .before .before .before .before .room-for-tables .ensures) (made .put-tables .ensures .0) (made .put-tables .ensures .1)
+    made-ready _ _ _ _ _ _ (c .before .before .before .before .before .before .before .before .before .before .pre) (c .before .before .before .before .room-for-tables .ensures) (c .before .before .put-tables .ensures .0)
+    (c .before .before .put-tables .ensures .1)
 
 refuse-requires : tie.Need-refuse-requires
 refuse-requires c κs = search needs
@@ -55,11 +41,9 @@ returns c = load-refused _ _ _ _ _ (c .before .before .refusal .ensures) (c .bef
 
 put-search-requires : tie.Need-put-search-requires
 put-search-requires c κs =
-    let made = c .before .before .before .before .before .before .before in
-    let pre = made .before .before .before .before .before .before .before .before .before .before .pre in
-    let ready = made-ready _ _ _ _ _ _ _ (pre) (made .before .before .before .n .ensures) (made .before .before .d .ensures)
-    (made .before .before .before .before .room-for-tables .ensures) (made .put-tables .ensures .0) (made .put-tables .ensures .1) in
-    load-lent _ _ _ _ _ (c .before .before .before .before .refusal .ensures) (c .before .before .before .if1 .left) _ _ ready
+    let ready = made-ready _ _ _ _ _ _ (c .before .before .before .before .before .before .before .before .before .before .before .before .before .before .before .pre) (c .before .before .before .before .before .before .before .before .before .room-for-tables .ensures) (c .before .before .before .before .before .before .before .put-tables .ensures .0)
+    (c .before .before .before .before .before .before .before .put-tables .ensures .1) in
+    load-lent _ _ _ _ _ (c .before .before .before .before .refusal .ensures) (c .before .before .before .if1 .left) _ _ _ ready
 
 accept-requires : tie.Need-accept-requires
 accept-requires c κs = search needs
@@ -76,23 +60,17 @@ same-length-3 c = c .before .before .before .before .before .before .before .put
 returns-2 : tie.Need-returns-2
 returns-2 c =
     let put = c .before .before .before .before .before .before .before in
-    let passed = put .before .before .before .before in
-    let made = passed .before .before .before .before in
-    let pre = made .before .before .before .before .before .before .before .before .before .before .pre in
-    let small = made .before .before .before .before .before .before .before .before .before .shared-slice-known .given in
-    let ready = made-ready _ _ _ _ _ _ _ (pre) (made .before .before .before .n .ensures) (made .before .before .d .ensures)
-    (made .before .before .before .before .room-for-tables .ensures) (made .put-tables .ensures .0) (made .put-tables .ensures .1) in
-    load-accepted _ _ _ _ _ (passed .before .refusal .ensures) (passed .if1 .left) _ _ ready (λ i. omega (arith, small i)) _ _ _ _
-    (c .accept .ensures)
-    (put .put-search .ensures .0) (put .put-search .ensures .1 .0) (put .put-search .ensures .1 .1)
+    let small = c .before .before .before .before .before .before .before .before .before .before .before .before .before .before .before .before .before .before .before .before .before .before .shared-slice-known .given in
+    let ready = made-ready _ _ _ _ _ _ (c .before .before .before .before .before .before .before .before .before .before .before .before .before .before .before .before .before .before .before .before .before .before .before .pre) (c .before .before .before .before .before .before .before .before .before .before .before .before .before .before .before .before .before .room-for-tables .ensures) (c .before .before .before .before .before .before .before .before .before .before .before .before .before .before .before .put-tables .ensures .0)
+    (c .before .before .before .before .before .before .before .before .before .before .before .before .before .before .before .put-tables .ensures .1) in
+    load-accepted _ _ _ _ _ (c .before .before .before .before .before .before .before .before .before .before .before .before .refusal .ensures) (c .before .before .before .before .before .before .before .before .before .before .before .if1 .left) _ _ _ ready (λ i. omega (arith, small i)) _ _ _ _
+    (c .accept .ensures) (put .put-search .ensures .0) (put .put-search .ensures .1 .0) (put .put-search .ensures .1 .1)
 
 pub load-content-spec : {M : Type 1} → statement M
 load-content-spec =
     tie.close
     (tie.spec
     room-for-tables-requires
-    n-requires
-    d-requires
     slice-aggregate-put-tables
     put-tables-requires
     array-share-prefix-room

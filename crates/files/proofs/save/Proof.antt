@@ -1,9 +1,9 @@
 -- `save` meets its contract: refused, nothing is changed; else the blocks are written.
 -- Assumes nothing.
-use borrow.Author.Needs.{needs}
-use mathlib.Core.Path.{refl, _∙_}
+use mathlib.Core.Path.{refl, sym, _∙_}
 use native.Mathlib.Omega.{arith}
-use Rattle.files.proofs.SaveOutcomes.{save-passed, save-refused, save-short, save-written}
+use borrow.Author.Needs.{needs}
+use Rattle.files.proofs.SaveOutcomes.{save-passed, save-refused, save-short, save-written, save-part}
 use Rattle.files.proofs.Filled.{zeros-long}
 use Rattle.files.proofs.save.Statement.{statement}
 use Rattle.files.proofs.save.Tie as tie
@@ -36,33 +36,33 @@ slice-aggregate-put : tie.Need-slice-aggregate-put
 slice-aggregate-put c = search needs
 
 put-requires : tie.Need-put-requires
-put-requires c κs =
-    let passed = c .before .before .before .before in
-    (save-passed _ _ _ _ _ _ _ (passed .before .search-refusal .ensures) (passed .if1 .left), c .before .room-for-content .ensures)
+put-requires c κs = (save-passed _ _ _ _ _ _ _ (c .before .before .before .before .before .search-refusal .ensures) (c .before .before .before .before .if1 .left), c .before .room-for-content .ensures)
+
+mul-words : tie.Need-mul-words
+mul-words c = search needs
+
+array-share-prefix-words : tie.Need-array-share-prefix-words
+array-share-prefix-words c = search needs
 
 slice-aggregate-put-blocks : tie.Need-slice-aggregate-put-blocks
-slice-aggregate-put-blocks c = search needs
+slice-aggregate-put-blocks c =
+    let put = c .before .before in
+    let long = put .put .kept .1 .1 .1 .1 .1 .1 .0 ∙ zeros-long _ _ (put .before .before .room-for-content .ensures) in
+    save-part _ _ long (c .before .before .before .before .before .before .words .ensures .1)
 
 put-blocks-requires : tie.Need-put-blocks-requires
-put-blocks-requires c κs =
-    let put = c .before .before .before in
-    let long = put .put .kept .1 .1 .1 .1 .1 .1 .0 ∙ zeros-long _ _ (put .before .before .room-for-content .ensures) in
-    let counted = put .before .before .before .before in
-    (long, (omega (arith, counted .words .ensures .1), put .before .before .before .if2 .left))
+put-blocks-requires c κs = search needs
 
 same-length : tie.Need-same-length
-same-length c = c .before .before .put-blocks .kept .1 .1 .0
+same-length c = c .before .before .put-blocks .kept .1 .0
 
 returns-3 : tie.Need-returns-3
 returns-3 c =
-    let put = c .before .before .before .before .before .before in
-    let fits = put .before .before .before in
-    let counted = fits .before in
-    let passed = counted .before in
-    let small = passed .before .before .before .shared-slice-known3 .given in
-    save-written _ _ _ _ _ _ _ (λ i. omega (arith, small i)) _ _ (passed .before .search-refusal .ensures) (passed .if1 .left)
-    (counted .words .ensures .0) _ _
-    (fits .if2 .left) refl refl _ (put .put .ensures) (c .before .before .put-blocks .ensures)
+    let counted = c .before .before .before .before .before .before .before .before .before .before in
+    let small = c .before .before .before .before .before .before .before .before .before .before .before .before .before .before .shared-slice-known3 .given in
+    save-written _ _ _ _ _ _ _ (λ i. omega (arith, small i)) _ _ (c .before .before .before .before .before .before .before .before .before .before .before .before .search-refusal .ensures) (c .before .before .before .before .before .before .before .before .before .before .before .if1 .left)
+    (counted .words .ensures .0) _ _ _ (c .before .before .before .before .before .before .before .before .before .if2 .left) (counted .words .ensures .1) refl refl (c .before .before .before .before .before .before .put .ensures)
+    (c .before .before .put-blocks .ensures)
 
 pub save-spec : {M : Type 1} → statement M
 save-spec =
@@ -77,6 +77,8 @@ save-spec =
     room-for-content-requires
     slice-aggregate-put
     put-requires
+    mul-words
+    array-share-prefix-words
     slice-aggregate-put-blocks
     put-blocks-requires
     same-length

@@ -2,7 +2,7 @@
 -- Assumes nothing.
 use borrow.Author.Needs.{needs}
 use mathlib.Core.Path.{refl}
-use Rattle.files.specs.Work.Saved.{header}
+use Rattle.files.specs.Loops.Saved.{header}
 use Rattle.files.proofs.content.header.Statement.{statement}
 use Rattle.files.proofs.content.header.Tie as tie
 
