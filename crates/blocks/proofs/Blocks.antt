@@ -12,7 +12,7 @@ use lib.Seq.{getD-take, getD-drop, getD-at, ext-getD}
 use borrow.Author.Tests.{eq-eqb, le-leb}
 use Rattle.problem.specs.Lists.{total, every, below}
 use Rattle.problem.proofs.Tests.{every-all}
-use Rattle.search.proofs.HandedOn.{append-small}
+use Rattle.problem.proofs.Copies.{append-small}
 use Rattle.blocks.specs.Blocks.{fileBytes, wordAt, checkOf, blocksFor, contentOfBlock, headedBlock, blockWords, firstBlocks, fileOf}
 use Rattle.blocks.specs.Lists.{each}
 use Rattle.blocks.specs.Reading.{blocksIn, blockWord, headOf, contentWord}

@@ -7,7 +7,7 @@ use Rattle.problem.specs.Problem.{Table}
 use Rattle.problem.specs.Lists.{below, keep}
 use Rattle.search.specs.Agenda.{stackWords}
 use Rattle.search.specs.Runs.{Search}
-use Rattle.blocks.specs.Lists.{each}
+unfoldable pub use Rattle.blocks.specs.Lists.{each}
 
 -- The variables after i.
 unfoldable pub after : ℕ → ℕ → List ℕ
