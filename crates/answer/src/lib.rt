@@ -50,8 +50,9 @@ fn room_for_agenda() -> [u16; 17408]
 pub fn answer_to(file: &[u8]) -> Text
     ensures { λ r. ⌜ Answers (now (file .entry)) r ⌝ }
 {
-    let n = at_most(files::said::n(file), 32);
-    let d = at_most(files::said::d(file), 16);
+    let header = files::said::header_of(file);
+    let n = at_most(header.n, 32);
+    let d = at_most(header.d, 16);
     let masks = n * n * d;
     let room = 512 * (n + 2);
     let mut domains = room_for_domains();

@@ -1,4 +1,6 @@
 // Bytes, words and blocks of a file.
+use crate::BYTES;
+use crate::CONTENT;
 ghost use mathlib.Core.Path.{_≡_};
 ghost use mathlib.Core.List.{map};
 ghost use Prim.Native.Nat.{_+_, _*_, _/_, _%_, _≤_, _<_};
@@ -40,8 +42,8 @@ pub(crate) fn block_at(file: &[u8], b: usize) -> &[u8]
     requires { ⌜ b * 512 + 512 ≤ length (now file) ⌝ }
     ensures { λ r. ⌜ (now r ≡ blockOf (now (file .entry)) b) × (length (now r) ≡ 512) ⌝ }
 {
-    let at = b * 512;
-    let end = at + 512;
+    let at = b * BYTES;
+    let end = at + BYTES;
     &file[at..end]
 }
 
@@ -96,7 +98,7 @@ pub(crate) fn put_content(block: &[u8], words: &mut [u16])
 {
     let low = low_words(block);
     let mut k = 0;
-    while k < 253 {
+    while k < CONTENT {
         words[k] = exchanged(low[k + 2]);
         k += 1;
     }

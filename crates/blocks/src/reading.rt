@@ -1,4 +1,7 @@
 // Whether the blocks of a file are whole, and the words of their content.
+use crate::BYTES;
+use crate::CONTENT;
+use crate::MOST;
 use crate::block;
 use crate::checksum;
 ghost use mathlib.Core.Path.{_≡_};
@@ -43,14 +46,14 @@ fn all_good(file: &[u8], blocks: usize) -> bool
 pub fn refusal_of_file(file: &[u8]) -> u32
     ensures { λ r. ⌜ Refusal-of-file (now (file .entry)) r ⌝ }
 {
-    let blocks = file.len() / 512;
-    if file.len() != blocks * 512 {
+    let blocks = file.len() / BYTES;
+    if file.len() != blocks * BYTES {
         return 14;
     }
     if blocks < 1 {
         return 14;
     }
-    if 101 < blocks {
+    if MOST < blocks {
         return 14;
     }
     if all_good(file, blocks) {
@@ -64,7 +67,7 @@ pub fn content_word(file: &[u8], k: usize) -> u16
     ensures { λ r. ⌜ r ≡ contentWord (now (file .entry)) k ⌝ }
 {
     if k < file.len() {
-        return block::word(file, 256 * (k / 253) + (2 + k % 253));
+        return block::word(file, 256 * (k / CONTENT) + (2 + k % CONTENT));
     }
     0
 }
@@ -76,8 +79,8 @@ fn put_each(file: &[u8], blocks: usize, words: &mut [u16])
 {
     let mut b = 0;
     while b < blocks {
-        let at = b * 253;
-        let end = at + 253;
+        let at = b * CONTENT;
+        let end = at + CONTENT;
         block::put_content(block::block_at(file, b), &mut words[at..end]);
         b += 1;
     }
@@ -87,8 +90,8 @@ fn put_each(file: &[u8], blocks: usize, words: &mut [u16])
 pub fn put_content(file: &[u8], words: &mut [u16])
     ensures { λ r. ⌜ Put-content (now (file .entry)) (now (words .entry)) (now (words .exit)) ⌝ }
 {
-    let blocks = file.len() / 512;
-    if words.len() < blocks * 253 {
+    let blocks = file.len() / BYTES;
+    if words.len() < blocks * CONTENT {
         return;
     }
     put_each(file, blocks, words);

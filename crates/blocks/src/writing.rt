@@ -1,4 +1,7 @@
 // The blocks that hold a content.
+use crate::BYTES;
+use crate::CONTENT;
+use crate::MOST;
 use crate::checksum;
 ghost use mathlib.Core.Path.{_≡_};
 ghost use Prim.Native.Nat.{_+_, _*_, _/_, _%_, _<_, _≤_};
@@ -27,7 +30,7 @@ fn head_word(words: &[u16], blocks: usize, b: usize, k: usize) -> u16
     if k == 1 {
         return blocks as u16;
     }
-    words[b * 253 + (k - 2)]
+    words[b * CONTENT + (k - 2)]
 }
 
 // The words of block `b` before its check.
@@ -60,8 +63,8 @@ fn put_each(words: &[u16], blocks: usize, file: &mut [u8])
 {
     let mut b = 0;
     while b < blocks {
-        let at = 512 * b;
-        let end = at + 512;
+        let at = BYTES * b;
+        let end = at + BYTES;
         put_block(words, blocks, b, &mut file[at..end]);
         b += 1;
     }
@@ -72,14 +75,14 @@ fn put_each(words: &[u16], blocks: usize, file: &mut [u8])
 pub fn put_blocks(content: &[u16], file: &mut [u8])
     ensures { λ r. ⌜ Put-blocks (now (content .entry)) (now (file .entry)) (now (file .exit)) ⌝ }
 {
-    let blocks = content.len() / 253;
-    if content.len() != blocks * 253 {
+    let blocks = content.len() / CONTENT;
+    if content.len() != blocks * CONTENT {
         return;
     }
-    if 101 < blocks {
+    if MOST < blocks {
         return;
     }
-    if file.len() < 512 * blocks {
+    if file.len() < BYTES * blocks {
         return;
     }
     put_each(content, blocks, file);

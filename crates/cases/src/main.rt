@@ -353,7 +353,7 @@ fn checks_of_words() {
     let example = [0u8, 1, 242, 3, 244, 245, 246, 247];
     number(
         b"RFC 1071's example: check ",
-        files::checksum::check_of(&example) as u64,
+        blocks::checksum::check_of(&example) as u64,
     );
     io::write_all(1, b"\n");
 }

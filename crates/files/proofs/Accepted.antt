@@ -129,10 +129,9 @@ module _ (file : List ℕ) where
       let rules : Bool = allObey (saidProblem file) (saidSearch file .memory) in
       let zeros : Bool = zerosFrom (saidSubproblems file * (saidN file + 2)) (saidAgenda file) in
       let limit : Bool = leb (saidChecks file) (496 * saidSteps file) in
-      let all : (room && rules && zeros && limit) ≡ true = given-if (room && rules && zeros && limit) 6 (λ z. absurd (omega arith)) e in
-      (
+      let all : (room && rules && zeros && limit) ≡ true = given-if (room && rules && zeros && limit) 6 (λ z. absurd (omega arith)) e in (
         all-rules (saidProblem file) (saidSearch file .memory) proper
-        (and-right room rules (and-left (room && rules) zeros (and-left (room && rules && zeros) limit all))),
+            (and-right room rules (and-left (room && rules) zeros (and-left (room && rules && zeros) limit all))),
         leb-true (saidChecks file) (496 * saidSteps file) (and-right (room && rules && zeros) limit all),
       )
 

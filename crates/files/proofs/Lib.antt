@@ -1,5 +1,6 @@
 pub mod Lists
 pub mod Tests
+pub mod Whole
 mod Triangle
 pub mod Stacks
 mod Gathered
@@ -23,11 +24,5 @@ pub mod Solutions
 mod Living
 pub mod OneOutcome
 pub mod Promises
-mod Mirrors
-mod Found
-mod Filled
-mod Refused
-mod Checked
 pub mod LoadOutcomes
-mod Written
 mod SaveOutcomes

@@ -9,6 +9,7 @@ use lib.Dec.{ltb}
 use borrow.Author.Tests.{lt-ltb, le-ltb}
 use Rattle.problem.specs.Lists.{below, keep}
 use Rattle.splits.proofs.checks.Looking.{keep-append}
+use Rattle.blocks.proofs.Lists.{below-length, each-more, each-none, each-same, padded-at}
 use Rattle.files.specs.Content.{after}
 
 -- The variables after i.

@@ -24,17 +24,16 @@ use Rattle.blocks.specs.Tests.Whole.{refusalOfFile}
 use Rattle.blocks.specs.Calls.{Refusal-of-file, Put-content}
 use Rattle.files.specs.Calls.{Header-of, loadRefusal, Loads}
 use Rattle.files.specs.Loops.Said.{Numbers, sizedIn, allowedIn, pairPart, rowPart, tablePart, partIn, slotsPart, Lent, Read, Ready, Refused, Accepted}
-use Rattle.files.specs.Loops.Saved.{zeros}
 use Rattle.files.specs.declared.saved.Header.{Header}
 use Rattle.files.specs.declared.saved.Loaded.{Loaded}
 use Rattle.blocks.proofs.Lists.{each-same, map-same}
 use Rattle.files.proofs.Triangle.{table-length}
 use Rattle.blocks.proofs.Whole.{file-whole, refusal-is}
 use Rattle.blocks.proofs.Contents.{length-from}
-use Rattle.files.proofs.Filled.{front-of-zeros, content-read, content-says}
-use Rattle.files.proofs.Mirrors.{triangle-few, slots-few, allowed-self, allowed-said}
-use Rattle.files.proofs.Refused.{numbers-passed}
-use Rattle.files.proofs.Checked.{part-read, agenda-said}
+use Rattle.files.proofs.filling.Filled.{front-of-zeros, content-read, content-says}
+use Rattle.files.proofs.filling.Mirrors.{triangle-few, slots-few, allowed-self, allowed-said}
+use Rattle.files.proofs.reading.Refused.{numbers-passed}
+use Rattle.files.proofs.reading.Checked.{part-read, agenda-said}
 
 -- A value that is given where there is no refusal, and one that is given where there is.
 pub given : {A : Type 0} (r : ℕ) (x y z : A) → r ≡ 0 → z ≡ x → z ≡ cond (eqb r 0) x y
@@ -109,7 +108,7 @@ tables-said file words t n d says is-n is-d e =
 
 -- The words that were read say the content.
 pub load-read : (file l words : List ℕ) (h : Header) (r : ℕ) (b : Bool) → Refusal-of-file file r → r ≡ 0 → Header-of file h → b ≡ sizedIn file
-    → not b ≡ false → l ≡ zeros 25553 → Put-content file l words → Read file words h
+    → not b ≡ false → l ≡ replicate 25553 0 → Put-content file l words → Read file words h
 load-read file l words h r b e z said sized y zero put =
     let passed : refusalOfFile file ≡ 0 = sym (refusal-is file r e) ∙ z in
     let whole = file-whole file passed in
@@ -123,7 +122,7 @@ load-read file l words h r b e z said sized y zero put =
     }
 
 -- What was made stands in the front of the room for it.
-module _ (file words l m : List ℕ) (h : Header) (count : ℕ) (read : Read file words h) (z : l ≡ zeros 16384)
+module _ (file words l m : List ℕ) (h : Header) (count : ℕ) (read : Read file words h) (z : l ≡ replicate 16384 0)
     (e : m ≡ splice l 0 (tablePart words (h .n) (h .d) (h .n))) (is-count : count ≡ h .n * (h .n * h .d)) where
   made : tablePart words (h .n) (h .d) (h .n) ≡ tableWords (saidN file) (saidD file) (saidAllowed file)
   made =

@@ -9,7 +9,7 @@ use Rattle.files.specs.Promises.{Header-of-one, Load-after-save, Save-af
 use Rattle.problem.proofs.Answers.{one}
 use Rattle.search.proofs.Encoding.{length-stack}
 use Rattle.search.proofs.first_checks.FirstPassing.{search-is-passed}
-use Rattle.searches.proofs.Promises.{reached-solvable, reached-steps, reached-checks}
+use Rattle.search.proofs.Reaching.{reached-solvable, reached-steps, reached-checks}
 use Rattle.search.proofs.Promises.{chooser-says}
 use Rattle.blocks.proofs.Whole
 use Rattle.files.proofs.Accepted

@@ -23,7 +23,7 @@ use Rattle.files.specs.Calls.{handedContent, saveRefusal, Saves}
 use Rattle.files.specs.Loops.Saved.{Savable}
 use Rattle.files.specs.declared.saved.Saved.{Saved}
 use Rattle.blocks.proofs.Blocks.{file-length, same-file}
-use Rattle.files.proofs.Written.{handed-length}
+use Rattle.files.proofs.content.Written.{handed-length}
 use Rattle.files.proofs.LoadOutcomes.{given, not-given}
 
 -- What is left of a list with zeros after it, cut among the zeros.

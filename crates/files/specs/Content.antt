@@ -6,8 +6,8 @@ use lib.Dec.{ltb}
 use Rattle.problem.specs.Problem.{Table}
 use Rattle.problem.specs.Lists.{below, keep}
 use Rattle.search.specs.Agenda.{stackWords}
-use Rattle.searches.specs.Runs.{Search}
-use Rattle.blocks.specs.Lists.{each}
+use Rattle.search.specs.Slots.{Search}
+unfoldable pub use Rattle.blocks.specs.Lists.{each}
 
 -- The variables after i.
 unfoldable pub after : ℕ → ℕ → List ℕ

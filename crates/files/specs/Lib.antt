@@ -1,4 +1,5 @@
 -- Saved searches. What only mirrors a loop of the code stands in Loops.
+pub mod Blocks
 pub mod Content
 pub mod Reading
 pub mod Calls

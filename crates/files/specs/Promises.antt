@@ -21,7 +21,7 @@ use Rattle.search.specs.declared.state.Opened.{Opened}
 use Rattle.search.specs.declared.state.Ran.{Ran}
 use Rattle.blocks.specs.Blocks.{blocksFor, fileOf}
 use Rattle.files.specs.Content.{contentOf}
-use Rattle.blocks.specs.Reading.{Bytes, Deserves-14}
+use Rattle.blocks.specs.Reading.{Deserves-14, Bytes}
 use Rattle.files.specs.Reading.{saidN, saidD, saidSteps, saidChecks, saidSubproblems, saidDomains, saidAllowed, saidSearch, tableWords, Deserves-15, refusalOfWords}
 use Rattle.blocks.specs.Tests.Whole.{refusalOfFile}
 use Rattle.files.specs.Calls.{Header-of, handedContent, saveRefusal, Saves, loadRefusal, Loads, Deserves-13, Deserves-12-load}

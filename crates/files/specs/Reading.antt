@@ -16,8 +16,9 @@ use Rattle.search.specs.FirstChecks.{Deserves-6}
 use Rattle.problem.specs.Tests.FirstChecks.{refusalOfNumbers, refusalOfProblem}
 use Rattle.search.specs.Tests.FirstChecks.{refusalOfSearch}
 use Rattle.blocks.specs.Blocks.{blocksFor}
-use Rattle.blocks.specs.Reading.{blocksIn, contentWord, contentFrom}
+use Rattle.blocks.specs.Reading.{blocksIn, contentWord, contentFrom, Deserves-14}
 use Rattle.blocks.specs.Lists.{each}
+unfoldable pub use Rattle.blocks.specs.Tests.Whole.{refusalOfFile}
 
 -- What the words say, in the order in which they stand.
 abbrev pub saidN : List ℕ → ℕ

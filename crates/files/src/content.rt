@@ -11,14 +11,19 @@ ghost use Rattle.files.specs.Reading.{triangleWords, agendaFrom, wordCou
 ghost use Rattle.files.specs.Calls.{handedContent};
 ghost use Rattle.problem.specs.Lists.{splice};
 ghost use Rattle.files.specs.Loops.Said.{Numbers, partIn};
-ghost use Rattle.files.specs.Loops.Saved.{zeros, Savable, header};
+ghost use Rattle.files.specs.Loops.Saved.{Savable, header};
+
+// The words before the domains, and how many subproblems a file has at most.
+pub(crate) const FIRST: usize = 9;
+
+pub(crate) const SUBPROBLEMS: usize = 512;
 
 // How many words of a content come before its agenda.
 pub(crate) fn agenda_from(n: usize, d: usize) -> usize
     requires { ⌜ Numbers n d ⌝ }
     ensures { λ r. ⌜ (r ≡ agendaFrom n d) × (r ≤ 7977) ⌝ }
 {
-    9 + n + n * (n - 1) / 2 * d
+    FIRST + n + n * (n - 1) / 2 * d
 }
 
 // How many words a content has.
@@ -38,7 +43,7 @@ pub(crate) fn slots(n: usize, d: usize, words: &[u16], count: usize) -> &[u16]
 }
 
 // The nine words before the domains: n, d, the steps in two words and the checks in four, high first, the number of subproblems.
-fn header(n: usize, d: usize, state: State) -> [u16; 9]
+fn header(n: usize, d: usize, state: State) -> [u16; FIRST]
     requires { ⌜ Numbers n d × (state .subproblems ≤ 512) ⌝ }
     ensures { λ r. ⌜ r ≡ header n d state ⌝ }
 {
@@ -89,12 +94,12 @@ pub(crate) fn put(
     state: State,
     words: &mut [u16],
 )
-    requires { ⌜ Savable n d (now domains) (now tables) (now agenda) state × (now words ≡ zeros 25553) ⌝ }
+    requires { ⌜ Savable n d (now domains) (now tables) (now agenda) state × (now words ≡ replicate 25553 0) ⌝ }
     ensures { λ r. ⌜ now (words .exit) ≡ handedContent n d (now (domains .entry)) (now (tables .entry)) (now (agenda .entry)) state ++ replicate (25553 - wordCount n d (state .subproblems)) 0 ⌝ }
 {
     let first = header(n, d, state);
     let used = state.subproblems * (n + 2);
-    let at = copying::put_at(&first[..9], words, 0);
+    let at = copying::put_at(&first[..FIRST], words, 0);
     let at = copying::put_at(domains, words, at);
     let at = put_masks(n, d, tables, words, at);
     copying::put_at(&agenda[..used], words, at);

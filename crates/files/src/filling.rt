@@ -1,14 +1,14 @@
 // What load writes: the tables in full, and the lent memory.
 use crate::content;
+use crate::content::FIRST;
 use crate::copying;
 use crate::said;
 use crate::saved::Header;
 ghost use mathlib.Core.Path.{_≡_};
 ghost use Prim.Native.Nat.{suc, _+_, _-_, _*_, _/_, _<_, _≤_};
-ghost use lib.ListN.{length};
+ghost use lib.ListN.{length, replicate};
 ghost use Rattle.problem.specs.Lists.{total, splice};
 ghost use Rattle.files.specs.Loops.Said.{Numbers, columnPart, rowPart, tablePart, partIn, slotsPart, Lent};
-ghost use Rattle.files.specs.Loops.Saved.{zeros};
 
 // Rows for columns, from `at` on: the masks of two variables the other way round; where they end.
 fn put_turned(rows: &[u16], masks: &mut [u16], at: usize) -> usize
@@ -44,7 +44,7 @@ fn after(words: &[u16], n: usize, d: usize, i: usize) -> &[u16]
 {
     copying::part(
         words,
-        9 + n + said::pairs_before(n, i) * d,
+        FIRST + n + said::pairs_before(n, i) * d,
         (n - (i + 1)) * d,
     )
 }
@@ -52,7 +52,7 @@ fn after(words: &[u16], n: usize, d: usize, i: usize) -> &[u16]
 // The tables, from the words of a content, in words that are zeros: the masks of each variable with those before it,
 // nothing for it with itself, then the rest; how many there are.
 pub(crate) fn put_tables(words: &[u16], n: usize, d: usize, masks: &mut [u16]) -> usize
-    requires { ⌜ Numbers n d × ((length (now words) ≡ 25553) × (now masks ≡ zeros 16384)) ⌝ }
+    requires { ⌜ Numbers n d × ((length (now words) ≡ 25553) × (now masks ≡ replicate 16384 0)) ⌝ }
     ensures { λ r. ⌜ (now (masks .exit) ≡ splice (now (masks .entry)) 0 (tablePart (now (words .entry)) n d n)) × (r ≡ n * (n * d)) ⌝ }
 {
     let mut i = 0;
@@ -77,7 +77,7 @@ pub(crate) fn put_search(
     requires { ⌜ Lent (header .n) (header .d) (header .state .subproblems) (now words) (now masks) (now domains) (now tables) (now agenda) ⌝ }
     ensures { λ r. ⌜ (now (domains .exit) ≡ partIn (now (words .entry)) 9 (header .n)) × ((now (tables .exit) ≡ now (masks .entry)) × (now (agenda .exit) ≡ slotsPart (now (words .entry)) (header .n) (header .d) (header .state .subproblems) (length (now (agenda .entry))))) ⌝ }
 {
-    copying::put_words(copying::part(words, 9, domains.len()), domains);
+    copying::put_words(copying::part(words, FIRST, domains.len()), domains);
     copying::put_words(masks, tables);
     let slots = content::slots(header.n, header.d, words, header.state.subproblems);
     let end = copying::put_at(slots, agenda, 0);

@@ -7,9 +7,9 @@ use search::state::Counts;
 use search::state::State;
 use search::state::Steps;
 ghost use mathlib.Core.Path.{_≡_};
+ghost use lib.ListN.{replicate};
 ghost use Rattle.files.specs.Calls.{Saves, Loads};
 ghost use Rattle.files.specs.Loops.Said.{Refused, Accepted, Read};
-ghost use Rattle.files.specs.Loops.Saved.{zeros};
 
 mod content;
 mod copying;
@@ -34,16 +34,16 @@ pub fn save(
     if refusal != 0 {
         return Saved { refusal, blocks: 0 };
     }
-    let blocks = (content::words(n, d, state.subproblems) + 252) / 253;
-    if file.len() < 512 * blocks {
+    let blocks = (content::words(n, d, state.subproblems) + 252) / blocks::CONTENT;
+    if file.len() < blocks::BYTES * blocks {
         return Saved {
             refusal: 13,
             blocks: 0,
         };
     }
     let mut words = room_for_content();
-    content::put(n, d, domains, tables, agenda, state, &mut words[..25553]);
-    blocks::writing::put_blocks(&words[..blocks * 253], file);
+    content::put(n, d, domains, tables, agenda, state, &mut words[..WORDS]);
+    blocks::writing::put_blocks(&words[..blocks * blocks::CONTENT], file);
     Saved { refusal: 0, blocks }
 }
 
@@ -78,17 +78,22 @@ fn accept(header: Header) -> Loaded
     }
 }
 
-// Room for the content of the largest file, 101 times 253 words, and for its tables.
-fn room_for_content() -> [u16; 25553]
-    ensures { λ r. ⌜ r ≡ zeros 25553 ⌝ }
+// The words of 101 blocks, and of the largest tables, 32 times 32 times 16.
+const WORDS: usize = 25553;
+
+const MASKS: usize = 16384;
+
+// Room for the content of the largest file, and for its tables.
+fn room_for_content() -> [u16; WORDS]
+    ensures { λ r. ⌜ r ≡ replicate 25553 0 ⌝ }
 {
-    [0; 25553]
+    [0; WORDS]
 }
 
-fn room_for_tables() -> [u16; 16384]
-    ensures { λ r. ⌜ r ≡ zeros 16384 ⌝ }
+fn room_for_tables() -> [u16; MASKS]
+    ensures { λ r. ⌜ r ≡ replicate 16384 0 ⌝ }
 {
-    [0; 16384]
+    [0; MASKS]
 }
 
 // Hands back what the file says and writes it into the lent memory; refused, changes nothing.
@@ -104,8 +109,8 @@ pub fn load(file: &[u8], domains: &mut [u16], tables: &mut [u16], agenda: &mut [
         return refuse(15);
     }
     let mut words = room_for_content();
-    blocks::reading::put_content(file, &mut words[..25553]);
-    load_content(header, file, &words[..25553], domains, tables, agenda)
+    blocks::reading::put_content(file, &mut words[..WORDS]);
+    load_content(header, file, &words[..WORDS], domains, tables, agenda)
 }
 
 // The same of a file whose sizes fit, with the words of its content.
@@ -121,7 +126,7 @@ fn load_content(
     ensures { λ r. ⌜ Loads (now (file .entry)) (now (domains .entry)) (now (domains .exit)) (now (tables .entry)) (now (tables .exit)) (now (agenda .entry)) (now (agenda .exit)) r ⌝ }
 {
     let mut room = room_for_tables();
-    let count = filling::put_tables(words, header.n, header.d, &mut room[..16384]);
+    let count = filling::put_tables(words, header.n, header.d, &mut room[..MASKS]);
     let masks = &room[..count];
     let refusal = reading::refusal(
         header,

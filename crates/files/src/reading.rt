@@ -1,5 +1,7 @@
 // Which refusal a file deserves past 14: 15, 3, 12.
 use crate::content;
+use crate::content::FIRST;
+use crate::content::SUBPROBLEMS;
 use crate::copying;
 use crate::saved::Header;
 ghost use mathlib.Core.Path.{_≡_};
@@ -16,7 +18,7 @@ fn numbers_fit(n: usize, d: usize, subproblems: usize) -> bool
     if search::first_checks::sizes_refusal(n, d, 0, 0, 0) != 3 {
         return false;
     }
-    subproblems <= 512
+    subproblems <= SUBPROBLEMS
 }
 
 // Whether every word of the content from one on is zero, of so many.
@@ -39,11 +41,11 @@ fn fills(file: &[u8], words: usize) -> bool
     requires { ⌜ words ≤ 25385 ⌝ }
     ensures { λ r. ⌜ r ≡ filled (now (file .entry)) words ⌝ }
 {
-    let blocks = file.len() / 512;
-    if blocks != (words + 252) / 253 {
+    let blocks = file.len() / blocks::BYTES;
+    if blocks != (words + 252) / blocks::CONTENT {
         return false;
     }
-    zeros_from(file, words, blocks * 253 - words)
+    zeros_from(file, words, blocks * blocks::CONTENT - words)
 }
 
 // Whether the numbers are in their ranges and the words that they say fill the blocks.
@@ -71,9 +73,9 @@ fn refusal_of_rules(header: Header, file: &[u8], words: &[u16], tables: &[u16]) 
     let refusal = search::first_checks::search_refusal(
         n,
         d,
-        copying::part(words, 9, n),
+        copying::part(words, FIRST, n),
         tables,
-        content::slots(n, d, words, 512),
+        content::slots(n, d, words, SUBPROBLEMS),
         state,
     );
     if refusal == 0 {

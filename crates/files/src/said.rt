@@ -1,4 +1,5 @@
 // What the first words of a file say, and where the masks stand.
+use crate::content::FIRST;
 use crate::saved::Header;
 use search::state::Checks;
 use search::state::Counts;
@@ -51,5 +52,5 @@ pub(crate) fn place(n: usize, d: usize, i: usize, j: usize) -> usize
     requires { ⌜ Numbers n d × ((i < j) × (j < n)) ⌝ }
     ensures { λ r. ⌜ (r ≡ 9 + n + trianglePlace n d i j 0) × (r + d ≤ 25553) ⌝ }
 {
-    9 + n + (pairs_before(n, i) + (j - (i + 1))) * d
+    FIRST + n + (pairs_before(n, i) + (j - (i + 1))) * d
 }

@@ -13,26 +13,22 @@ use Rattle.answer.proofs.at_most.Reads as at-most-reads
 use Rattle.answer.proofs.room_for_agenda.Reads as room-for-agenda-reads
 use Rattle.answer.proofs.room_for_domains.Reads as room-for-domains-reads
 use Rattle.answer.proofs.room_for_tables.Reads as room-for-tables-reads
-use Rattle.files.proofs.said.d.Reads as d-reads
-use Rattle.files.proofs.said.n.Reads as n-reads
+use Rattle.files.proofs.said.header_of.Reads as header-of-reads
 
-n-requires : tie.Need-n-requires
-n-requires c κs = search needs
+header-of-requires : tie.Need-header-of-requires
+header-of-requires c κs = search needs
 
 at-most-requires : tie.Need-at-most-requires
 at-most-requires c κs = search needs
-
-d-requires : tie.Need-d-requires
-d-requires c κs = search needs
 
 at-most-requires-2 : tie.Need-at-most-requires-2
 at-most-requires-2 c κs = search needs
 
 mul-masks : tie.Need-mul-masks
-mul-masks c = let few = pairs-few _ (c .before .before .at-most .ensures .1) in search (needs, few)
+mul-masks c = let few = pairs-few _ (c .before .at-most .ensures .1) in search (needs, few)
 
 mul-masks-2 : tie.Need-mul-masks-2
-mul-masks-2 c = let few = masks-few _ _ (c .before .before .at-most .ensures .1) (c .at-most2 .ensures .1) in search (needs, few)
+mul-masks-2 c = let few = masks-few _ _ (c .before .at-most .ensures .1) (c .at-most2 .ensures .1) in search (needs, few)
 
 add-room : tie.Need-add-room
 add-room c = search needs
@@ -54,18 +50,18 @@ array-borrow-prefix-domains c = search needs
 
 slice-aggregate-answer-in : tie.Need-slice-aggregate-answer-in
 slice-aggregate-answer-in c =
-    part-length _ 32 _ (c .before .before .before .room-for-domains .ensures) (c .before .before .before .before .before .before .at-most .ensures .1)
+    part-length _ 32 _ (c .before .before .before .room-for-domains .ensures) (c .before .before .before .before .before .at-most .ensures .1)
 
 array-borrow-prefix-tables : tie.Need-array-borrow-prefix-tables
 array-borrow-prefix-tables c =
-    let few = masks-few _ _ (c .before .before .before .before .before .before .at-most .ensures .1)
+    let few = masks-few _ _ (c .before .before .before .before .before .at-most .ensures .1)
     (c .before .before .before .before .at-most2 .ensures .1) in
     search (needs, few)
 
 slice-aggregate-answer-in-2 : tie.Need-slice-aggregate-answer-in-2
 slice-aggregate-answer-in-2 c =
     part-length _ 16384 _ (c .before .before .before .room-for-tables .ensures)
-    (masks-few _ _ (c .before .before .before .before .before .before .before .at-most .ensures .1)
+    (masks-few _ _ (c .before .before .before .before .before .before .at-most .ensures .1)
     (c .before .before .before .before .before .at-most2 .ensures .1))
 
 array-borrow-prefix-agenda : tie.Need-array-borrow-prefix-agenda
@@ -73,20 +69,21 @@ array-borrow-prefix-agenda c = search needs
 
 slice-aggregate-answer-in-3 : tie.Need-slice-aggregate-answer-in-3
 slice-aggregate-answer-in-3 c =
-    let few = c .before .before .before .before .before .before .before .before .at-most .ensures .1 in
+    let few = c .before .before .before .before .before .before .before .at-most .ensures .1 in
     part-length _ 17408 _ (c .before .before .before .room-for-agenda .ensures) (omega (arith, few))
 
 answer-in-requires : tie.Need-answer-in-requires
 answer-in-requires c κs =
-    let n-is = c .before .before .before .before .before .before .before .before .before .n .ensures in
-    let d-is = c .before .before .before .before .before .before .before .d .ensures in
-    lent (c .before .before .before .before .before .before .before .before .before .before .before .args .file .now)
-    (c .before .before .before .before .before .before .before .before .at-most .result)
+    let said = c .before .before .before .before .before .before .before .before .header-of .ensures in
+    let n-is = said .its-n in
+    let d-is = said .its-d in
+    lent (c .before .before .before .before .before .before .before .before .before .before .args .file .now)
+    (c .before .before .before .before .before .before .before .at-most .result)
     (c .before .before .before .before .before .before .at-most2 .result) (c .before .before .before .before .before .room-for-domains .result)
     (c .before .before .before .before .room-for-tables .result) (c .before .before .before .room-for-agenda .result)
-    (λ h. c .before .before .before .before .before .before .before .before .at-most .ensures .0 (omega (arith, n-is, h)) ∙ n-is)
+    (λ h. c .before .before .before .before .before .before .before .at-most .ensures .0 (omega (arith, n-is, h)) ∙ n-is)
     (λ h. c .before .before .before .before .before .before .at-most2 .ensures .0 (omega (arith, d-is, h)) ∙ d-is)
-    (c .before .before .before .before .before .before .before .before .at-most .ensures .1)
+    (c .before .before .before .before .before .before .before .at-most .ensures .1)
     (c .before .before .before .before .before .before .at-most2 .ensures .1)
     (c .before .before .before .before .before .room-for-domains .ensures) (c .before .before .before .before .room-for-tables .ensures)
     (c .before .before .before .room-for-agenda .ensures)
@@ -98,9 +95,8 @@ pub answer-to-spec : {M : Type 1} → statement M
 answer-to-spec =
     tie.close
     (tie.spec
-    n-requires
+    header-of-requires
     at-most-requires
-    d-requires
     at-most-requires-2
     mul-masks
     mul-masks-2

@@ -4,7 +4,7 @@ use mathlib.Core.Path.{sym, _∙_}
 use native.Mathlib.Omega.{arith}
 use borrow.Author.Needs.{needs}
 use Rattle.blocks.proofs.Whole.{refusal-is}
-use Rattle.files.proofs.Refused.{refused-14, refused-sizes}
+use Rattle.files.proofs.reading.Refused.{refused-14, refused-sizes}
 use Rattle.files.proofs.LoadOutcomes.{load-refused, load-read}
 use Rattle.files.proofs.load.Statement.{statement}
 use Rattle.files.proofs.load.Tie as tie

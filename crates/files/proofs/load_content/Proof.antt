@@ -2,7 +2,7 @@
 -- Assumes nothing.
 use native.Mathlib.Omega.{arith}
 use borrow.Author.Needs.{needs}
-use Rattle.files.proofs.Refused.{read-numbers}
+use Rattle.files.proofs.reading.Refused.{read-numbers}
 use Rattle.files.proofs.LoadOutcomes.{load-refused, made-ready, made-count, made-fits, load-lent, load-accepted}
 use Rattle.files.proofs.load_content.Statement.{statement}
 use Rattle.files.proofs.load_content.Tie as tie

@@ -1,12 +1,10 @@
 -- `room_for_content` meets its contract.
 -- Assumes nothing.
 use mathlib.Core.Path.{refl}
-use Rattle.files.specs.Loops.Saved.{zeros}
 use Rattle.files.proofs.room_for_content.Statement.{statement}
 use Rattle.files.proofs.room_for_content.Tie as tie
 
 returns : tie.Need-returns
-unfolding zeros
 returns c = refl
 
 pub room-for-content-spec : {M : Type 1} → statement M

@@ -1,12 +1,10 @@
 -- `room_for_tables` meets its contract.
 -- Assumes nothing.
 use mathlib.Core.Path.{refl}
-use Rattle.files.specs.Loops.Saved.{zeros}
 use Rattle.files.proofs.room_for_tables.Statement.{statement}
 use Rattle.files.proofs.room_for_tables.Tie as tie
 
 returns : tie.Need-returns
-unfolding zeros
 returns c = refl
 
 pub room-for-tables-spec : {M : Type 1} → statement M

@@ -4,7 +4,7 @@ use mathlib.Core.Path.{refl, sym, _∙_}
 use native.Mathlib.Omega.{arith}
 use borrow.Author.Needs.{needs}
 use Rattle.files.proofs.SaveOutcomes.{save-passed, save-refused, save-short, save-written, save-part}
-use Rattle.files.proofs.Filled.{zeros-long}
+use Rattle.files.proofs.filling.Filled.{zeros-long}
 use Rattle.files.proofs.save.Statement.{statement}
 use Rattle.files.proofs.save.Tie as tie
 
@@ -47,7 +47,7 @@ array-share-prefix-words c = search needs
 slice-aggregate-put-blocks : tie.Need-slice-aggregate-put-blocks
 slice-aggregate-put-blocks c =
     let put = c .before .before in
-    let long = put .put .kept .1 .1 .1 .1 .1 .1 .0 ∙ zeros-long _ _ (put .before .before .room-for-content .ensures) in
+    let long = put .put .kept .1 .1 .1 .1 .1 .1 .0 ∙ zeros-long _ 25553 (put .before .before .room-for-content .ensures) in
     save-part _ _ long (c .before .before .before .before .before .before .words .ensures .1)
 
 put-blocks-requires : tie.Need-put-blocks-requires

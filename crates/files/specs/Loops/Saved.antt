@@ -1,15 +1,11 @@
--- Words that are zeros, and what save hands on from function to function.
+-- What save hands on from function to function.
 use mathlib.Core.Path.{_≡_}
 use mathlib.Core.List.{List, [], _∷_}
 use Prim.Native.Nat.{ℕ, _+_, _*_, _/_, _%_, _^_, _≤_}
-use lib.ListN.{length, replicate}
+use lib.ListN.{length}
 use Rattle.search.specs.declared.state.State.{State}
 use Rattle.files.specs.Content.{firstWord}
 use Rattle.files.specs.Loops.Said.{Numbers}
-
--- Words that are zeros.
-unfoldable pub zeros : ℕ → List ℕ
-zeros words = replicate words 0
 
 -- What the first checks leave.
 pub record Savable (n d : ℕ) (domains tables agenda : List ℕ) (s : State) : Type 0 where

@@ -3,7 +3,7 @@
 use borrow.Author.Needs.{needs}
 use mathlib.Core.Path.{refl}
 use native.Mathlib.Omega.{arith}
-use Rattle.files.proofs.Mirrors.{square-few, triangle-few}
+use Rattle.files.proofs.filling.Mirrors.{square-few, triangle-few}
 use Rattle.files.proofs.content.agenda_from.Statement.{statement}
 use Rattle.files.proofs.content.agenda_from.Tie as tie
 

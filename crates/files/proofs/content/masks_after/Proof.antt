@@ -1,7 +1,7 @@
 -- `content::masks_after` meets its contract.
 -- Assumes nothing.
 use borrow.Author.Needs.{needs}
-use Rattle.files.proofs.Written.{row-in}
+use Rattle.files.proofs.content.Written.{row-in}
 use Rattle.files.proofs.content.masks_after.Statement.{statement}
 use Rattle.files.proofs.content.masks_after.Tie as tie
 

@@ -3,8 +3,8 @@
 use borrow.Author.Needs.{needs}
 use mathlib.Core.Path.{sym, _∙_}
 use native.Mathlib.Omega.{arith}
-use Rattle.files.proofs.Filled.{zeros-long}
-use Rattle.files.proofs.Written.{used-length, few, content-put}
+use Rattle.files.proofs.filling.Filled.{zeros-long}
+use Rattle.files.proofs.content.Written.{used-length, few, content-put}
 use Rattle.files.proofs.content.put.Statement.{statement}
 use Rattle.files.proofs.content.put.Tie as tie
 
@@ -25,18 +25,18 @@ slice-aggregate-put-at c = search needs
 put-at-requires : tie.Need-put-at-requires
 put-at-requires c κs =
     let pre = c .before .before .before .before .before .before .before .before .pre in
-    omega (arith, zeros-long _ _ (pre .1))
+    omega (arith, zeros-long _ 25553 (pre .1))
 
 put-at-requires-2 : tie.Need-put-at-requires-2
 put-at-requires-2 c κs =
     let pre = c .before .before .before .before .before .before .before .before .before .before .before .before .pre in
-    omega (arith, zeros-long _ _ (pre .1), few _ _ _ _ _ _ (pre .0))
+    omega (arith, zeros-long _ 25553 (pre .1), few _ _ _ _ _ _ (pre .0))
 
 put-masks-requires : tie.Need-put-masks-requires
 put-masks-requires c κs =
     let pre = c .before .before .before .before .before .before .before .before .before .before .before .before .before .before .before .before .pre
     in
-    (pre .0 .numbers, (pre .0 .tables-words, omega (arith, zeros-long _ _ (pre .1), few _ _ _ _ _ _ (pre .0))))
+    (pre .0 .numbers, (pre .0 .tables-words, omega (arith, zeros-long _ 25553 (pre .1), few _ _ _ _ _ _ (pre .0))))
 
 slice-aggregate-put-at-2 : tie.Need-slice-aggregate-put-at-2
 slice-aggregate-put-at-2 c =
@@ -48,7 +48,7 @@ put-at-requires-3 : tie.Need-put-at-requires-3
 put-at-requires-3 c κs =
     let pre = c .before .before .before .before .before .before .before .before .before .before .before .before .before .before .before .before
     .before .before .before .before .before .pre in
-    omega (arith, zeros-long _ _ (pre .1), few _ _ _ _ _ _ (pre .0), used-length _ _ _ _ _ _ (pre .0))
+    omega (arith, zeros-long _ 25553 (pre .1), few _ _ _ _ _ _ (pre .0), used-length _ _ _ _ _ _ (pre .0))
 
 same-length : tie.Need-same-length
 same-length c =

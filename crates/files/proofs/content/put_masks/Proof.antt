@@ -5,8 +5,8 @@ use Prim.Native.Nat.{_-_, _≤_}
 use native.Mathlib.Omega.{arith}
 use Rattle.problem.specs.Problem.{tableOf}
 use Rattle.files.proofs.Triangle.{row}
-use Rattle.files.proofs.Filled.{Passed, passed-none}
-use Rattle.files.proofs.Written.{row-room, rows-more, rows-end}
+use Rattle.files.proofs.filling.Filled.{Passed, passed-none}
+use Rattle.files.proofs.content.Written.{row-room, rows-more, rows-end}
 use Rattle.files.proofs.content.put_masks.Statement.{statement}
 use Rattle.files.proofs.content.put_masks.Tie as tie
 

@@ -1,7 +1,7 @@
 -- `content::slots` meets its contract.
 -- Assumes nothing.
 use borrow.Author.Needs.{needs}
-use Rattle.files.proofs.Mirrors.{slots-fit, slots-within, slots-found}
+use Rattle.files.proofs.filling.Mirrors.{slots-fit, slots-within, slots-found}
 use Rattle.files.proofs.content.slots.Statement.{statement}
 use Rattle.files.proofs.content.slots.Tie as tie
 

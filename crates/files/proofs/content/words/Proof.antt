@@ -4,7 +4,7 @@ use borrow.Author.Needs.{needs}
 use mathlib.Core.Path.{ap}
 use Prim.Native.Nat.{ℕ, _+_, _*_}
 use native.Mathlib.Omega.{arith}
-use Rattle.files.proofs.Mirrors.{slots-few}
+use Rattle.files.proofs.filling.Mirrors.{slots-few}
 use Rattle.files.proofs.content.words.Statement.{statement}
 use Rattle.files.proofs.content.words.Tie as tie
 

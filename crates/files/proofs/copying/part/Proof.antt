@@ -2,7 +2,7 @@
 -- Assumes nothing.
 use borrow.Author.Needs.{needs}
 use mathlib.Core.Path.{refl}
-use Rattle.files.proofs.Mirrors.{part-in, part-long}
+use Rattle.files.proofs.filling.Mirrors.{part-in, part-long}
 use Rattle.files.proofs.copying.part.Statement.{statement}
 use Rattle.files.proofs.copying.part.Tie as tie
 

@@ -7,7 +7,7 @@ use Prim.Native.Nat.{_-_, _≤_}
 use native.Mathlib.Omega.{arith}
 use lib.ListN.{length, take, drop, length-set}
 use Rattle.problem.proofs.Copies.{copy-more}
-use Rattle.files.proofs.Filled.{copy-whole}
+use Rattle.files.proofs.filling.Filled.{copy-whole}
 use Rattle.files.proofs.copying.put_each.Statement.{statement}
 use Rattle.files.proofs.copying.put_each.Tie as tie
 

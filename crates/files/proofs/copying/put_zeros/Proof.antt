@@ -4,7 +4,7 @@ use borrow.Author.Needs.{needs}
 use Prim.Native.Nat.{_-_}
 use native.Mathlib.Omega.{arith}
 use lib.ListN.{length}
-use Rattle.files.proofs.Filled.{Zeroed, zeroed-none, zeroed-more, zeroed-end}
+use Rattle.files.proofs.filling.Filled.{Zeroed, zeroed-none, zeroed-more, zeroed-end}
 use Rattle.files.proofs.copying.put_zeros.Statement.{statement}
 use Rattle.files.proofs.copying.put_zeros.Tie as tie
 

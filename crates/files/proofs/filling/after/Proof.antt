@@ -2,7 +2,7 @@
 -- Assumes nothing.
 use borrow.Author.Needs.{needs}
 use native.Mathlib.Omega.{arith}
-use Rattle.files.proofs.Filled.{after-read, after-fits}
+use Rattle.files.proofs.filling.Filled.{after-read, after-fits}
 use Rattle.files.proofs.filling.after.Statement.{statement}
 use Rattle.files.proofs.filling.after.Tie as tie
 

@@ -4,7 +4,7 @@ use borrow.Author.Needs.{needs}
 use Prim.Native.Nat.{_-_, _≤_}
 use native.Mathlib.Omega.{arith}
 use Rattle.files.specs.Loops.Said.{pairPart}
-use Rattle.files.proofs.Filled.{Passed, passed-none, pair-room, pairs-more, pairs-end}
+use Rattle.files.proofs.filling.Filled.{Passed, passed-none, pair-room, pairs-more, pairs-end}
 use Rattle.files.proofs.filling.put_before.Statement.{statement}
 use Rattle.files.proofs.filling.put_before.Tie as tie
 

@@ -3,8 +3,8 @@
 use mathlib.Core.Path.{_∙_}
 use native.Mathlib.Omega.{arith}
 use borrow.Author.Needs.{needs}
-use Rattle.files.proofs.Filled.{padded-put}
-use Rattle.files.proofs.Mirrors.{domains-put, slots-room, slots-put}
+use Rattle.files.proofs.filling.Filled.{padded-put}
+use Rattle.files.proofs.filling.Mirrors.{domains-put, slots-room, slots-put}
 use Rattle.files.proofs.filling.put_search.Statement.{statement}
 use Rattle.files.proofs.filling.put_search.Tie as tie
 

@@ -4,7 +4,7 @@ use borrow.Author.Needs.{needs}
 use Prim.Native.Nat.{_-_, _≤_}
 use native.Mathlib.Omega.{arith}
 use Rattle.files.specs.Loops.Said.{rowPart}
-use Rattle.files.proofs.Filled.{Passed, passed-none, before-room, own-fits, after-room, rows-more, tables-end}
+use Rattle.files.proofs.filling.Filled.{Passed, passed-none, before-room, own-fits, after-room, rows-more, tables-end}
 use Rattle.files.proofs.filling.put_tables.Statement.{statement}
 use Rattle.files.proofs.filling.put_tables.Tie as tie
 

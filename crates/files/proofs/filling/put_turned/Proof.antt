@@ -5,7 +5,7 @@ use mathlib.Core.Path.{sym}
 use native.Mathlib.Omega.{arith}
 use lib.ListN.{length-take}
 use lib.Seq.{length-take-le}
-use Rattle.files.proofs.Mirrors.{columns-put}
+use Rattle.files.proofs.filling.Mirrors.{columns-put}
 use Rattle.files.proofs.filling.put_turned.Statement.{statement}
 use Rattle.files.proofs.filling.put_turned.Tie as tie
 

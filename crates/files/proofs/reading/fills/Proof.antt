@@ -1,7 +1,7 @@
 -- `reading::fills` meets its contract.
 -- Assumes nothing.
 use borrow.Author.Needs.{needs}
-use Rattle.files.proofs.Found.{filled-not, filled-zeros}
+use Rattle.files.proofs.reading.Found.{filled-not, filled-zeros}
 use Rattle.files.proofs.reading.fills.Statement.{statement}
 use Rattle.files.proofs.reading.fills.Tie as tie
 

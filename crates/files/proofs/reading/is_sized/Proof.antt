@@ -1,7 +1,7 @@
 -- `reading::is_sized` meets its contract.
 -- Assumes nothing.
 use borrow.Author.Needs.{needs}
-use Rattle.files.proofs.Refused.{numbers-found, sized-numbers-not, sized-blocks}
+use Rattle.files.proofs.reading.Refused.{numbers-found, sized-numbers-not, sized-blocks}
 use Rattle.files.proofs.reading.is_sized.Statement.{statement}
 use Rattle.files.proofs.reading.is_sized.Tie as tie
 

@@ -1,7 +1,7 @@
 -- `reading::numbers_fit` meets its contract.
 -- Assumes nothing.
 use borrow.Author.Needs.{needs}
-use Rattle.files.proofs.Found.{numbers-bad, numbers-good}
+use Rattle.files.proofs.reading.Found.{numbers-bad, numbers-good}
 use Rattle.files.proofs.reading.numbers_fit.Statement.{statement}
 use Rattle.files.proofs.reading.numbers_fit.Tie as tie
 

@@ -3,7 +3,7 @@
 use mathlib.Core.Path.{sym, _∙_}
 use native.Mathlib.Omega.{arith}
 use borrow.Author.Needs.{needs}
-use Rattle.files.proofs.Refused.{refused-15, refused-3, slots-last, twelve, none-left, read-numbers}
+use Rattle.files.proofs.reading.Refused.{refused-15, refused-3, slots-last, twelve, none-left, read-numbers}
 use Rattle.files.proofs.reading.refusal.Statement.{statement}
 use Rattle.files.proofs.reading.refusal.Tie as tie
 

@@ -2,8 +2,8 @@
 -- Assumes nothing.
 use native.Mathlib.Omega.{arith}
 use borrow.Author.Needs.{needs}
-use Rattle.files.proofs.Refused.{read-numbers}
-use Rattle.files.proofs.Checked.{rules-kept, rules-broken}
+use Rattle.files.proofs.reading.Refused.{read-numbers}
+use Rattle.files.proofs.reading.Checked.{rules-kept, rules-broken}
 use Rattle.files.proofs.reading.refusal_of_rules.Statement.{statement}
 use Rattle.files.proofs.reading.refusal_of_rules.Tie as tie
 

@@ -8,7 +8,7 @@ use mathlib.Core.Bool.{true}
 use Rattle.problem.specs.Lists.{every}
 use Rattle.problem.proofs.FirstLoops.{every-start, every-end}
 use Rattle.files.specs.Loops.Said.{zeroIn}
-use Rattle.files.proofs.Found.{zero-stop, zero-turn}
+use Rattle.files.proofs.reading.Found.{zero-stop, zero-turn}
 use Rattle.files.proofs.reading.zeros_from.Statement.{statement}
 use Rattle.files.proofs.reading.zeros_from.Tie as tie
 

@@ -2,7 +2,7 @@
 -- Assumes nothing.
 use borrow.Author.Needs.{needs}
 use native.Mathlib.Omega.{arith}
-use Rattle.files.proofs.Mirrors.{pairs}
+use Rattle.files.proofs.filling.Mirrors.{pairs}
 use Rattle.files.proofs.said.pairs_before.Statement.{statement}
 use Rattle.files.proofs.said.pairs_before.Tie as tie
 

@@ -2,7 +2,7 @@
 -- Assumes nothing.
 use borrow.Author.Needs.{needs}
 use native.Mathlib.Omega.{arith}
-use Rattle.files.proofs.Mirrors.{place-within, place-made}
+use Rattle.files.proofs.filling.Mirrors.{place-within, place-made}
 use Rattle.files.proofs.said.place.Statement.{statement}
 use Rattle.files.proofs.said.place.Tie as tie
 

@@ -23,13 +23,13 @@ use Rattle.blocks.specs.Reading.{blockWord, headOf}
 use Rattle.files.specs.Reading.{triangleWords, wordCount}
 use Rattle.files.specs.Loops.Said.{Numbers, partIn}
 use Rattle.files.specs.Calls.{handedContent}
-use Rattle.files.specs.Loops.Saved.{zeros, Savable, header}
+use Rattle.files.specs.Loops.Saved.{Savable, header}
 use Rattle.blocks.proofs.Lists.{map-is, each-length, total-below, seq, seq-is, padded-at}
 use Rattle.blocks.proofs.Words.{bytes-length, bytes-append, word-read}
 use Rattle.files.proofs.Triangle.{rest, rest-total, total-mul, row, row-length, row-words, triangle-rows, triangle-length}
 use Rattle.blocks.proofs.Blocks.{content-length, content-at, headed-length, block-length, block-headed, block-check, blocks-length}
-use Rattle.files.proofs.Mirrors.{triangle-few, slots-few, part-at, part-long}
-use Rattle.files.proofs.Filled.{zeros-long, front-of-zeros, Passed, passed-more, tables-few}
+use Rattle.files.proofs.filling.Mirrors.{triangle-few, slots-few, part-at, part-long}
+use Rattle.files.proofs.filling.Filled.{zeros-long, front-of-zeros, Passed, passed-more, tables-few}
 
 -- ---- the words of the tables
 
@@ -172,7 +172,7 @@ module _ (n d : ℕ) (domains tables agenda : List ℕ) (s : State) (hands : Sav
         rw (length-stackOf n agenda (s .subproblems), stack-of-words n agenda (s .subproblems) (hands .agenda-words) small) refl
 
     -- Written one after the other where zeros stood, they are the content, and zeros after it.
-    pub content-put : (l l₁ l₂ l₃ l₄ first : List ℕ) (a b c : ℕ) → l ≡ zeros 25553 → first ≡ header n d s
+    pub content-put : (l l₁ l₂ l₃ l₄ first : List ℕ) (a b c : ℕ) → l ≡ replicate 25553 0 → first ≡ header n d s
         → (l₁ ≡ splice l 0 first) × (a ≡ 0 + length first)
         → (l₂ ≡ splice l₁ a domains) × (b ≡ a + length domains) → (l₃ ≡ splice l₂ b masks) × (c ≡ b + triangleWords n d) → l₄ ≡ splice l₃ c slots
         → l₄ ≡ handedContent n d domains tables agenda s ++ replicate (25553 - wordCount n d (s .subproblems)) 0

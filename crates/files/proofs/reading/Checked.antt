@@ -36,9 +36,9 @@ use Rattle.files.proofs.Tables.{rules-agree}
 use Rattle.files.proofs.RoundTrip.{said-shape, said-length}
 use Rattle.files.proofs.Loading.{said-passing}
 use Rattle.blocks.proofs.Contents.{length-from, from-small}
-use Rattle.files.proofs.Mirrors.{part-at, part-long, triangle-few}
+use Rattle.files.proofs.filling.Mirrors.{part-at, part-long, triangle-few}
 use Rattle.blocks.proofs.reading.Filled.{content-past}
-use Rattle.files.proofs.Refused.{sized-numbers, read-numbers}
+use Rattle.files.proofs.reading.Refused.{sized-numbers, read-numbers}
 
 -- ---- parts of the words read
 

@@ -19,11 +19,10 @@ use Rattle.blocks.specs.Reading.{blocksIn, contentWord, contentFrom}
 use Rattle.blocks.specs.Calls.{Put-content}
 use Rattle.files.specs.Reading.{trianglePlace}
 use Rattle.files.specs.Loops.Said.{Numbers, allowedIn, columnPart, pairPart, rowPart, afterPart, tablePart, partIn}
-use Rattle.files.specs.Loops.Saved.{zeros}
 use Rattle.blocks.proofs.Lists.{map-length, map-at, map-is, map-same, each-more, each-same, each-split, each-one, each-length, total-const, seq, seq-is, seq-each, seq-join}
 use Rattle.blocks.proofs.Contents.{content-from, length-from}
 use Rattle.blocks.proofs.reading.Filled.{from-join, content-past}
-use Rattle.files.proofs.Mirrors.{after-within, part-at, pair-turned, pair-zeros, mask-at}
+use Rattle.files.proofs.filling.Mirrors.{after-within, part-at, pair-turned, pair-zeros, mask-at}
 
 -- A copy is what was copied.
 pub copy-whole : (src l m : List ℕ) (k : ℕ) → m ≡ take k src ++ drop k l → k ≡ length src → length src ≡ length l → m ≡ src
@@ -34,13 +33,12 @@ copy-whole src l m k e s h =
 -- ---- zeros, and words written in their place
 
 -- So many zeros are so many words.
-pub zeros-long : (l : List ℕ) (k : ℕ) → l ≡ zeros k → length l ≡ k
-unfolding zeros
+pub zeros-long : (l : List ℕ) (k : ℕ) → l ≡ replicate k 0 → length l ≡ k
 zeros-long l k e = ap length e ∙ length-replicate k 0
 
 -- What is written in front of zeros has the others after it.
-pub front-of-zeros : (p : List ℕ) (k : ℕ) → splice (zeros k) 0 p ≡ p ++ replicate (k - length p) 0
-unfolding splice zeros
+pub front-of-zeros : (p : List ℕ) (k : ℕ) → splice (replicate k 0) 0 p ≡ p ++ replicate (k - length p) 0
+unfolding splice
 front-of-zeros p k = ap (λ (x : List ℕ). p ++ x) (ap (λ (j : ℕ). drop j (replicate k 0)) (zero-add (length p)) ∙ drop-zeros k (length p))
 
 -- All words are written anew.
@@ -157,9 +155,8 @@ content-says file words blocks e h s k = elim (decLt k 25553) [
 ]
 
 -- What is read of the blocks of a whole file into zeros.
-pub content-read : (file l m : List ℕ) → l ≡ zeros 25553 → length file ≡ blocksIn file * 512 → blocksIn file ≤ 101 → Put-content file l m
+pub content-read : (file l m : List ℕ) → l ≡ replicate 25553 0 → length file ≡ blocksIn file * 512 → blocksIn file ≤ 101 → Put-content file l m
     → m ≡ contentFrom file 0 25553
-unfolding zeros
 content-read file l m z whole few put =
     let room : blocksIn file * 253 ≤ length l = omega (arith, zeros-long l 25553 z) in
     (rw (le-leb (blocksIn file * 253) (length l) room) at put)
@@ -253,7 +250,7 @@ module _ (words : List ℕ) (n d i : ℕ) where
 -- ---- the tables
 
 -- Zeros are passed over.
-zeros-passed : (p : List ℕ) (k d : ℕ) → length p + d ≤ k → splice (zeros k) 0 p ≡ splice (zeros k) 0 (p ++ replicate d 0)
+zeros-passed : (p : List ℕ) (k d : ℕ) → length p + d ≤ k → splice (replicate k 0) 0 p ≡ splice (replicate k 0) 0 (p ++ replicate d 0)
 zeros-passed p k d h =
     front-of-zeros p k ∙ ap (λ (j : ℕ). p ++ replicate j 0) left ∙ both (k - length (p ++ replicate d 0)) ∙ sym
     (front-of-zeros (p ++ replicate d 0) k)
@@ -271,7 +268,7 @@ module _ (words : List ℕ) (n d : ℕ) where
   table-length i = each-length (λ k. rowPart words n d k n) (λ k. n * d) i (λ k l. row-length words n d k n) ∙ total-const i (n * d)
 
   -- One row more in memory: the masks of i with those before it, nothing with itself, the rest.
-  module _ (l m : List ℕ) (i end : ℕ) (z : l ≡ zeros 16384) (s : Numbers n d) (h : i < n) (inv : Passed (λ k. rowPart words n d k n) l 0 m i end) where
+  module _ (l m : List ℕ) (i end : ℕ) (z : l ≡ replicate 16384 0) (s : Numbers n d) (h : i < n) (inv : Passed (λ k. rowPart words n d k n) l 0 m i end) where
     rows-ends : end ≡ i * (n * d)
     unfolding tablePart
     rows-ends = inv .ends ∙ omega (arith, table-length i)

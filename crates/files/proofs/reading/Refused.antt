@@ -59,8 +59,7 @@ module _ (file : List ℕ) where
     numbers-said e =
         let one : Bool = eqb (refusalOfNumbers (saidN file) (saidD file)) 0 in
         let two : Bool = leb (saidSubproblems file) 512 in
-        let passed = numbers-pass (saidN file) (saidD file) (eqb-true (refusalOfNumbers (saidN file) (saidD file)) 0 (and-left one two e)) in
-        (
+        let passed = numbers-pass (saidN file) (saidD file) (eqb-true (refusalOfNumbers (saidN file) (saidD file)) 0 (and-left one two e)) in (
           record {
             some-variable = rw is-n (passed .some-variable);
             variables = rw is-n (passed .variables);
