@@ -129,7 +129,7 @@ def promises_proved(faults):
     count = 0
     for specs in sorted(TOP.glob("crates/*/specs/Promises.antt")):
         proofs = specs.parent.parent / "proofs/Promises.antt"
-        stated = set(re.findall(r"(?m)^abbrev pub (\S+) : Type 0$", specs.read_text()))
+        stated = set(re.findall(r"(?m)^abbrev pub (\S+) : Type [01]$", specs.read_text()))
         proved = dict(re.findall(r"(?m)^pub (\S+) : (\S+)$", text_of(proofs)))
         count += len(proved)
         for name, of in sorted(proved.items()):

@@ -17,7 +17,8 @@ use Rattle.search.specs.Agenda.{holding}
 use Rattle.search.specs.Slots.{slots, Search}
 use Rattle.search.specs.Tests.FirstChecks.{wholeSlots, refusalOfLengths}
 use Rattle.searches.specs.Verdicts.{ascii, wordOf, verdictOf, finished}
-use Rattle.searches.specs.Runs.{checksOfTop, step, refusalOfTop, refusalOfRequest}
+use Rattle.searches.specs.Steps.{checksOfTop, step}
+use Rattle.searches.specs.Tests.Refusal.{refusalOfTop, refusalOfRequest}
 use Rattle.searches.specs.Machines.{splitTop}
 use Rattle.searches.specs.Chooser.{fewestOf, chosenOf, chosen, chooseFrom, choose}
 use Rattle.search.specs.Calls.{opening, begun}

@@ -8,7 +8,7 @@ use search::state::Opened;
 use search::state::Ran;
 use search::state::State;
 use search::state::Steps;
-use search::state::Verdict;
+use searches::verdict::Verdict;
 
 // The ring: four variables, d 3, neighbours 0-1, 1-2, 2-3, 3-0 unequal.
 const RING: [u16; 48] = [

@@ -21,7 +21,9 @@ use Rattle.splits.specs.declared.subproblem.Subproblem.{Subproblem}
 use Rattle.problem.proofs.Tests.{every-at, every-all, same-test}
 use Rattle.search.specs.Agenda.{subproblemOf, slotAt, stackOf, slotsIn, stackWords, agendaOf}
 use Rattle.search.specs.Slots.{slots, Search, Stopped}
-use Rattle.searches.specs.Runs.{stop, step, refusalOfTop, refusalOfRequest, runFrom, run, requestsIn}
+use Rattle.searches.specs.Steps.{stop, step}
+use Rattle.searches.specs.Tests.Refusal.{refusalOfTop, refusalOfRequest}
+use Rattle.searches.specs.Runs.{runFrom, run, requestsIn}
 use Rattle.searches.specs.Machines.{splitTop}
 use Rattle.search.specs.Tests.FirstChecks.{refusalOfLengths, zerosFrom, refusalOfSearch, runRefusal}
 use Rattle.search.specs.Calls.{searchOf, Ends, Runs}
@@ -83,7 +85,7 @@ module _ (p : Problem) where
   split-few r (P ∷ S) = rw length-append (omega (arith, pieces-few (p .n) (p .allowed) P r))
 
   module _ (room room′ : ℕ) (more : room ≤ room′) where
-    top-roomy : (r : List ℕ) (S : List Subproblem) → length S + (p .n + 1) ≤ room 
+    top-roomy : (r : List ℕ) (S : List Subproblem) → length S + (p .n + 1) ≤ room
         → refusalOfTop p (slots room′ .full p r S) r S ≡ refusalOfTop p (slots room .full p r S) r S
     unfolding refusalOfTop
     top-roomy r [] l = refl

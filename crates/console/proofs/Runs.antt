@@ -19,7 +19,8 @@ use Rattle.splits.specs.declared.subproblem.Subproblem.{Subproblem}
 use Rattle.search.specs.Agenda.{stackOf, stackWords, slotsIn, agendaOf}
 use Rattle.search.specs.Slots.{slots, Search, Stopped}
 use Rattle.searches.specs.Verdicts.{numberOf, finished, verdictOf}
-use Rattle.searches.specs.Runs.{stop, step, run, requestsIn}
+use Rattle.searches.specs.Steps.{stop, step}
+use Rattle.searches.specs.Runs.{run, requestsIn}
 use Rattle.searches.specs.Machines.{splitTop}
 use Rattle.search.specs.FirstChecks.{WholeRequests}
 use Rattle.search.specs.Tests.FirstChecks.{runRefusal}

@@ -25,7 +25,9 @@ use Rattle.splitting.proofs.Splitting.{lowest-in}
 use Rattle.splits.proofs.Apart.{precluded-same}
 use Rattle.search.specs.Slots.{slots, Search, Stopped}
 use Rattle.searches.specs.Verdicts.{finished}
-use Rattle.searches.specs.Runs.{stop, step, refusalOfTop, refusalOfRequest, runFrom, run}
+use Rattle.searches.specs.Steps.{stop, step}
+use Rattle.searches.specs.Tests.Refusal.{refusalOfTop, refusalOfRequest}
+use Rattle.searches.specs.Runs.{runFrom, run}
 use Rattle.searches.specs.Machines.{splitTop}
 use Rattle.searches.specs.Chooser.{fewestOf, fewest, request, chosenOf, chosen, chooseFrom, choose}
 use Rattle.searches.specs.Reached.{Passes}

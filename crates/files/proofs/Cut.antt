@@ -14,7 +14,9 @@ use Rattle.search.specs.Slots.{slots, Search, Stopped}
 use Rattle.search.specs.FirstChecks.{WholeRequests}
 use Rattle.search.specs.Tests.FirstChecks.{runRefusal, searchRefusal}
 use Rattle.searches.specs.Verdicts.{verdictOf, finished}
-use Rattle.searches.specs.Runs.{stop, step, refusalOfRequest, run, requestsIn}
+use Rattle.searches.specs.Steps.{stop, step}
+use Rattle.searches.specs.Tests.Refusal.{refusalOfRequest}
+use Rattle.searches.specs.Runs.{run, requestsIn}
 use Rattle.searches.specs.Chooser.{chosen, chooseFrom, choose}
 use Rattle.search.specs.Calls.{searchOf, Ends, Runs, Chooses}
 use Rattle.search.specs.Promises.{Handed, Leaves}

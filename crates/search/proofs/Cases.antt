@@ -14,7 +14,9 @@ use Rattle.problem.proofs.Lists.{each-more, each-none}
 use Rattle.search.specs.Agenda.{holding}
 use Rattle.searches.specs.Verdicts.{finished, verdictOf}
 use Rattle.searches.specs.Machines.{splitTop}
-use Rattle.searches.specs.Runs.{checksOfTop, step, refusalOfTop, refusalOfRequest, runFrom}
+use Rattle.searches.specs.Steps.{checksOfTop, step}
+use Rattle.searches.specs.Tests.Refusal.{refusalOfTop, refusalOfRequest}
+use Rattle.searches.specs.Runs.{runFrom}
 use Rattle.search.specs.Calls.{opening}
 use Rattle.search.specs.Cases.{cases, joins}
 use Rattle.search.specs.Promises.{Ends-so}

@@ -12,7 +12,9 @@ use Rattle.problem.specs.Problem.{problemOf}
 use Rattle.search.specs.Agenda.{stackOf, agendaOf}
 use Rattle.search.specs.Slots.{slots, Search, Stopped}
 use Rattle.searches.specs.Verdicts.{verdictOf}
-use Rattle.searches.specs.Runs.{checksOfTop, step, refusalOfTop, refusalOfRequest, runFrom}
+use Rattle.searches.specs.Steps.{checksOfTop, step}
+use Rattle.searches.specs.Tests.Refusal.{refusalOfTop, refusalOfRequest}
+use Rattle.searches.specs.Runs.{runFrom}
 use Rattle.searches.specs.Machines.{splitTop}
 use Rattle.searches.specs.Chooser.{chosenOf, chosen, chooseFrom}
 use Rattle.search.specs.Tests.FirstChecks.{openRefusal}

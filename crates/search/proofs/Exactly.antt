@@ -1,15 +1,15 @@
 -- The refusal and the verdict that run and chooser return, exactly.
 -- Assumes nothing.
-use mathlib.Core.Path.{_≡_, refl, sym, ap, _∙_}
-use mathlib.Core.Logic.{_⊎_, inl, inr, ⊎-elim}
+use mathlib.Core.Path.{_≡_, sym, ap, _∙_}
+use mathlib.Core.Logic.{_⊎_, ⊎-elim}
 use mathlib.Core.Bool.{Bool, true, false, cond, _&&_, _||_}
 use mathlib.Core.List.{List, [], _∷_}
-use Prim.Native.Nat.{ℕ, zero, suc, _+_, _*_, _%_, _≤_, _<_}
+use Prim.Native.Nat.{ℕ, _+_, _*_, _%_, _≤_, _<_}
 use native.Mathlib.Omega.{arith}
 use native.Mathlib.Decide.{ℕ-discrete}
 use lib.ListN.{length, getD}
 use lib.Dec.{eqb, leb, ltb}
-use borrow.Author.Tests.{eq-eqb, ne-eqb, eqb-false}
+use borrow.Author.Tests.{eq-eqb, ne-eqb}
 use Rattle.problem.specs.Problem.{Problem, problemOf}
 use Rattle.splits.specs.Subproblems.{allInstantiated}
 use Rattle.splits.specs.declared.subproblem.Subproblem.{Subproblem}
@@ -18,7 +18,8 @@ use Rattle.search.specs.Slots.{slots, Search, Stopped}
 use Rattle.problem.specs.Tests.FirstChecks.{orElse, masksBelow, symmetric, refusalOfNumbers, refusalOfProblem}
 use Rattle.search.specs.Tests.FirstChecks.{allObey, zerosFrom, wholeSlots, refusalOfLengths, refusalOfRequests, refusalOfSearch, openRefusal, searchRefusal, runRefusal}
 use Rattle.searches.specs.Verdicts.{numberOf, verdictOf}
-use Rattle.searches.specs.Runs.{refusalOfRequest, run, requestsIn}
+use Rattle.searches.specs.Tests.Refusal.{refusalOfRequest}
+use Rattle.searches.specs.Runs.{run, requestsIn}
 use Rattle.searches.specs.Chooser.{chosen, choose}
 use Rattle.search.specs.Calls.{searchOf, Ends}
 use Rattle.search.specs.Promises.{None-if, Exact-refusal, Run-exact, Choose-exact}

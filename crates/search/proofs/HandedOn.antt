@@ -1,9 +1,9 @@
 -- What a call leaves in lent words, handed on: it passes the first checks again, and holds the search that the call left.
 -- Assumes nothing.
 use mathlib.Core.Path.{_≡_, refl, sym, ap, _∙_}
-use mathlib.Core.Logic.{_⊎_, ⊎-elim}
+use mathlib.Core.Logic.{⊎-elim}
 use mathlib.Core.Bool.{Bool, true, false, cond}
-use mathlib.Core.List.{List, List·Memᴰ, List·Memᴰ·head, List·Memᴰ·tail, List·Memᴰ·append-cases, List·Memᴰ·not-nil, List·Memᴰ·eq-of-singleton, [], _∷_, _++_}
+use mathlib.Core.List.{List, List·Memᴰ, List·Memᴰ·head, List·Memᴰ·tail, List·Memᴰ·append-cases, List·Memᴰ·not-nil, List·Memᴰ·eq-of-singleton, [], _∷_}
 use Prim.Native.Nat.{ℕ, zero, suc, _+_, _-_, _*_, _^_, _≤_, _<_}
 use native.Mathlib.Omega.{arith}
 use native.Mathlib.Decide.{ℕ-discrete, decLt}
@@ -21,7 +21,9 @@ use Rattle.splits.proofs.Promises.{request-accepted}
 use Rattle.problem.specs.Ranges.{Sized}
 use Rattle.search.specs.Agenda.{holding, Shape, stackOf, slotWords, stackWords, slotsIn, agendaOf}
 use Rattle.search.specs.Slots.{slots, Search, Stopped}
-use Rattle.searches.specs.Runs.{step, refusalOfRequest, run, requestsIn}
+use Rattle.searches.specs.Steps.{step}
+use Rattle.searches.specs.Tests.Refusal.{refusalOfRequest}
+use Rattle.searches.specs.Runs.{run, requestsIn}
 use Rattle.searches.specs.Chooser.{choose}
 use Rattle.search.specs.Tests.FirstChecks.{openRefusal, refusalOfRequests}
 use Rattle.search.specs.FirstChecks.{WholeSlots, WholeRequests}

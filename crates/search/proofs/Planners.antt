@@ -14,7 +14,9 @@ use Rattle.splits.specs.Tests.Refusals.{refused-7, refused-8, refused-9, bad, s
 use Rattle.search.specs.Agenda.{holding, slotWords, subproblemOf, slotAt, stackOf, stackWords, agendaOf}
 use Rattle.searches.specs.Verdicts.{finished, verdictOf}
 use Rattle.searches.specs.Machines.{splitTop}
-use Rattle.searches.specs.Runs.{checksOfTop, step, refusalOfTop, refusalOfRequest, runFrom, cutInto, requestsIn}
+use Rattle.searches.specs.Steps.{checksOfTop, step}
+use Rattle.searches.specs.Tests.Refusal.{refusalOfTop, refusalOfRequest}
+use Rattle.searches.specs.Runs.{runFrom, cutInto, requestsIn}
 use Rattle.problem.specs.Tests.FirstChecks.{refusalOfNumbers, masksBelow, symmetric, refusalOfProblem}
 use Rattle.search.specs.Tests.FirstChecks.{wholeSlots, refusalOfLengths, refusalOfRequests, domainObeys, valuesAgree, obeys, allObey, zerosFrom, refusalOfSearch, runRefusal}
 use Rattle.search.specs.Promises.{Right}

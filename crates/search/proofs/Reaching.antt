@@ -11,7 +11,6 @@ use lib.ListN.{length, getD, take, replicate}
 use lib.Dec.{eqb}
 use borrow.Author.Tests.{eqb-true, eq-eqb}
 use Rattle.problem.specs.Problem.{Problem, Proper, problemOf}
-use Rattle.splits.specs.Subproblems.{domain}
 use Rattle.problem.specs.Lists.{some}
 use Rattle.splitting.specs.Promises.{Solvable}
 use Rattle.splits.specs.declared.subproblem.Subproblem.{Subproblem}

@@ -9,15 +9,15 @@ use native.Mathlib.Numerals.{add-one}
 use native.Mathlib.Nat.{mul-le-mul-right, zero-mul, div-mul-le-self}
 use lib.ListN.{length, take, drop, length-take, length-drop}
 use lib.Seq.{drop-drop}
-use lib.Dec.{eqb}
 use borrow.Author.Tests.{not-true, not-false}
-use Rattle.problem.specs.Problem.{Problem, problemOf}
 use Rattle.splits.specs.Subproblems.{allInstantiated}
 use Rattle.splits.specs.declared.subproblem.Subproblem.{Subproblem}
+use Rattle.problem.specs.Problem.{problemOf}
 use Rattle.search.specs.Agenda.{subproblemOf, slotAt, stackOf, slotsIn}
-use Rattle.search.specs.Slots.{slots, Search, Stopped}
+use Rattle.search.specs.Slots.{slots, Stopped}
 use Rattle.searches.specs.Verdicts.{finished, verdictOf}
-use Rattle.searches.specs.Runs.{refusalOfRequest, runFrom, run, cutInto, requestsIn, stop}
+use Rattle.searches.specs.Steps.{stop}
+use Rattle.searches.specs.Runs.{runFrom, run, cutInto, requestsIn}
 use Rattle.searches.specs.Chooser.{chosen, chooseFrom, choose}
 use Rattle.search.specs.Calls.{searchOf}
 use Rattle.search.specs.Loops.Slots.{SlotIn}

@@ -14,8 +14,9 @@ use Rattle.splits.specs.Splits.{pieces}
 use Rattle.splits.specs.Checks.{checks}
 use Rattle.problem.specs.Refusing.{First-of}
 use Rattle.splits.specs.declared.subproblem.Subproblem.{Subproblem}
-use Rattle.searches.specs.Machines.{splitTop, Takes, Lawful}
-use Rattle.searches.specs.Runs.{checksOfTop, step, refusalsOfRequest, refusalOfRequest}
+use Rattle.searches.specs.Machines.{splitTop, Lawful}
+use Rattle.searches.specs.Steps.{checksOfTop, step, refusalsOfRequest}
+use Rattle.searches.specs.Tests.Refusal.{refusalOfRequest}
 use Rattle.searches.specs.Promises.{Chosen}
 use Rattle.searches.proofs.Refusals.{first-refusal}
 use Rattle.search.specs.Slots.{slots, Deserves-12, Search}

@@ -41,7 +41,7 @@ problemIn c = record {
 abbrev pub expected : Case → List Subproblem
 expected c = map (λ (m : List ℕ × ℕ). holding (c .n) (m .0) (m .1)) (c .stack)
 
--- Ring: four variables, d 3, neighbours 0-1, 1-2, 2-3, 3-0 unequal, all domains 7; one request.
+-- The ring of four paths and three windows, neighbours unequal, and one request.
 abbrev ring : List ℕ → List (List ℕ × ℕ) → List ℕ → ℕ → Case
 ring request stack sizes checks = record {
   n = 4;
@@ -59,13 +59,13 @@ ring request stack sizes checks = record {
 -- The cases, in document 01's order. The one of two variables with domains {0} and {0, 1} is two: after kind 3, and at its end.
 unfoldable pub cases : List Case
 cases =
-    -- Ring, kind 1, V 0, v 0: 1,7,7,7 with 0 marked; then 6,7,7,7. Checks 0.
+    -- The ring split by backtracking, on 0 with 0.
     ring (1 ∷ 0 ∷ 0 ∷ []) ((1 ∷ 7 ∷ 7 ∷ 7 ∷ [], 1) ∷ (6 ∷ 7 ∷ 7 ∷ 7 ∷ [], 0) ∷ []) (27 ∷ 54 ∷ []) 0
-    -- Ring, kind 2, same: 1,6,7,6 then 6,7,7,7. Sizes 12 and 54. Checks 9.
+    -- By forward checking.
     ∷ ring (2 ∷ 0 ∷ 0 ∷ []) ((1 ∷ 6 ∷ 7 ∷ 6 ∷ [], 1) ∷ (6 ∷ 7 ∷ 7 ∷ 7 ∷ [], 0) ∷ []) (12 ∷ 54 ∷ []) 9
-    -- Ring, kind 3, same: 1,6,7,6; 6,1,7,7; 6,6,7,1. Sizes 12, 18, 12. Checks 9.
+    -- By IDC.
     ∷ ring (3 ∷ 0 ∷ 0 ∷ []) ((1 ∷ 6 ∷ 7 ∷ 6 ∷ [], 1) ∷ (6 ∷ 1 ∷ 7 ∷ 7 ∷ [], 0) ∷ (6 ∷ 6 ∷ 7 ∷ 1 ∷ [], 0) ∷ []) (12 ∷ 18 ∷ 12 ∷ []) 9
-    -- Triangle, three variables, d 3, unequal, kind 5 with target 3,3,3: sizes 8, 9, 6, 4 (004).
+    -- A triangle of three values, its target extracted: the sizes of document 004.
     ∷ record {
       n = 3;
       d = 3;
@@ -78,7 +78,7 @@ cases =
       steps = 1;
       checks = 0;
     }
-    -- Domain 7 halved: 3, then 4.
+    -- One domain, halved.
     ∷ record {
       n = 1;
       d = 3;
@@ -91,7 +91,7 @@ cases =
       steps = 1;
       checks = 0;
     }
-    -- n 1, d 1, domain 1: kind 1 solves in one step.
+    -- One value of one variable: a step solves it.
     ∷ record {
       n = 1;
       d = 1;
@@ -104,7 +104,7 @@ cases =
       steps = 1;
       checks = 0;
     }
-    -- n 1, domain 0: unsolvable with no step.
+    -- One variable without a value: unsolvable as opened.
     ∷ record {
       n = 1;
       d = 1;
@@ -117,7 +117,7 @@ cases =
       steps = 0;
       checks = 0;
     }
-    -- Two variables, d 1, unequal: kind 2 on 0 leaves nothing. One step, unsolvable.
+    -- Two variables with one value between them: forward checking leaves nothing.
     ∷ record {
       n = 2;
       d = 1;
@@ -130,7 +130,7 @@ cases =
       steps = 1;
       checks = 1;
     }
-    -- Domains {0}, {0, 1}, unequal: kind 1 on 0; kind 3 on V 1, v 0 leaves only 1,2 with 0 marked;
+    -- Backtracking on 0 has not cleared 1 of what 0 forbids: IDC on 1 must keep a piece for 0.
     ∷ record {
       n = 2;
       d = 2;
@@ -143,7 +143,7 @@ cases =
       steps = 2;
       checks = 1;
     }
-    -- kind 1 on V 1, v 1 solves. Steps 3, checks 2.
+    -- And that piece is solved by one step more.
     ∷ record {
       n = 2;
       d = 2;
@@ -156,7 +156,7 @@ cases =
       steps = 3;
       checks = 2;
     }
-    -- Triangle, d 2: kind 1 on 0 with 0, then kind 3 on V 1, v 0 leaves 1,2,3 on top, 0 marked.
+    -- The same of a triangle of two values, with a subproblem below.
     ∷ record {
       n = 3;
       d = 2;

@@ -13,7 +13,9 @@ use Rattle.problem.specs.Answers.{One}
 use Rattle.splits.specs.declared.subproblem.Subproblem.{Subproblem}
 use Rattle.searches.specs.Verdicts.{numberOf, verdictOf}
 use Rattle.searches.specs.Machines.{Lawful}
-use Rattle.searches.specs.Runs.{stop, refusalsOfRequest, refusalOfRequest, run, requestsIn}
+use Rattle.searches.specs.Steps.{stop, refusalsOfRequest}
+use Rattle.searches.specs.Tests.Refusal.{refusalOfRequest}
+use Rattle.searches.specs.Runs.{run, requestsIn}
 use Rattle.searches.specs.Chooser.{chosen, choose}
 use Rattle.searches.specs.Reached.{Passes, Opening, Reached as ReachedBy}
 use Rattle.searches.specs.Promises.{Shown, Chosen}

@@ -7,7 +7,7 @@ use Rattle.problem.specs.Problem.{Problem}
 use Rattle.splits.specs.Splits.{pieces}
 use Rattle.splits.specs.declared.subproblem.Subproblem.{Subproblem}
 use Rattle.searches.specs.Machines.{splitTop, Machine}
-use Rattle.searches.specs.Runs.{Search as SearchOn, Stopped as StoppedOn}
+use Rattle.searches.specs.Steps.{Search as SearchOn, Stopped as StoppedOn}
 
 -- Its memory is the stack itself, in order if it has no more subproblems than slots, and full for a request after which it would have more.
 abbrev pub slots : ℕ → Machine

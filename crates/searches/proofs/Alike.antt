@@ -3,31 +3,34 @@
 use mathlib.Core.Path.{_≡_, refl, sym, ap, subst, _∙_}
 use mathlib.Core.Logic.{⊎-elim}
 use mathlib.Core.Bool.{Bool, true, false, cond, _||_}
-use mathlib.Core.List.{List, [], _∷_, _++_}
-use Prim.Native.Nat.{ℕ, zero, suc, _+_, _<_}
+use mathlib.Core.List.{List, [], _∷_}
+use Prim.Native.Nat.{ℕ, zero, suc, _+_}
 use native.Mathlib.Omega.{arith}
 use native.Mathlib.Decide.{ℕ-discrete}
+use lib.ListN.{getD}
 use lib.Dec.{eqb}
 use borrow.Author.Tests.{eqb-true, eqb-false}
 use Rattle.problem.specs.Masks.{lowest}
 use Rattle.problem.specs.Problem.{Problem}
-use Rattle.splits.specs.Subproblems.{domain, empty, allInstantiated}
-use Rattle.splits.specs.Splits.{precluded, pieces}
+use Rattle.splits.specs.Subproblems.{domain, empty}
+use Rattle.splits.specs.Splits.{precluded}
 use Rattle.splits.specs.Checks.{checks}
-use Rattle.splits.specs.Refusals.{Accepted}
 use Rattle.splits.specs.Tests.Refusals.{refusalOf}
 use Rattle.splits.specs.declared.subproblem.Subproblem.{Subproblem}
-use Rattle.searches.specs.Verdicts.{verdictOf, finished}
-use Rattle.searches.specs.Machines.{Machine, Lawful}
-use Rattle.searches.specs.Runs.{Search, Stopped, stop, step, refusalOfRequest, runFrom, run}
+use Rattle.problem.proofs.Tests.{true-false}
+use Rattle.searches.specs.Verdicts.{numberOf, verdictOf, finished}
+use Rattle.searches.specs.Machines.{Machine, Lawful, stacks}
+use Rattle.searches.specs.Steps.{Search, Stopped, stop, step}
+use Rattle.searches.specs.Tests.Refusal.{refusalOfRequest}
+use Rattle.searches.specs.Runs.{runFrom, run}
 use Rattle.searches.specs.Chooser.{fewest, requestFor, chosenOf, chosen, chooseFrom, choose}
 use Rattle.searches.specs.Reached.{Passes}
-use Rattle.searches.specs.Promises.{Alike, Stop-alike, Unturned}
-use Rattle.searches.proofs.Verdicts.{running-top}
-use Rattle.searches.proofs.Runs.{after, run-finished, run-taken, run-refused}
+use Rattle.searches.specs.Promises.{Alike, Stop-alike, Unturned, readOut}
+use Rattle.searches.proofs.Verdicts.{is-run-on, is-running, running-top}
+use Rattle.searches.proofs.Runs.{after, run-finished, run-taken, run-refused, stops}
 use Rattle.searches.proofs.Refusals.{refusal-is, first-refusal, is-12}
 use Rattle.searches.proofs.Passing.{top-held, step-checks, step-fits, step-stack}
-use Rattle.searches.proofs.Picking.{met, next, choose-finished, choose-taken, choose-refused, chosen-accepted, top-running, pick-passes}
+use Rattle.searches.proofs.Picking.{met, next, choose-finished, choose-taken, choose-refused, choose-stops, chosen-accepted, top-running, pick-passes}
 
 module _ (p : Problem) (M N : Machine) where
   -- Stops of searches alike, with one refusal and as many taken.
@@ -257,3 +260,44 @@ module _ (p : Problem) (M N : Machine) (law : Lawful M) (law′ : Lawful N) wher
   choosers-alike zero s t passes passes′ same turn turn′ f g = stop-alike p M N s t 0 0 refl same
   choosers-alike (suc m) s t passes passes′ same turn turn′ f g =
       pick-alike m s t passes passes′ same turn turn′ f g (choosers-alike m (next p M s) (next p N t))
+
+-- ---- the stack itself
+
+pub stacks-lawful : Lawful stacks
+stacks-lawful = record { fits = λ p r S P T t. tt; splits = λ p r S P T t. rw (t .top) refl }
+
+-- It has room for every request, so that nothing is refused by 12.
+request-room : (p : Problem) (r : List ℕ) (s : Search (List Subproblem)) → numberOf (verdictOf (p .n) (s .memory)) ≡ 1
+    → refusalOfRequest p stacks r s ≡ 12 → ⊥
+request-room p r s runs h =
+    let (P, S, top) = running-top (p .n) (s .memory) (is-running (p .n) (s .memory) (is-run-on (verdictOf (p .n) (s .memory)) runs)) in
+    true-false (sym (is-12 p stacks P S s r top .0 h .2))
+
+run-room : (p : Problem) (rs : List (List ℕ)) (s : Search (List Subproblem)) → run p stacks rs s .refusal ≡ 12 → ⊥
+run-room p rs s h =
+    ⊎-elim (λ f. let z = f .refusal in omega (arith, z, h))
+    (λ k. ⊎-elim (λ f. request-room p (getD rs (run p stacks rs s .taken) []) (run p stacks rs s .search) (f .verdict) (sym (f .refusal) ∙ h))
+    (λ f. let z = f .refusal in omega (arith, z, h)) k) (stops p stacks rs s .1)
+
+choose-room : (p : Problem) (m : ℕ) (s : Search (List Subproblem)) → choose p stacks m s .refusal ≡ 12 → ⊥
+choose-room p m s h =
+    ⊎-elim (λ f. let z = f .refusal in omega (arith, z, h))
+    (λ k. ⊎-elim
+    (λ f. request-room p (chosen p stacks (choose p stacks m s .search .memory)) (choose p stacks m s .search) (f .verdict) (sym (f .refusal) ∙ h))
+    (λ f. let z = f .refusal in omega (arith, z, h)) k) (choose-stops p stacks m s .1)
+
+module _ (p : Problem) (M : Machine) (law : Lawful M) where
+  read-alike : (s : Search (M .Memory)) → Alike p M stacks s (readOut p M s)
+  read-alike s = record { stack = refl; steps = refl; checks = refl }
+
+  pub run-reads : (rs : List (List ℕ)) (s : Search (M .Memory)) → M .Fits p (s .memory) → (run p M rs s .refusal ≡ 12 → ⊥)
+      → Stop-alike p M stacks (run p M rs s) (run p stacks rs (readOut p M s))
+  run-reads rs s fits f = runs-alike p M stacks law stacks-lawful rs s (readOut p M s) fits tt (read-alike s) f (run-room p rs (readOut p M s))
+
+  pub chooser-reads : (m : ℕ) (s : Search (M .Memory)) → Passes p M s → Unturned p M m s → (choose p M m s .refusal ≡ 12 → ⊥)
+      → Stop-alike p M stacks (choose p M m s) (choose p stacks m (readOut p M s))
+  chooser-reads m s passes turn f =
+      let passes′ : Passes p stacks (readOut p M s) = record
+      { proper = passes .proper; rules = passes .rules; fits = tt; counted = passes .counted; stepped = passes .stepped } in
+      choosers-alike p M stacks law stacks-lawful m s (readOut p M s) passes passes′ (read-alike s) turn
+      (λ k l P S top full. absurd (true-false (sym full))) f (choose-room p m (readOut p M s))

@@ -12,7 +12,9 @@ use Rattle.problem.specs.Problem.{Problem}
 use Rattle.splits.specs.Tests.Refusals.{refused-7, refused-8, refused-9, refused-10, refusalOf}
 use Rattle.splits.specs.declared.subproblem.Subproblem.{Subproblem}
 use Rattle.searches.specs.Machines.{Machine}
-use Rattle.searches.specs.Runs.{Search, refusalOfTop, refusalOfRequest, run}
+use Rattle.searches.specs.Steps.{Search}
+use Rattle.searches.specs.Tests.Refusal.{refusalOfTop, refusalOfRequest}
+use Rattle.searches.specs.Runs.{run}
 use Rattle.searches.specs.Chooser.{chosen, choose}
 use Rattle.searches.proofs.Runs.{stops}
 use Rattle.searches.proofs.Picking.{choose-stops}

@@ -10,7 +10,9 @@ use borrow.Author.Tests.{eq-eqb, ne-eqb}
 use Rattle.problem.specs.Problem.{Problem}
 use Rattle.searches.specs.Verdicts.{finished}
 use Rattle.searches.specs.Machines.{Machine}
-use Rattle.searches.specs.Runs.{Search, stop, step, refusalOfRequest, runFrom}
+use Rattle.searches.specs.Steps.{Search, stop, step}
+use Rattle.searches.specs.Tests.Refusal.{refusalOfRequest}
+use Rattle.searches.specs.Runs.{runFrom}
 use Rattle.searches.specs.Chooser.{chosen, chooseFrom}
 
 -- ---- a run of one request, and of more

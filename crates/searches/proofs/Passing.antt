@@ -3,7 +3,7 @@
 use mathlib.Core.Path.{_≡_, refl}
 use mathlib.Core.Logic.{⊎-elim}
 use mathlib.Core.List.{List, List·Memᴰ, List·Memᴰ·head, List·Memᴰ·tail, List·Memᴰ·append-cases, _∷_, _++_}
-use Prim.Native.Nat.{ℕ, _+_, _≤_}
+use Prim.Native.Nat.{ℕ, _+_}
 use native.Mathlib.Omega.{arith}
 use Rattle.problem.specs.Problem.{Problem}
 use Rattle.splits.specs.Splits.{pieces}
@@ -13,7 +13,9 @@ use Rattle.splits.specs.declared.subproblem.Subproblem.{Subproblem}
 use Rattle.splitting.proofs.Pieces.{Held}
 use Rattle.splitting.proofs.Promises.{obeys, at-most-496}
 use Rattle.searches.specs.Machines.{Machine, Lawful, Takes, splitTop}
-use Rattle.searches.specs.Runs.{Search, checksOfTop, step, refusalOfRequest, run}
+use Rattle.searches.specs.Steps.{Search, checksOfTop, step}
+use Rattle.searches.specs.Tests.Refusal.{refusalOfRequest}
+use Rattle.searches.specs.Runs.{run}
 use Rattle.searches.specs.Reached.{Passes}
 use Rattle.searches.proofs.Verdicts.{running-top}
 use Rattle.searches.proofs.Runs.{run-ind}

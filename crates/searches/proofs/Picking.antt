@@ -24,7 +24,9 @@ use Rattle.splitting.proofs.Pieces.{Held}
 use Rattle.splitting.proofs.Splitting.{lowest-in, domain-lt}
 use Rattle.searches.specs.Verdicts.{numberOf, verdictOf, finished}
 use Rattle.searches.specs.Machines.{Machine, Lawful}
-use Rattle.searches.specs.Runs.{Search, Stopped, stop, step, refusalOfRequest, runFrom}
+use Rattle.searches.specs.Steps.{Search, Stopped, stop, step}
+use Rattle.searches.specs.Tests.Refusal.{refusalOfRequest}
+use Rattle.searches.specs.Runs.{runFrom}
 use Rattle.searches.specs.Chooser.{fewestOf, fewest, requestFor, chosenOf, chosen, chooseFrom, choose}
 use Rattle.searches.specs.Reached.{Passes}
 use Rattle.searches.specs.Promises.{Finished, Choice-refused, At-limit, Fewest, Chosen, picks}

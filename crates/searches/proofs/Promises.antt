@@ -1,9 +1,9 @@
 -- The promises of specs/Promises.antt, proved.
 -- Assumes nothing.
-use mathlib.Core.Path.{_≡_, ap}
+use mathlib.Core.Path.{ap}
 use mathlib.Core.List.{_∷_}
 use Rattle.searches.specs.Verdicts.{numberOf, verdictOf}
-use Rattle.searches.specs.Promises.{Unsolvable-if, Solved-if, Running-if, Solved-shows, Request-refusals, Stops, Taken, Steps-count, Takes-none, Two-lists, Choose-two, Chooser-stops, Picks, Chosen-so, Chosen-accepted, Chooser-refusals, Step-passes, Run-passes, Chooser-passes, Reached-passes, Reached-checks, Reached-solvable, Reached-unsolvable, Reached-steps, Runs-alike, Choosers-alike}
+use Rattle.searches.specs.Promises.{Unsolvable-if, Solved-if, Running-if, Solved-shows, Request-refusals, Stops, Taken, Steps-count, Takes-none, Two-lists, Choose-two, Chooser-stops, Picks, Chosen-so, Chosen-accepted, Chooser-refusals, Step-passes, Run-passes, Chooser-passes, Reached-passes, Reached-checks, Reached-solvable, Reached-unsolvable, Reached-steps, Runs-alike, Choosers-alike, Stacks-lawful, Run-reads, Chooser-reads}
 use Rattle.searches.proofs.Verdicts
 use Rattle.searches.proofs.Runs
 use Rattle.searches.proofs.Refusals
@@ -110,3 +110,12 @@ runs-alike = Alike.runs-alike
 
 pub choosers-alike : Choosers-alike
 choosers-alike = Alike.choosers-alike
+
+pub stacks-lawful : Stacks-lawful
+stacks-lawful = Alike.stacks-lawful
+
+pub run-reads : Run-reads
+run-reads = Alike.run-reads
+
+pub chooser-reads : Chooser-reads
+chooser-reads = Alike.chooser-reads

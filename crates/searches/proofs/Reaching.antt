@@ -3,7 +3,7 @@
 use mathlib.Core.Path.{_≡_, refl, sym, ap, ap₂, _∙_}
 use mathlib.Core.Logic.{inl, inr, ⊎-elim, _↔_}
 use mathlib.Core.List.{List, List·Memᴰ, List·Memᴰ·head, List·Memᴰ·tail, List·Memᴰ·not-nil, List·Memᴰ·cases-cons, List·Memᴰ·append-cases, List·Memᴰ·eq-of-singleton, Memᴰ·append-left, Memᴰ·append-right, [], _∷_, _++_}
-use Prim.Native.Nat.{ℕ, zero, suc, _+_, _-_, _*_, _≤_, _<_}
+use Prim.Native.Nat.{ℕ, zero, suc, _+_, _-_, _*_, _≤_}
 use native.Mathlib.Omega.{arith}
 use native.Mathlib.Nat.{zero-add}
 use Rattle.problem.specs.Masks.{bit, size}
@@ -18,7 +18,9 @@ use Rattle.problem.proofs.mask.Masks.{bit-none, member-some}
 use Rattle.problem.proofs.Products.{product-same}
 use Rattle.splitting.proofs.Promises.{sound, cover, falls}
 use Rattle.searches.specs.Machines.{Machine, Lawful}
-use Rattle.searches.specs.Runs.{Search, step, refusalOfRequest, run}
+use Rattle.searches.specs.Steps.{Search, step}
+use Rattle.searches.specs.Tests.Refusal.{refusalOfRequest}
+use Rattle.searches.specs.Runs.{run}
 use Rattle.searches.specs.Chooser.{choose}
 use Rattle.searches.specs.Reached.{Passes, Whole, Empty-domain, Opening, begin, Reached, opened, ran, chose, moved}
 use Rattle.searches.specs.Promises.{Has-solution, Limited, picks}

@@ -13,10 +13,11 @@ use Rattle.splits.specs.Refusals.{Accepted}
 use Rattle.splits.specs.Tests.Refusals.{refused-7, refused-8, refused-9, refused-10, refusalOf}
 use Rattle.splits.specs.declared.subproblem.Subproblem.{Subproblem}
 use Rattle.problem.proofs.Tests.{true-false}
-use Rattle.problem.proofs.Refusing.{chain, Decided, first-by}
+use Rattle.problem.proofs.Refusing.{first-by}
 use Rattle.splits.proofs.refusal.Refusals.{says-7, says-8, says-9, says-10}
 use Rattle.searches.specs.Machines.{Machine}
-use Rattle.searches.specs.Runs.{Search, Deserves-11, refusalsOfRequest, refusalOfTop, refusalOfRequest}
+use Rattle.searches.specs.Steps.{Search, Deserves-11, refusalsOfRequest}
+use Rattle.searches.specs.Tests.Refusal.{refusalOfTop, refusalOfRequest}
 
 -- The refusal is that of six tests in a chain.
 chained : (a b c d e f : Bool) →
@@ -45,9 +46,10 @@ module _ (p : Problem) (M : Machine) (P : Subproblem) (S : List Subproblem) (s :
   unfolding refusalOf
   first-refusal =
       rw (refusal-is, chained (eqb (s .steps) 4294967295) (refused-7 r) (refused-8 (p .n) P r) (refused-9 (p .d) P r) (refused-10 (p .n) P r) (M .full p r (s .memory)))
-      (first-by (refusalsOfRequest p (s .steps) P r (M .full p r (s .memory) ≡ true)) tests refl
-      ((eqb-true (s .steps) 4294967295, eq-eqb (s .steps) 4294967295),
-      λ a. (says-7 (p .n) (p .d) P r, λ f. (says-8 (p .n) (p .d) P r f, λ g. (says-9 (p .n) (p .d) P r f, λ h. (says-10 (p .n) (p .d) P r, λ i. ((λ e. e, λ e. e), λ j. tt)))))))
+      (first-by (refusalsOfRequest p (s .steps) P r (M .full p r (s .memory) ≡ true)) tests refl (
+        (eqb-true (s .steps) 4294967295, eq-eqb (s .steps) 4294967295),
+        λ a. (says-7 (p .n) (p .d) P r, λ f. (says-8 (p .n) (p .d) P r f, λ g. (says-9 (p .n) (p .d) P r f, λ h. (says-10 (p .n) (p .d) P r, λ i. ((λ e. e, λ e. e), λ j. tt))))),
+      ))
 
   -- None: the steps are not all taken, the splits accept it, and there is room.
   pub is-none : (refusalOfRequest p M r s ≡ 0) ↔ ((Deserves-11 (s .steps) → ⊥) × Accepted (p .n) (p .d) P r × (M .full p r (s .memory) ≡ false))

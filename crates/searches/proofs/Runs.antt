@@ -14,7 +14,9 @@ use borrow.Author.Tests.{eq-eqb, ne-eqb, eqb-true, eqb-false}
 use Rattle.problem.specs.Problem.{Problem}
 use Rattle.searches.specs.Verdicts.{numberOf, verdictOf, finished}
 use Rattle.searches.specs.Machines.{Machine}
-use Rattle.searches.specs.Runs.{Search, Stopped, stop, step, refusalOfRequest, runFrom, run}
+use Rattle.searches.specs.Steps.{Search, Stopped, stop, step}
+use Rattle.searches.specs.Tests.Refusal.{refusalOfRequest}
+use Rattle.searches.specs.Runs.{runFrom, run}
 use Rattle.searches.specs.Promises.{Finished, Refused, Ended}
 use Rattle.searches.proofs.Verdicts.{finished-not, running, is-run-on}
 

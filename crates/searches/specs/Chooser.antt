@@ -10,7 +10,8 @@ use Rattle.splits.specs.Splits.{precluded}
 use Rattle.splits.specs.declared.subproblem.Subproblem.{Subproblem}
 use Rattle.searches.specs.Verdicts.{finished}
 use Rattle.searches.specs.Machines.{Machine}
-use Rattle.searches.specs.Runs.{Search, Stopped, stop, step, refusalOfRequest}
+use Rattle.searches.specs.Steps.{Search, Stopped, stop, step}
+use Rattle.searches.specs.Tests.Refusal.{refusalOfRequest}
 
 -- Of the first i of n variables, the uninstantiated one with the fewest values, lowest number among equals; n where there is none.
 unfoldable pub fewestOf : ℕ → Subproblem → ℕ → ℕ

@@ -34,3 +34,7 @@ pub record Lawful (M : Machine) : Type 0 where
   pub fits : (p : Problem) (r : List ℕ) (m : M .Memory) (P : Subproblem) (S : List Subproblem) → Takes p M r m P S → M .Fits p (M .split p r m)
   pub splits : (p : Problem) (r : List ℕ) (m : M .Memory) (P : Subproblem) (S : List Subproblem) → Takes p M r m P S
       → M .stack p (M .split p r m) ≡ splitTop p r (P ∷ S)
+
+-- The stack itself, without a limit.
+abbrev pub stacks : Machine
+stacks = record { Memory = List Subproblem; Fits = λ p S. Unit; stack = λ p S. S; full = λ p r S. false; split = splitTop }

@@ -15,8 +15,10 @@ use Rattle.splits.specs.Refusals.{Accepted}
 use Rattle.splitting.specs.Promises.{Solvable}
 use Rattle.splits.specs.declared.subproblem.Subproblem.{Subproblem}
 use Rattle.searches.specs.Verdicts.{numberOf, verdictOf}
-use Rattle.searches.specs.Machines.{Machine, Lawful}
-use Rattle.searches.specs.Runs.{Search, Stopped, stop, then, step, refusalsOfRequest, refusalOfRequest, run}
+use Rattle.searches.specs.Machines.{Machine, Lawful, stacks}
+use Rattle.searches.specs.Steps.{Search, Stopped, stop, then, step, refusalsOfRequest}
+use Rattle.searches.specs.Tests.Refusal.{refusalOfRequest}
+use Rattle.searches.specs.Runs.{run}
 use Rattle.searches.specs.Chooser.{request, requestFor, chosen, choose}
 use Rattle.searches.specs.Reached.{Passes, Opening, Reached}
 
@@ -268,3 +270,25 @@ Choosers-alike =
     (p : Problem) (M N : Machine) → Lawful M → Lawful N → (limit : ℕ) (s : Search (M .Memory)) (t : Search (N .Memory))
     → Passes p M s → Passes p N t → Alike p M N s t → Unturned p M limit s → Unturned p N limit t
     → (choose p M limit s .refusal ≡ 12 → ⊥) → (choose p N limit t .refusal ≡ 12 → ⊥) → Stop-alike p M N (choose p M limit s) (choose p N limit t)
+
+-- ---- a machine and the stack itself
+
+-- The stack without a limit keeps the law.
+abbrev pub Stacks-lawful : Type 0
+Stacks-lawful = Lawful stacks
+
+-- The search on it that a search reads as.
+abbrev pub readOut : (p : Problem) (M : Machine) → Search (M .Memory) → Search (List Subproblem)
+readOut p M s = record { memory = M .stack p (s .memory); steps = s .steps; checks = s .checks }
+
+-- A run on a machine that is not refused by 12 stops as on the stack without a limit: so it reads after every request taken.
+abbrev pub Run-reads : Type 1
+Run-reads =
+    (p : Problem) (M : Machine) → Lawful M → (rs : List (List ℕ)) (s : Search (M .Memory)) → M .Fits p (s .memory)
+    → (run p M rs s .refusal ≡ 12 → ⊥) → Stop-alike p M stacks (run p M rs s) (run p stacks rs (readOut p M s))
+
+-- So does the chooser, where it is not turned to kind 2 for want of room.
+abbrev pub Chooser-reads : Type 1
+Chooser-reads =
+    (p : Problem) (M : Machine) → Lawful M → (limit : ℕ) (s : Search (M .Memory)) → Passes p M s → Unturned p M limit s
+    → (choose p M limit s .refusal ≡ 12 → ⊥) → Stop-alike p M stacks (choose p M limit s) (choose p stacks limit (readOut p M s))

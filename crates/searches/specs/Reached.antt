@@ -7,7 +7,8 @@ use Rattle.problem.specs.Problem.{Problem, Proper}
 use Rattle.splits.specs.Subproblems.{domain, Rules}
 use Rattle.splits.specs.declared.subproblem.Subproblem.{Subproblem}
 use Rattle.searches.specs.Machines.{Machine}
-use Rattle.searches.specs.Runs.{Search, run}
+use Rattle.searches.specs.Steps.{Search}
+use Rattle.searches.specs.Runs.{run}
 use Rattle.searches.specs.Chooser.{choose}
 
 -- A search of p passes: p is proper, each subproblem obeys the rules, the memory is in order, there are no more than 496 × steps checks, and the

@@ -7,7 +7,7 @@ use denote.Enum.Declared.{tagOf}
 use Rattle.searches.specs.Verdicts.{numberOf}
 use Rattle.searches.specs.declared.verdict.Verdict.{Verdict}
 use Rattle.searches.specs.declared.verdict.Verdict.the-variants.{None, Running, Solved, Unsolvable}
-use Rattle.search.proofs.state.Verdict.{the-type}
+use Rattle.searches.proofs.verdict.Verdict.{the-type}
 use borrow.Author.Needs.{needs}
 use Rattle.answer.proofs.is_solved.Statement.{statement}
 use Rattle.answer.proofs.is_solved.Tie as tie

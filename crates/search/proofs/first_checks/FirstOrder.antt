@@ -96,9 +96,17 @@ module _ (n d : ℕ) (domains tables agenda : List ℕ) where
   unfolding openRefusal refusalOfNumbers refusalOfLengths refusalOfProblem
   open-first =
       subst (First-of (openTable n d domains tables agenda)) (sym (open-chain one two lengths (masksBelow p) (symmetric p)))
-      (first-by (openTable n d domains tables agenda) (one ∷ two ∷ not lengths ∷ not (masksBelow p) ∷ not (symmetric p) ∷ []) refl
-      (decided (decides-1 n), λ f1. (decided (decides-2 d), λ f2. (refuted (refutes-3 n d domains tables agenda), λ f3.
-      (refuted (refutes-4 p), λ f4. (refuted (refutes-5 p), λ f5. tt))))))
+      (first-by (openTable n d domains tables agenda) (one ∷ two ∷ not lengths ∷ not (masksBelow p) ∷ not (symmetric p) ∷ []) refl (
+        decided (decides-1 n),
+        λ f1. (
+          decided (decides-2 d),
+          λ f2. (
+            refuted (refutes-3 n d domains tables agenda),
+            λ f3.
+                (refuted (refutes-4 p), λ f4. (refuted (refutes-5 p), λ f5. tt)),
+          ),
+        ),
+      ))
 
   module _ (steps checks subproblems : ℕ) where
     -- the test for 6
@@ -115,10 +123,23 @@ module _ (n d : ℕ) (domains tables agenda : List ℕ) where
         subst (First-of (searchTable n d domains tables agenda steps checks subproblems))
         (sym (search-chain one two lengths (masksBelow p) (symmetric p) search))
         (first-by (searchTable n d domains tables agenda steps checks subproblems)
-        (one ∷ two ∷ not lengths ∷ not (masksBelow p) ∷ not (symmetric p) ∷ not search ∷ []) refl
-        (decided (decides-1 n), λ f1. (decided (decides-2 d), λ f2. (refuted (refutes-3 n d domains tables agenda), λ f3.
-        (refuted (refutes-4 p), λ f4. (refuted (refutes-5 p), λ f5.
-        (refuted (refutes-6 p agenda steps checks subproblems (proper-where p f1 f2 f4 f5)), λ f6. tt)))))))
+        (one ∷ two ∷ not lengths ∷ not (masksBelow p) ∷ not (symmetric p) ∷ not search ∷ []) refl (
+          decided (decides-1 n),
+          λ f1. (
+            decided (decides-2 d),
+            λ f2. (
+              refuted (refutes-3 n d domains tables agenda),
+              λ f3. (
+                refuted (refutes-4 p),
+                λ f4. (
+                  refuted (refutes-5 p),
+                  λ f5.
+                      (refuted (refutes-6 p agenda steps checks subproblems (proper-where p f1 f2 f4 f5)), λ f6. tt),
+                ),
+              ),
+            ),
+          ),
+        ))
 
     module _ (requests : List ℕ) where
       -- what a run gives
@@ -130,9 +151,21 @@ module _ (n d : ℕ) (domains tables agenda : List ℕ) where
           subst (First-of (runTable n d domains tables agenda requests steps checks subproblems))
           (sym (run-chain one two lengths list (masksBelow p) (symmetric p) search))
           (first-by (runTable n d domains tables agenda requests steps checks subproblems)
-          (one ∷ two ∷ not (lengths && list) ∷ not (masksBelow p) ∷ not (symmetric p) ∷ not search ∷ []) refl
-          (decided (decides-1 n), λ f1. (decided (decides-2 d), λ f2.
-          (refuted (refutes-and lengths list (Deserves-3 n d domains tables agenda) (WholeRequests n (length requests) → ⊥)
-          (refutes-3 n d domains tables agenda) (refutes-requests n (length requests))), λ f3.
-          (refuted (refutes-4 p), λ f4. (refuted (refutes-5 p), λ f5.
-          (refuted (refutes-6 p agenda steps checks subproblems (proper-where p f1 f2 f4 f5)), λ f6. tt)))))))
+          (one ∷ two ∷ not (lengths && list) ∷ not (masksBelow p) ∷ not (symmetric p) ∷ not search ∷ []) refl (
+            decided (decides-1 n),
+            λ f1. (
+              decided (decides-2 d),
+              λ f2. (
+                refuted (refutes-and lengths list (Deserves-3 n d domains tables agenda) (WholeRequests n (length requests) → ⊥)
+                    (refutes-3 n d domains tables agenda) (refutes-requests n (length requests))),
+                λ f3. (
+                  refuted (refutes-4 p),
+                  λ f4. (
+                    refuted (refutes-5 p),
+                    λ f5.
+                        (refuted (refutes-6 p agenda steps checks subproblems (proper-where p f1 f2 f4 f5)), λ f6. tt),
+                  ),
+                ),
+              ),
+            ),
+          ))

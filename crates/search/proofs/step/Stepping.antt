@@ -29,7 +29,8 @@ use Rattle.problem.specs.Ranges.{Sized}
 use Rattle.search.specs.Agenda.{Shape, subproblemOf, slotAt, stackOf, stackWords, slotsIn, agendaOf}
 use Rattle.search.specs.Slots.{slots, Search}
 use Rattle.searches.specs.Verdicts.{finished}
-use Rattle.searches.specs.Runs.{refusalOfTop, refusalOfRequest, runFrom}
+use Rattle.searches.specs.Tests.Refusal.{refusalOfTop, refusalOfRequest}
+use Rattle.searches.specs.Runs.{runFrom}
 use Rattle.searches.specs.Machines.{splitTop}
 use Rattle.search.specs.Loops.Kept.{Regular, Ready}
 use Rattle.search.specs.Loops.Steps.{Replaced, Taking, StopsAt, refusalFor}

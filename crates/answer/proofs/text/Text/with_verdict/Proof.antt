@@ -7,7 +7,7 @@ use denote.Enum.Declared.{tagOf}
 use Rattle.searches.specs.Verdicts.{ascii, wordOf}
 use Rattle.searches.specs.declared.verdict.Verdict.{Verdict}
 use Rattle.searches.specs.declared.verdict.Verdict.the-variants.{None, Running, Solved, Unsolvable}
-use Rattle.search.proofs.state.Verdict.{the-type}
+use Rattle.searches.proofs.verdict.Verdict.{the-type}
 use Rattle.answer.specs.Text.{verdictLine}
 use Rattle.answer.proofs.Writing.{adds-same}
 use borrow.Author.Needs.{needs}
