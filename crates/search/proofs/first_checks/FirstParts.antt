@@ -18,7 +18,7 @@ use Rattle.search.specs.Agenda.{stackOf, slotsIn, slotAt, subproblemOf}
 use Rattle.problem.specs.Tests.FirstChecks.{refusalOfNumbers, refusalOfProblem, orElse}
 use Rattle.search.specs.Tests.FirstChecks.{wholeSlots, refusalOfLengths, obeys, allObey, zerosFrom, refusalOfSearch, sizesRefusal, openRefusal}
 use Rattle.problem.specs.Ranges.{Fitting}
-use Rattle.problem.proofs.first_checks.Parts.{numbers-pass, else-first, else-rest, and-turn, given-if, else-pass}
+use Rattle.problem.proofs.first_checks.Parts.{given-if, else-first, else-rest, else-pass, numbers-pass, and-turn}
 
 -- ---- symmetry
 
