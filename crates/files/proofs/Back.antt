@@ -15,7 +15,7 @@ use Rattle.search.specs.Tests.FirstChecks.{refusalOfLengths, searchRefusal}
 use Rattle.search.specs.Runs.{Search}
 use Rattle.search.specs.Calls.{searchOf}
 use Rattle.search.specs.declared.state.State.{State}
-use Rattle.search.proofs.agenda.Encoding.{length-stackOf, agenda-back}
+use Rattle.search.proofs.Encoding.{length-stackOf, agenda-back}
 use Rattle.search.proofs.first_checks.FirstPassing.{PassedSearch, search-is-passed}
 use Rattle.files.specs.Blocks.{blocksFor, fileOf}
 use Rattle.files.specs.Content.{contentOf}

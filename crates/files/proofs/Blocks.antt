@@ -12,7 +12,7 @@ use lib.Seq.{getD-take, getD-drop, getD-at}
 use borrow.Author.Tests.{eq-eqb, le-leb}
 use Rattle.problem.specs.Lists.{total, every, below}
 use Rattle.problem.proofs.Tests.{every-all}
-use Rattle.search.proofs.HandedOn.{append-small}
+use Rattle.problem.proofs.Copies.{append-small}
 use Rattle.files.specs.Blocks.{fileBytes, wordAt, checkOf, blocksFor, contentOfBlock, headedBlock, blockWords, firstBlocks, fileOf}
 use Rattle.files.specs.Content.{each}
 use Rattle.files.specs.Reading.{blocksIn, blockWord, headOf, contentWord, goodBlock, refusalOfFile}

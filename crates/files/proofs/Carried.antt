@@ -13,7 +13,7 @@ use Rattle.search.specs.Calls.{Runs, Chooses}
 use Rattle.search.specs.Promises.{Handed}
 use Rattle.search.specs.declared.state.State.{State}
 use Rattle.search.specs.declared.state.Ran.{Ran}
-use Rattle.search.proofs.agenda.Encoding.{length-stackOf, agenda-of-words}
+use Rattle.search.proofs.Encoding.{length-stackOf, agenda-of-words}
 use Rattle.search.proofs.first_checks.FirstPassing.{PassedSearch, search-is-passed}
 use Rattle.files.specs.Blocks.{fileOf}
 use Rattle.files.specs.Reading.{saidAllowed}

@@ -20,7 +20,7 @@ use Rattle.search.specs.FirstChecks.{WholeSlots}
 use Rattle.search.specs.Tests.FirstChecks.{searchRefusal}
 use Rattle.search.specs.declared.state.State.{State}
 use Rattle.problem.proofs.Copies.{zeros-at}
-use Rattle.search.proofs.agenda.Encoding.{stack-of-words, agenda-back}
+use Rattle.search.proofs.Encoding.{stack-of-words, agenda-back}
 use Rattle.search.proofs.first_checks.FirstPassing.{search-is-passed}
 use Rattle.files.specs.Blocks.{blocksFor}
 use Rattle.files.specs.Reading.{blocksIn, contentWord, contentFrom, saidN, saidD, saidSteps, saidChecks, saidSubproblems, saidDomains, saidAllowed, saidAgenda, saidSearch, saidWords, agendaFrom, tableWords, refusalOfWords}

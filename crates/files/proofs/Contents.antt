@@ -13,7 +13,7 @@ use Rattle.problem.specs.Problem.{Table}
 use Rattle.splits.specs.declared.subproblem.Subproblem.{Subproblem}
 use Rattle.search.specs.Agenda.{Shape, stackOf, stackWords}
 use Rattle.search.specs.Runs.{Search}
-use Rattle.search.proofs.agenda.Encoding.{stack-back}
+use Rattle.search.proofs.Encoding.{stack-back}
 use Rattle.files.specs.Content.{triangle, contentOf}
 use Rattle.files.specs.Reading.{contentWord, contentFrom, saidN, saidD, saidSteps, saidChecks, saidSubproblems, saidDomains, saidAllowed, saidAgenda, saidSearch, saidWords, triangleWords, trianglePlace, gathered}
 use Rattle.files.proofs.Lists.{map-is}

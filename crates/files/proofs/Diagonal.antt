@@ -19,7 +19,7 @@ use Rattle.search.specs.Promises.{Passes}
 use Rattle.search.specs.declared.state.State.{State}
 use Rattle.search.specs.declared.state.Opened.{Opened}
 use Rattle.search.specs.declared.state.Ran.{Ran}
-use Rattle.search.proofs.agenda.Encoding.{length-stackOf}
+use Rattle.search.proofs.Encoding.{length-stackOf}
 use Rattle.search.proofs.first_checks.FirstPassing.{PassedSearch, search-is-passed, run-is-passed}
 use Rattle.search.proofs.first_checks.Apart.{apart-open, apart-search, apart-run}
 use Rattle.files.specs.Content.{contentOf}

@@ -22,7 +22,7 @@ use Rattle.search.specs.declared.state.Ran.{Ran}
 use Rattle.search.specs.declared.state.Verdict.{Verdict}
 use Rattle.search.specs.declared.state.Verdict.the-variants.{None}
 use Rattle.search.proofs.first_checks.FirstPassing.{Passed, run-is-passed}
-use Rattle.search.proofs.agenda.Encoding.{length-stackOf}
+use Rattle.search.proofs.Encoding.{length-stackOf}
 use Rattle.search.proofs.HandedOn.{known, leaves, some-slots, whole-requests}
 use Rattle.search.proofs.Promises.{open-leaves, run-leaves, chooser-leaves, run-says, reached-passes, reached-unsolvable, solved-shows}
 use Rattle.files.specs.Blocks.{fileOf}

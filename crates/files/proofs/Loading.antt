@@ -16,7 +16,7 @@ use Rattle.search.specs.FirstChecks.{WholeSlots}
 use Rattle.problem.specs.Tests.FirstChecks.{orElse}
 use Rattle.search.specs.Tests.FirstChecks.{wholeSlots, refusalOfLengths}
 use Rattle.search.proofs.first_checks.FirstPassing.{PassedSearch}
-use Rattle.search.proofs.agenda.Encoding.{agenda-back, length-agenda}
+use Rattle.search.proofs.Encoding.{agenda-back, length-agenda}
 use Rattle.problem.proofs.first_checks.Parts.{given-if, else-pass}
 use Rattle.search.proofs.HandedOn.{agenda-zeros}
 use Rattle.search.proofs.first_checks.Deserved.{slots-true, slots-is}

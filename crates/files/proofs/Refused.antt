@@ -15,22 +15,7 @@ use Rattle.problem.specs.Tests.FirstChecks.{orElse, refusalOfNumbers}
 use Rattle.search.specs.Tests.FirstChecks.{allObey, refusalOfLengths, sizesRefusal}
 use Rattle.problem.proofs.first_checks.Parts.{given-if, else-first, else-rest, else-pass}
 use Rattle.files.specs.Blocks.{blocksFor}
-use Rattle.files.specs.Reading.{
-  blocksIn,
-  contentWord,
-  saidN,
-  saidD,
-  saidSteps,
-  saidChecks,
-  saidSubproblems,
-  saidProblem,
-  saidSearch,
-  saidWords,
-  masksBelowTriangle,
-  refusalOfFile,
-  refusalOfWords,
-  wordCount,
-}
+use Rattle.files.specs.Reading.{blocksIn, contentWord, saidN, saidD, saidSteps, saidChecks, saidSubproblems, saidProblem, saidSearch, saidWords, masksBelowTriangle, refusalOfFile, refusalOfWords, wordCount}
 use Rattle.files.specs.Calls.{loadRefusal}
 use Rattle.files.specs.Work.Said.{Numbers, numbersSaid, zeroIn, filled, sizedIn, Read}
 

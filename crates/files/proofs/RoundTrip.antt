@@ -16,7 +16,7 @@ use Rattle.problem.specs.Lists.{below}
 use Rattle.splits.specs.declared.subproblem.Subproblem.{Subproblem}
 use Rattle.search.specs.Agenda.{Shape, stackWords}
 use Rattle.search.specs.Runs.{Search}
-use Rattle.search.proofs.agenda.Encoding.{length-stackOf, stack-of-words}
+use Rattle.search.proofs.Encoding.{length-stackOf, stack-of-words}
 use Rattle.files.specs.Blocks.{blocksFor, fileOf}
 use Rattle.files.specs.Content.{contentOf, triangle}
 use Rattle.files.specs.Reading.{blocksIn, contentWord, contentFrom, saidN, saidD, saidSteps, saidChecks, saidSubproblems, saidDomains, saidAllowed, saidAgenda, saidSearch, saidWords, agendaFrom, triangleWords}

@@ -15,8 +15,8 @@ use Rattle.search.specs.Agenda.{Shape, stackOf, stackWords, slotsIn}
 use Rattle.search.specs.Calls.{searchOf}
 use Rattle.search.specs.declared.state.State.{State}
 use Rattle.search.proofs.first_checks.FirstPassing.{PassedSearch}
-use Rattle.search.proofs.agenda.Encoding.{length-stackOf, part-small, stack-of-words}
-use Rattle.search.proofs.HandedOn.{append-small}
+use Rattle.search.proofs.Encoding.{length-stackOf, part-small, stack-of-words}
+use Rattle.problem.proofs.Copies.{append-small}
 use Rattle.files.specs.Blocks.{blocksFor, fileOf}
 use Rattle.files.specs.Content.{each, after, triangle, contentOf}
 use Rattle.files.specs.Calls.{handedContent}

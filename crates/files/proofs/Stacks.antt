@@ -10,7 +10,7 @@ use lib.ListN.{length, getD, take, length-append, length-take, length-replicate,
 use lib.Seq.{length-take-le}
 use Rattle.splits.specs.declared.subproblem.Subproblem.{Subproblem}
 use Rattle.search.specs.Agenda.{holding, Shape, slotWords, subproblemOf, slotAt, slotsIn, stackOf, stackWords}
-use Rattle.search.proofs.agenda.Encoding.{slot-long, part-small, length-stack}
+use Rattle.search.proofs.Encoding.{slot-long, part-small, length-stack}
 use Rattle.files.proofs.Lists.{padded-at}
 
 -- Whole slots are as many as they are.

@@ -15,7 +15,7 @@ use Rattle.problem.specs.Lists.{total, below, splice}
 use Rattle.problem.specs.Problem.{tableOf}
 use Rattle.search.specs.declared.state.State.{State}
 use Rattle.problem.proofs.Copies.{splice-splice}
-use Rattle.search.proofs.agenda.Encoding.{stack-of-words, length-stackOf}
+use Rattle.search.proofs.Encoding.{stack-of-words, length-stackOf}
 use Rattle.files.specs.Blocks.{fileBytes, wordAt, checkOf, contentOfBlock, headedBlock, blockWords, firstBlocks}
 use Rattle.files.specs.Content.{each, triangle, contentOf}
 use Rattle.files.specs.Reading.{blockWord, headOf, triangleWords, wordCount}

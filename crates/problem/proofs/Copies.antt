@@ -1,7 +1,7 @@
 -- Memory that a loop writes from the front, and memory of which a part is written anew.
 -- Assumes nothing.
 use mathlib.Core.Path.{_≡_, refl, sym, ap, _∙_}
-use mathlib.Core.List.{List, [], _++_, append-assoc, append-nil}
+use mathlib.Core.List.{List, [], _++_, append-assoc, append-nil, _∷_}
 use Prim.Native.Nat.{ℕ, zero, suc, _+_, _-_, _≤_, _<_}
 use native.Mathlib.Omega.{arith}
 use native.Mathlib.Numerals.{add-one}
@@ -102,3 +102,9 @@ pub put-zeros : (l ys : List ℕ) (a w : ℕ) → ys ≡ replicate (length (midO
 put-zeros l ys a w e h =
     let long : length (midOf a ((a + w) - a) l) ≡ w = mid-len a (a + w) l h ∙ omega arith in
     put-part l ys (replicate w 0) a w (e ∙ ap (λ (k : ℕ). replicate k 0) long) (length-replicate w 0)
+
+-- two lists of numbers below B, one after the other, are such a list
+pub append-small : (B : ℕ) (a b : List ℕ) → ((i : ℕ) → getD a i 0 < B) → ((i : ℕ) → getD b i 0 < B) → (i : ℕ) → getD (a ++ b) i 0 < B
+append-small B [] b h k i = k i
+append-small B (x ∷ a) b h k zero = h 0
+append-small B (x ∷ a) b h k (suc i) = append-small B a b (λ j. h (suc j)) k i

@@ -7,9 +7,3 @@ pub mod Lists
 pub mod Products
 pub mod Promises
 pub mod Tests
-pub mod beside
-pub mod first_checks
-pub mod mask
-pub mod matrix
-pub mod symmetry
-pub mod tables

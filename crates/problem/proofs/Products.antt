@@ -7,6 +7,7 @@ use Prim.Native.Nat.{ℕ, zero, suc, _+_, _*_, _≤_, _<_}
 use native.Mathlib.Omega.{arith}
 use native.Mathlib.Nat.{eq-or-lt-of-le, le-of-suc-le-suc, le-refl, zero-mul, mul-zero, add-mul, mul-le-mul, mul-le-mul-left, mul-le-mul-right, mul-lt-mul-of-pos-left, mul-lt-mul-of-pos-right}
 use Rattle.problem.specs.Lists.{product, total}
+use native.Mathlib.Numerals.{add-one}
 
 -- A number below n + 1 is n or below n.
 pub last : {i n : ℕ} → i < suc n → (i ≡ n) ⊎ (i < n)
@@ -132,3 +133,8 @@ product-peel (suc n) kept t d q h =
     end : (b : Bool) → kept n ≡ b → product n t * t n + cond b (product n (q n) * q n n) 0 ≡ product n t * d n
     end true e = rw (product-same n (q n) t (λ i l. h .before n i (le-refl (suc n)) l), ← h .split n (le-refl (suc n)) e) (omega arith)
     end false e = rw (h .same n (le-refl (suc n)) e) (omega arith)
+
+-- A sum of one more.
+pub total-turn : (g : ℕ → ℕ) (i sum s : ℕ) → sum ≡ total i g → s ≡ g i → sum + s ≡ total (i + 1) g
+unfolding total
+total-turn g i sum s e f = rw (e, f, add-one) refl

@@ -1,4 +1,4 @@
--- Refusals 7 to 10: what the code's loops and tests find, which number the tests give, and which words of a request they read.
+-- A test at every number below n, and at some: what a loop over them finds, and what the answer says.
 -- Assumes nothing.
 use mathlib.Core.Path.{_≡_, refl, sym, ap, _∙_}
 use mathlib.Core.Bool.{Bool, true, false, _&&_, _||_}

@@ -1,9 +1,9 @@
 -- What a call leaves in lent words, handed on: it passes the first checks again, and holds the search that the call left.
 -- Assumes nothing.
 use mathlib.Core.Path.{_≡_, refl, sym, ap, _∙_}
-use mathlib.Core.Logic.{_⊎_, ⊎-elim}
+use mathlib.Core.Logic.{⊎-elim}
 use mathlib.Core.Bool.{Bool, true, false, cond}
-use mathlib.Core.List.{List, List·Memᴰ, List·Memᴰ·head, List·Memᴰ·tail, List·Memᴰ·append-cases, List·Memᴰ·not-nil, List·Memᴰ·eq-of-singleton, [], _∷_, _++_}
+use mathlib.Core.List.{List, List·Memᴰ, List·Memᴰ·head, List·Memᴰ·tail, List·Memᴰ·append-cases, List·Memᴰ·not-nil, List·Memᴰ·eq-of-singleton, [], _∷_}
 use Prim.Native.Nat.{ℕ, zero, suc, _+_, _-_, _*_, _^_, _≤_, _<_}
 use native.Mathlib.Omega.{arith}
 use native.Mathlib.Decide.{ℕ-discrete, decLt}
@@ -39,8 +39,8 @@ use Rattle.search.proofs.Runs.{run-ind}
 use Rattle.search.proofs.Refusals.{is-none}
 use Rattle.search.proofs.Passing.{step-is, step-passes, run-passes, top-held}
 use Rattle.search.proofs.step.Shapes.{pieces-regular}
-use Rattle.problem.proofs.Copies.{zeros-at}
-use Rattle.search.proofs.agenda.Encoding.{length-stack, length-stackOf, length-agenda, agenda-back}
+use Rattle.problem.proofs.Copies.{zeros-at, append-small}
+use Rattle.search.proofs.Encoding.{length-stack, length-stackOf, length-agenda, agenda-back}
 
 -- Every subproblem of a stack has the shape of a slot.
 abbrev pub Shaped : ℕ → ℕ → List Subproblem → Type 0
@@ -70,12 +70,6 @@ module _ (n d : ℕ) (domains tables : List ℕ) (room : ℕ) (fit : Sized n d t
       more (step-passes (problemOf n d domains tables) room P S s r h top f) (step-shaped P S s r h top f k))
 
 -- ---- words of 16 bits
-
--- two lists of numbers below B, one after the other, are such a list
-pub append-small : (B : ℕ) (a b : List ℕ) → ((i : ℕ) → getD a i 0 < B) → ((i : ℕ) → getD b i 0 < B) → (i : ℕ) → getD (a ++ b) i 0 < B
-append-small B [] b h k i = k i
-append-small B (x ∷ a) b h k zero = h 0
-append-small B (x ∷ a) b h k (suc i) = append-small B a b (λ j. h (suc j)) k i
 
 take-small : (B n : ℕ) (a : List ℕ) → 0 < B → ((i : ℕ) → getD a i 0 < B) → (i : ℕ) → getD (take n a) i 0 < B
 take-small B zero a z h i = z

@@ -1,4 +1,5 @@
 pub mod Cases
+pub mod Encoding
 pub mod Ending
 pub mod Exactly
 pub mod HandedOn
@@ -12,10 +13,3 @@ pub mod Refusals
 pub mod Running
 pub mod Runs
 pub mod Verdicts
-pub mod agenda
-pub mod chooser
-pub mod first_checks
-pub mod kept
-pub mod lanes
-pub mod rules
-pub mod step

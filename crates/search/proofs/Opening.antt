@@ -17,7 +17,7 @@ use Rattle.search.specs.Agenda.{holding, slotWords, stackWords, agendaOf
 use Rattle.search.specs.Calls.{opening}
 use Rattle.search.specs.Loops.Slots.{SlotIn}
 use Rattle.search.specs.Loops.Ends.{Openable}
-use Rattle.search.proofs.agenda.Encoding.{agenda-push}
+use Rattle.search.proofs.Encoding.{agenda-push}
 
 module _ (n : ℕ) (domains agenda : List ℕ) (o : Openable n domains agenda) where
   -- The problem has an empty domain if the words have.

@@ -27,7 +27,7 @@ use Rattle.search.specs.Loops.Ends.{Used, requestAt}
 use Rattle.search.specs.declared.state.State.{State}
 use Rattle.search.specs.declared.state.Verdict.the-variants.{Running, Solved, Unsolvable}
 use Rattle.search.specs.declared.step.Stop.{Stop}
-use Rattle.search.proofs.agenda.Encoding.{length-stackOf, agenda-back}
+use Rattle.search.proofs.Encoding.{length-stackOf, agenda-back}
 use Rattle.search.proofs.Verdicts.{finished-top}
 use Rattle.search.proofs.step.Stepping.{stack-more, run-on, run-stops, one-finished}
 use Rattle.search.proofs.chooser.Choosing.{chosen-is}

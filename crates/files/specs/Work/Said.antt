@@ -11,24 +11,7 @@ use Rattle.problem.specs.Lists.{every, below}
 use Rattle.search.specs.declared.state.State.{State}
 use Rattle.files.specs.Blocks.{checkOf, blocksFor}
 use Rattle.files.specs.Content.{each}
-use Rattle.files.specs.Reading.{
-  blocksIn,
-  blockWord,
-  headOf,
-  contentWord,
-  saidN,
-  saidD,
-  saidSteps,
-  saidChecks,
-  saidSubproblems,
-  saidAllowed,
-  agendaFrom,
-  saidWords,
-  trianglePlace,
-  gathered,
-  tableWords,
-  refusalOfFile,
-}
+use Rattle.files.specs.Reading.{blocksIn, blockWord, headOf, contentWord, saidN, saidD, saidSteps, saidChecks, saidSubproblems, saidAllowed, agendaFrom, saidWords, trianglePlace, gathered, tableWords, refusalOfFile}
 use Rattle.files.specs.declared.saved.Loaded.{Loaded}
 
 -- n and d are in their ranges.

@@ -39,7 +39,7 @@ use Rattle.search.specs.declared.chooser.Choice.{Choice}
 use Rattle.search.specs.declared.chooser.Left.{Left}
 use Rattle.problem.proofs.Copies.{splice-cover, splice-none}
 use Rattle.search.proofs.agenda.Slots.{slot-below}
-use Rattle.search.proofs.agenda.Encoding.{length-slot}
+use Rattle.search.proofs.Encoding.{length-slot}
 use Rattle.search.proofs.step.Accepting.{refused-at-11}
 use Rattle.search.proofs.step.Stepping.{in-slots, take-refused, take-steps, take-taken}
 use Rattle.search.proofs.Picking.{accepted, fewest-is}

@@ -27,7 +27,7 @@ use Rattle.search.specs.Loops.Kept.{Regular, Ready}
 use Rattle.search.specs.Loops.Ends.{Openable}
 use Rattle.search.specs.declared.state.State.{State}
 use Rattle.search.proofs.step.Accepting.{not-first, then-none}
-use Rattle.search.proofs.agenda.Encoding.{length-stackOf, agenda-of-words, part-small}
+use Rattle.search.proofs.Encoding.{length-stackOf, agenda-of-words, part-small}
 
 -- Of two refusals that are none together each is none.
 or-first : (a b : ℕ) → orElse a b ≡ 0 → a ≡ 0

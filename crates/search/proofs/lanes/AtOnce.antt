@@ -61,11 +61,6 @@ module _ (l : List ℕ) (set i best x y r s : ℕ) (few : i < 16) (so-far : Leas
         (⊎-elim (λ (q : s ≡ x). inr (i, omega arith, q ∙ first)) (λ (q : s ≡ y). inr (i + 16, omega arith, q ∙ second))) one-of;
   }
 
--- A sum of one more.
-pub total-turn : (g : ℕ → ℕ) (i sum s : ℕ) → sum ≡ total i g → s ≡ g i → sum + s ≡ total (i + 1) g
-unfolding total
-total-turn g i sum s e f = rw (e, f, add-one) refl
-
 -- A mask that is empty loses nothing; another does if nothing is left of it.
 module _ (m mask : ℕ) where
   pub loss-empty : m ≡ 0 → _≡_ {A = ℕ} 0 (cond (lost m mask) 1 0)

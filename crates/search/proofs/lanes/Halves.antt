@@ -20,7 +20,7 @@ use Rattle.search.specs.Agenda.{holding, subproblemOf, slotAt}
 use Rattle.search.specs.Loops.Slots.{SlotIn}
 use Rattle.search.specs.Loops.Lanes.{Half, Beyond, Below, Kept, KeptTo, keyOf, Sides, Share, FurtherTo}
 use Rattle.problem.proofs.Copies.{zeros-at}
-use Rattle.search.proofs.agenda.Encoding.{slot-lies}
+use Rattle.search.proofs.Encoding.{slot-lies}
 use Rattle.problem.proofs.first_checks.Joining.{bit-shr}
 use Rattle.problem.proofs.matrix.Turning.{bit-low}
 use Rattle.problem.proofs.matrix.Exchanging.{bit-xor}

@@ -4,7 +4,7 @@ use mathlib.Core.Path.{_≡_, ap, _∙_}
 use native.Mathlib.Omega.{arith}
 use lib.ListN.{length, length-replicate}
 use borrow.Author.Needs.{needs}
-use Rattle.search.proofs.agenda.Encoding.{length-slot}
+use Rattle.search.proofs.Encoding.{length-slot}
 use Rattle.search.proofs.Opening.{first-slot, opens-none, opens-one}
 use Rattle.search.proofs.place_problem.Statement.{statement}
 use Rattle.search.proofs.place_problem.Tie as tie

@@ -19,7 +19,7 @@ use Rattle.problem.proofs.Tests.{every-at, every-all}
 use Rattle.search.specs.Agenda.{holding, subproblemOf, slotAt}
 use Rattle.search.specs.Loops.Slots.{SlotIn}
 use Rattle.search.specs.Loops.FirstTests.{Mirrored, Next, heldAt, besideAt, markObeys, SameMarks, AsBelow, TellsSame, TellsBelow, MarksKnown}
-use Rattle.search.proofs.agenda.Encoding.{slot-long}
+use Rattle.search.proofs.Encoding.{slot-long}
 use Rattle.search.proofs.agenda.Slots.{slot-below}
 use Rattle.search.proofs.rules.Obeying.{is-marked}
 use Rattle.search.proofs.first_checks.FirstParts.{slotObeys}

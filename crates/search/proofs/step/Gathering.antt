@@ -21,7 +21,7 @@ use Rattle.search.specs.Loops.Slots.{SlotIn}
 use Rattle.search.specs.Loops.Steps.{Placed, Replaced}
 use Rattle.problem.proofs.Copies.{splice-none, splice-splice, splice-cover}
 use Rattle.search.proofs.agenda.Slots.{slot-below}
-use Rattle.search.proofs.agenda.Encoding.{length-slot}
+use Rattle.search.proofs.Encoding.{length-slot}
 use Rattle.search.proofs.step.Candidates.{firsts, firsts-le, firsts-drop, firsts-keep, pieces-are}
 
 -- What is placed when the candidates from k on were seen.

@@ -33,7 +33,7 @@ use Rattle.search.specs.Loops.Kept.{Regular, Ready}
 use Rattle.search.specs.Loops.Steps.{Replaced, Taking, StopsAt, refusalFor}
 use Rattle.search.specs.Calls.{searchOf}
 use Rattle.search.specs.declared.state.State.{State}
-use Rattle.search.proofs.agenda.Encoding.{length-stack, length-stackOf, stack-append, length-agenda, agenda-pop, agenda-push}
+use Rattle.search.proofs.Encoding.{length-stack, length-stackOf, stack-append, length-agenda, agenda-pop, agenda-push}
 use Rattle.search.proofs.step.Accepting.{accepted-reads, Unrefused, unrefused}
 use Rattle.search.proofs.step.Shapes.{pieces-regular}
 use Rattle.search.proofs.Verdicts.{finished-top}

@@ -15,8 +15,9 @@ use borrow.Author.Tests.{lt-ltb, le-ltb, le-leb, lt-leb, ne-eqb, eq-eqb, ltb-tru
 use Rattle.problem.specs.Masks.{bit, _∈_, Part, minus, size}
 use Rattle.problem.specs.Problem.{Table}
 use Rattle.splits.specs.Subproblems.{domain, empty}
-use Rattle.problem.specs.Lists.{some, every}
+use Rattle.problem.specs.Lists.{some, every, changed, below, keep}
 use Rattle.splits.specs.Requests.{kindOf, variableOf, valueOf, targetOf}
+use Rattle.splits.specs.Splits.{atTargets, without, extract, backtracking, forwardChecking, idc, halving, extraction, byKind, named, pieces}
 use Rattle.splits.specs.Checks.{tried, valuesIn, others, checks}
 use Rattle.splits.specs.Refusals.{Accepted, Deserves-7, Deserves-8, Deserves-9, Deserves-10}
 use Rattle.splits.specs.Tests.Refusals.{bad, someBad, allSame, refused-7, refused-8, refused-9, refused-10, refusalOf}
@@ -28,23 +29,6 @@ use Rattle.splits.proofs.split.ByKind.{kinds, no-kind}
 use Rattle.problem.proofs.Tests.{true-false, and-left, and-right, or-cases, some-more, some-at, some-found, some-same, every-at, every-all, every-same}
 use Rattle.splits.proofs.checks.Looking.{keep-append}
 use Rattle.splits.proofs.subproblem.Subproblems.{domain-out}
-
-use Rattle.splits.specs.Splits.{
-  changed,
-  below,
-  keep,
-  atTargets,
-  without,
-  extract,
-  backtracking,
-  forwardChecking,
-  idc,
-  halving,
-  extraction,
-  byKind,
-  named,
-  pieces,
-}
 
 -- ---- the loops over the targets
 

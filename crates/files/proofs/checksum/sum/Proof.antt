@@ -5,7 +5,7 @@ use mathlib.Core.Path.{_≡_, refl}
 use Prim.Native.Nat.{_-_, _*_, _≤_}
 use native.Mathlib.Omega.{arith}
 use Rattle.problem.specs.Lists.{total}
-use Rattle.search.proofs.lanes.AtOnce.{total-turn}
+use Rattle.problem.proofs.Products.{total-turn}
 use Rattle.files.specs.Work.Said.{valueAt}
 use Rattle.files.proofs.Places.{total-none, total-end}
 use Rattle.files.proofs.Found.{value-of}

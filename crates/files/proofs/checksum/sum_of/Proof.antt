@@ -5,7 +5,7 @@ use mathlib.Core.Path.{_≡_}
 use Prim.Native.Nat.{_-_, _*_, _≤_}
 use native.Mathlib.Omega.{arith}
 use Rattle.problem.specs.Lists.{total}
-use Rattle.search.proofs.lanes.AtOnce.{total-turn}
+use Rattle.problem.proofs.Products.{total-turn}
 use Rattle.files.specs.Reading.{blockWord}
 use Rattle.files.proofs.Places.{word-here, total-none, total-end}
 use Rattle.files.proofs.checksum.sum_of.Statement.{statement}

@@ -6,7 +6,7 @@ use native.Mathlib.Omega.{arith}
 use native.Mathlib.Nat.{one-mul, mod-eq-of-lt}
 use Rattle.problem.specs.Problem.{tableOf}
 use Rattle.problem.proofs.mask.Masks.{single-lt}
-use Rattle.problem.proofs.beside.Made.{Begun, begun-none, begun-more, row-made}
+use Rattle.problem.proofs.beside.Rows.{Begun, begun-none, begun-more, row-made}
 use Rattle.problem.proofs.beside.made.Statement.{statement}
 use Rattle.problem.proofs.beside.made.Tie as tie
 

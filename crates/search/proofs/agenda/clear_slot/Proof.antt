@@ -3,7 +3,7 @@
 use native.Mathlib.Omega.{arith}
 use mathlib.Core.Path.{ap, _∙_}
 use Rattle.problem.specs.Lists.{splice}
-use Rattle.search.proofs.agenda.Encoding.{slot-none}
+use Rattle.search.proofs.Encoding.{slot-none}
 use Rattle.search.proofs.agenda.clear_slot.Statement.{statement}
 use Rattle.search.proofs.agenda.clear_slot.Tie as tie
 

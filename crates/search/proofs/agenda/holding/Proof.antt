@@ -7,7 +7,7 @@ use native.Mathlib.Omega.{arith}
 use lib.ListN.{length, drop, take, replicate}
 use borrow.Author.Needs.{needs}
 use Rattle.problem.proofs.Copies.{copy-more}
-use Rattle.search.proofs.agenda.Encoding.{holding-made}
+use Rattle.search.proofs.Encoding.{holding-made}
 use Rattle.search.proofs.agenda.holding.Statement.{statement}
 use Rattle.search.proofs.agenda.holding.Tie as tie
 

@@ -3,7 +3,7 @@
 use mathlib.Core.Path.{_≡_}
 use native.Mathlib.Omega.{arith}
 use lib.ListN.{length, length-set}
-use Rattle.search.proofs.agenda.Encoding.{slot-filled}
+use Rattle.search.proofs.Encoding.{slot-filled}
 use borrow.Author.Needs.{needs}
 use Rattle.search.proofs.agenda.put_each.Statement.{statement}
 use Rattle.search.proofs.agenda.put_each.Tie as tie

@@ -1,7 +1,7 @@
 -- `search::agenda::read_slot` meets its contract.
 -- Assumes nothing.
 use native.Mathlib.Omega.{arith}
-use Rattle.search.proofs.agenda.Encoding.{slot-read}
+use Rattle.search.proofs.Encoding.{slot-read}
 use Rattle.search.proofs.agenda.read_slot.Statement.{statement}
 use Rattle.search.proofs.agenda.read_slot.Tie as tie
 

@@ -3,7 +3,7 @@
 use mathlib.Core.Path.{_∙_, ap}
 use native.Mathlib.Omega.{arith}
 use lib.ListN.{length}
-use Rattle.search.proofs.agenda.Encoding.{slot-part, slot-long}
+use Rattle.search.proofs.Encoding.{slot-part, slot-long}
 use Rattle.search.proofs.agenda.slot.Statement.{statement}
 use Rattle.search.proofs.agenda.slot.Tie as tie
 

@@ -5,7 +5,7 @@ use native.Mathlib.Omega.{arith}
 use lib.ListN.{length}
 use borrow.Author.Needs.{needs}
 use Rattle.problem.proofs.Copies.{put-part}
-use Rattle.search.proofs.agenda.Encoding.{length-slot}
+use Rattle.search.proofs.Encoding.{length-slot}
 use Rattle.search.proofs.agenda.write_slot.Statement.{statement}
 use Rattle.search.proofs.agenda.write_slot.Tie as tie
 

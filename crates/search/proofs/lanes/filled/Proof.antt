@@ -5,7 +5,7 @@ use Prim.Native.Nat.{_≤_, _-_}
 use native.Mathlib.Omega.{arith}
 use Rattle.problem.specs.Lists.{total}
 use Rattle.search.specs.Loops.Lanes.{filled}
-use Rattle.search.proofs.lanes.AtOnce.{total-turn}
+use Rattle.problem.proofs.Products.{total-turn}
 use Rattle.search.proofs.lanes.filled.Statement.{statement}
 use Rattle.search.proofs.lanes.filled.Tie as tie
 

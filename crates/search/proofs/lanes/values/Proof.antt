@@ -6,7 +6,7 @@ use native.Mathlib.Omega.{arith}
 use lib.ListN.{getD}
 use Rattle.problem.specs.Masks.{size}
 use Rattle.problem.specs.Lists.{total}
-use Rattle.search.proofs.lanes.AtOnce.{total-turn}
+use Rattle.problem.proofs.Products.{total-turn}
 use Rattle.search.proofs.lanes.values.Statement.{statement}
 use Rattle.search.proofs.lanes.values.Tie as tie
 
