@@ -1,9 +1,7 @@
-pub mod Words
-pub mod Rooms
-pub mod Runs
-pub mod Reaching
-pub mod SoFar
-pub mod Lending
-pub mod Refusing
 pub mod OneOutcome
+pub mod Refused
+pub mod Going
+pub mod Standing
+pub mod Living
+pub mod Cutting
 pub mod Promises

@@ -12,11 +12,11 @@ use Rattle.search.proofs.Promises.{open-one, run-one, choose-one}
 use Rattle.files.specs.declared.saved.Saved.{Saved}
 use Rattle.files.specs.declared.saved.Loaded.{Loaded}
 use Rattle.files.proofs.OneOutcome.{save-one, load-one}
-use Rattle.console.specs.Bytes.{Whole, bytesOf}
+use Rattle.bytes.specs.Bytes.{Whole, bytesOf}
 use Rattle.console.specs.Calls.{WholeProblem, OpensBytes, RunsBytes, ChoosesBytes, SavesBytes, LoadsBytes}
 
 -- Whether all are whole words can be told.
-whole-or-not : (domains tables agenda : List ℕ) → Dec (WholeProblem domains tables agenda)
+pub whole-or-not : (domains tables agenda : List ℕ) → Dec (WholeProblem domains tables agenda)
 whole-or-not domains tables agenda = elim (ℕ-discrete (length domains % 2) 0) [
   | yes a ↦ elim (ℕ-discrete (length tables % 2) 0) [
     | yes b ↦ elim (ℕ-discrete (length agenda % 2) 0) [

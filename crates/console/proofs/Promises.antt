@@ -1,9 +1,9 @@
 -- The promises of specs/Promises.antt.
 -- Assumes nothing.
 use mathlib.Core.Path.{_≡_, sym, ap, subst, _∙_}
-use mathlib.Core.Logic.{inl}
+use mathlib.Core.Logic.{inl, ⊎-elim}
 use mathlib.Core.List.{List, []}
-use Prim.Native.Nat.{ℕ}
+use Prim.Native.Nat.{ℕ, _-_, _≤_}
 use native.Mathlib.Omega.{arith}
 use Rattle.searches.specs.Verdicts.{numberOf}
 use Rattle.search.specs.Calls.{Opens, Runs, Chooses}
@@ -12,21 +12,20 @@ use Rattle.search.specs.declared.state.Ran.{Ran}
 use Rattle.search.proofs.Promises.{open-refusals}
 use Rattle.files.specs.declared.saved.Saved.{Saved}
 use Rattle.files.specs.declared.saved.Loaded.{Loaded}
+use Rattle.files.proofs.Promises.{lived-solvable, lived-steps, unsolvable-run, unsolvable-choose}
 use Rattle.files.proofs.Refusals.{load-14, load-15, load-3}
-use Rattle.console.specs.Bytes.{wordsOf}
-use Rattle.console.specs.Promises.{Words-again, Bytes-again, Unwhole-1, Unwhole-2, Unwhole-3, Unwhole-14, Unwhole-15, Unwhole-file-3, Open-in-words, Run-in-words, Choose-in-words, Load-in-words, Run-in-parts, Rastwob-open-one, Rastwob-run-one, Rastwob-choose-one, Rastwob-save-one, Rastwob-load-one}
-use Rattle.console.proofs.Words as words
-use Rattle.console.proofs.Rooms.{none-unwhole, load-no-words}
-use Rattle.console.proofs.Runs.{run-joined, run-ended}
+use Rattle.bytes.specs.Bytes.{wordsOf}
+use Rattle.console.specs.Promises.{Unwhole-1, Unwhole-2, Unwhole-3, Unwhole-14, Unwhole-15, Unwhole-file-3, Open-in-words, Run-in-words, Choose-in-words, Load-in-words, Run-in-parts, Open-refused, First-refused, Save-refused, Load-refused, Taken-stand, Solved-shows-plan, Unsolvable-if-none, Lived-in-words, Unsolvable-no-plan, Solvable-held, Steps-limited, Cut-run, Cut-chooser, Rastwob-open-one, Rastwob-run-one, Rastwob-choose-one, Rastwob-save-one, Rastwob-load-one}
+use Rattle.bytes.proofs.Words as words
+use Rattle.console.proofs.numbers.Unfit.{none-unwhole, load-no-words}
+use Rattle.console.proofs.parts.Runs.{run-joined, run-ended}
+use Rattle.console.specs.Searches.{Outcome, by-requests, by-chooser, Plan-in}
+use Rattle.console.proofs.Refused.{open-left, save-left, load-left}
+use Rattle.console.proofs.Going.{firstOf, stoppedOf, went, whole-or-odd, first-left, passes-so, plan-in}
+use Rattle.console.proofs.Standing.{taken-left}
+use Rattle.console.proofs.Living.{lived-so}
+use Rattle.console.proofs.Cutting.{cut-run-so, cut-chooser-so}
 use Rattle.console.proofs.OneOutcome.{opens-one, runs-one, chooses-one, saves-one, loads-one}
-
--- ---- words and bytes
-
-pub words-again : Words-again
-words-again w = (omega (arith, words.bytes-length w), words.bytes-small w, words.words-again w)
-
-pub bytes-again : Bytes-again
-bytes-again b e h = (words.words-small b h, words.bytes-again b e h)
 
 -- ---- a slice that is not whole words
 
@@ -99,6 +98,79 @@ run-in-parts n d domains tables before mid requests more s r small stepped w v r
   (λ e t after q h. run-joined n d domains tables before s small stepped mid requests more r w v runs e t after q h),
   (λ f. run-ended n d domains tables before s small stepped mid requests more r w v runs (λ e z. f e (ap numberOf z))),
 )
+
+-- ---- a refusal changes no byte
+
+pub open-refused : Open-refused
+open-refused = open-left
+
+pub first-refused : First-refused
+first-refused = first-left
+
+pub save-refused : Save-refused
+save-refused = save-left
+
+pub load-refused : Load-refused
+load-refused = load-left
+
+-- ---- requests taken stand
+
+pub taken-stand : Taken-stand
+taken-stand = taken-left
+
+-- ---- what a verdict says of the bytes
+
+pub solved-shows-plan : Solved-shows-plan
+solved-shows-plan n d domains tables s way o typed h e =
+    let some : o .verdict ≡ 0 → ⊥ = λ z. absurd (omega arith) in
+    let p = passes-so n d domains tables s way o typed h some in
+    let out = p .goes .out in
+    subst (λ (m : ℕ). (1 ≤ m) × Plan-in n d domains tables (o .held .agenda) (m - 1)) (sym (out .its-subproblems))
+    (plan-in n d domains tables (o .held .agenda) (p .goes .ran .state .subproblems) (p .says .solved (sym (out .its-verdict) ∙ e)))
+
+pub unsolvable-if-none : Unsolvable-if-none
+unsolvable-if-none n d domains tables s way o typed h some =
+    let p = passes-so n d domains tables s way o typed h some in
+    let out = p .goes .out in (
+      (λ e. out .its-subproblems ∙ p .says .unsolvable .0 (sym (out .its-verdict) ∙ e)),
+      (λ e. out .its-verdict ∙ p .says .unsolvable .1 (sym (out .its-subproblems) ∙ e)),
+    )
+
+-- ---- searches begun by opening
+
+pub lived-in-words : Lived-in-words
+lived-in-words n d domains opened-tables tables s l = lived-so n d domains opened-tables tables s l .1
+
+pub unsolvable-no-plan : Unsolvable-no-plan
+unfolding firstOf stoppedOf
+unsolvable-no-plan n d domains opened-tables tables s (by-requests requests) o l h e plan =
+    ⊎-elim
+    (λ v.
+    let x = went n d domains tables s (by-requests requests) o (v .0) (v .1) h in
+    unsolvable-run n d _ _ _ _ _ _ _ (x .ran) (lived-in-words n d domains opened-tables tables s l) (x .ends) (sym (x .out .its-verdict) ∙ e) plan)
+    (λ same. let none = ap (λ (y : Outcome). y .verdict) same in absurd (omega (arith, none)))
+    (whole-or-odd n d domains tables s (by-requests requests) o h)
+unsolvable-no-plan n d domains opened-tables tables s (by-chooser limit) o l h e plan =
+    ⊎-elim
+    (λ v.
+    let x = went n d domains tables s (by-chooser limit) o (v .0) (v .1) h in
+    unsolvable-choose n d _ _ _ _ _ _ _ (x .ran) (lived-in-words n d domains opened-tables tables s l) (x .ends) (sym (x .out .its-verdict) ∙ e) plan)
+    (λ same. let none = ap (λ (y : Outcome). y .verdict) same in absurd (omega (arith, none)))
+    (whole-or-odd n d domains tables s (by-chooser limit) o h)
+
+pub solvable-held : Solvable-held
+solvable-held n d domains opened-tables tables s l = lived-solvable n d _ _ _ _ _ (lived-in-words n d domains opened-tables tables s l)
+
+pub steps-limited : Steps-limited
+steps-limited n d domains opened-tables tables s l = lived-steps n d _ _ _ _ _ (lived-in-words n d domains opened-tables tables s l)
+
+-- ---- the cut
+
+pub cut-run : Cut-run
+cut-run = cut-run-so
+
+pub cut-chooser : Cut-chooser
+cut-chooser = cut-chooser-so
 
 -- ---- one answer
 

@@ -15,7 +15,7 @@ use Rattle.files.specs.Reading.{refusalOfWords}
 use Rattle.files.specs.Calls.{Saves, Loads}
 use Rattle.files.specs.declared.saved.Saved.{Saved}
 use Rattle.files.specs.declared.saved.Loaded.{Loaded}
-use Rattle.console.specs.Bytes.{Whole, wordsOf, bytesOf}
+use Rattle.bytes.specs.Bytes.{Whole, wordsOf, bytesOf}
 
 -- The state of the three numbers that are handed in.
 abbrev pub stateOf : ℕ → ℕ → ℕ → State

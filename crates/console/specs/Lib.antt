@@ -1,5 +1,5 @@
--- The calls for C: words in bytes, then each call over everything that goes in and out. What only mirrors the code stands in Work.
-pub mod Bytes
+-- The calls for C, each over everything that goes in and out. What only mirrors the code stands in Loops.
 pub mod Calls
+pub mod Searches
 pub mod Promises
-pub mod Work
+pub mod Loops

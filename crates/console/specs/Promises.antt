@@ -1,34 +1,31 @@
 -- What the calls for C promise beside their statements. Stated here, proved in proofs/Promises.antt.
 use mathlib.Core.Path.{_≡_}
 use mathlib.Core.Logic.{_↔_}
-use mathlib.Core.List.{List, _++_}
-use Prim.Native.Nat.{ℕ, _+_, _≤_}
-use lib.ListN.{length}
+use mathlib.Core.List.{List, List·Memᴰ, _++_}
+use Prim.Native.Nat.{ℕ, _+_, _-_, _*_, _≤_}
+use lib.ListN.{length, take, drop}
+use Rattle.problem.specs.Problem.{Problem, Words}
+use Rattle.splitting.specs.Promises.{Solvable}
+use Rattle.splits.specs.declared.subproblem.Subproblem.{Subproblem}
 use Rattle.searches.specs.Verdicts.{numberOf}
+use Rattle.search.specs.Slots.{Search}
 use Rattle.searches.specs.Runs.{requestsIn}
 use Rattle.problem.specs.FirstChecks.{Deserves-1, Deserves-2}
 use Rattle.search.specs.FirstChecks.{WholeRequests}
 use Rattle.search.specs.Calls.{Opens, Runs, Chooses}
+use Rattle.searches.specs.Promises.{Has-solution, Limited}
 use Rattle.search.specs.declared.state.State.{State}
 use Rattle.search.specs.declared.state.Opened.{Opened}
 use Rattle.search.specs.declared.state.Ran.{Ran}
-use Rattle.blocks.specs.Reading.{Deserves-14, Bytes}
+use Rattle.blocks.specs.Reading.{Deserves-14}
 use Rattle.files.specs.Reading.{Deserves-15}
-use Rattle.problem.specs.Problem.{Words}
-use Rattle.files.specs.Calls.{Loads}
+use Rattle.blocks.specs.Blocks.{blocksFor}
+use Rattle.files.specs.Calls.{handedContent, Loads}
+use Rattle.files.specs.Promises.{Lived}
 use Rattle.files.specs.declared.saved.Loaded.{Loaded}
-use Rattle.console.specs.Bytes.{Whole, wordsOf, bytesOf}
-use Rattle.console.specs.Calls.{unwhole, unwholeFile, WholeProblem, OpensBytes, OpensForC, RunsBytes, RunsForC, ChoosesBytes, ChoosesForC, SavesForC, LoadsBytes, LoadsForC}
-
--- ---- words and bytes say each other
-
--- The bytes of words are whole words, bytes if the words have 16 bits, and say the words again.
-abbrev pub Words-again : Type 0
-Words-again = (words : List ℕ) → Whole (bytesOf words) × (Words words → Bytes (bytesOf words)) × (wordsOf (bytesOf words) ≡ words)
-
--- The words that whole words of bytes say have 16 bits, and their bytes are the bytes again.
-abbrev pub Bytes-again : Type 0
-Bytes-again = (bytes : List ℕ) → Whole bytes → Bytes bytes → Words (wordsOf bytes) × (bytesOf (wordsOf bytes) ≡ bytes)
+use Rattle.bytes.specs.Bytes.{Bytes, Whole, wordsOf}
+use Rattle.console.specs.Searches.{Held, Typed, Outcome, Way, by-requests, by-chooser, Goes-on, problemIn, searchIn, Plan-in, Lived-for-C}
+use Rattle.console.specs.Calls.{stateOf, unwhole, unwholeFile, WholeProblem, OpensBytes, OpensForC, RunsBytes, RunsForC, ChoosesBytes, ChoosesForC, SavesForC, LoadsBytes, LoadsForC}
 
 -- ---- a slice that is not whole words, in 3's place of the order
 
@@ -91,6 +88,150 @@ Run-in-parts =
     → Runs n d domains tables before after (requests ++ more) s
     (record { verdict = q .verdict; refusal = q .refusal; taken = r .taken + q .taken; state = q .state }))
     × ((r .refusal ≡ 0 → numberOf (r .verdict) ≡ 1 → ⊥) → Runs n d domains tables before mid (requests ++ more) s r)
+
+-- ---- a refusal changes no byte
+
+-- Of every call that is refused, what was lent stays, to the byte, but for the numbers that the header says it clears. Domains, tables and requests,
+-- and of save the agenda, are lent to be read, so that no call can change them; load alone writes domains and tables.
+
+-- Opening: the agenda stays, the three numbers are 0.
+abbrev pub Open-refused : Type 0
+Open-refused =
+    (n d : ℕ) (domains tables before after : List ℕ) (steps checks subproblems refusal : ℕ) → Bytes before
+    → OpensForC n d domains tables before after steps checks subproblems refusal → (refusal ≡ 0 → ⊥)
+    → (after ≡ before) × (steps ≡ 0) × (checks ≡ 0) × (subproblems ≡ 0)
+
+-- A run or the chooser, at its first checks (1 to 6): the agenda and the three numbers stay, verdict and taken are 0.
+abbrev pub First-refused : Type 0
+First-refused =
+    (n d : ℕ) (domains tables : List ℕ) (s : Held) (way : Way) (o : Outcome) → Typed s → Goes-on n d domains tables s way o → 1 ≤ o .refusal
+    → o .refusal ≤ 6 → o ≡ record { held = s; verdict = 0; taken = 0; refusal = o .refusal }
+
+-- Save: the file buffer stays, no block is written.
+abbrev pub Save-refused : Type 0
+Save-refused =
+    (n d : ℕ) (domains tables agenda : List ℕ) (steps checks subproblems : ℕ) (before after : List ℕ) (blocks refusal : ℕ)
+    → SavesForC n d domains tables agenda steps checks subproblems before after blocks refusal → (refusal ≡ 0 → ⊥)
+    → (after ≡ before) × (blocks ≡ 0)
+
+-- Load: domains, tables and agenda stay, the five numbers are 0.
+abbrev pub Load-refused : Type 0
+Load-refused =
+    (file domains domains′ tables tables′ agenda agenda′ : List ℕ) (n d steps checks subproblems refusal : ℕ) → Bytes domains → Bytes tables
+    → Bytes agenda → LoadsForC file domains domains′ tables tables′ agenda agenda′ n d steps checks subproblems refusal → (refusal ≡ 0 → ⊥)
+    → (domains′ ≡ domains) × (tables′ ≡ tables) × (agenda′ ≡ agenda) × (n ≡ 0) × (d ≡ 0) × (steps ≡ 0) × (checks ≡ 0) × (subproblems ≡ 0)
+
+-- ---- requests accepted before a refusal stand
+
+-- A run whose first checks pass, refused later or not: the run of the requests that it took, alone, leaves the same bytes and numbers, takes all of them
+-- and is not refused.
+abbrev pub Taken-stand : Type 0
+Taken-stand =
+    (n d : ℕ) (domains tables requests : List ℕ) (s : Held) (o q : Outcome) → Typed s → Goes-on n d domains tables s (by-requests requests) o
+    → (o .verdict ≡ 0 → ⊥) → Goes-on n d domains tables s (by-requests (take (2 * (o .taken * (n + 3))) requests)) q
+    → q ≡ record { held = o .held; verdict = o .verdict; taken = o .taken; refusal = 0 }
+
+-- ---- what a verdict says of the bytes
+
+-- Solved, 2: the top slot, subproblems - 1, shows a plan.
+abbrev pub Solved-shows-plan : Type 0
+Solved-shows-plan =
+    (n d : ℕ) (domains tables : List ℕ) (s : Held) (way : Way) (o : Outcome) → Typed s → Goes-on n d domains tables s way o → o .verdict ≡ 2
+    → (1 ≤ o .held .subproblems) × Plan-in n d domains tables (o .held .agenda) (o .held .subproblems - 1)
+
+-- Unsolvable, 3: exactly if no subproblem is held, where the first checks pass.
+abbrev pub Unsolvable-if-none : Type 0
+Unsolvable-if-none =
+    (n d : ℕ) (domains tables : List ℕ) (s : Held) (way : Way) (o : Outcome) → Typed s → Goes-on n d domains tables s way o
+    → (o .verdict ≡ 0 → ⊥) → (o .verdict ≡ 3) ↔ (o .held .subproblems ≡ 0)
+
+-- ---- searches begun by opening, by the calls for C alone
+
+-- In words it is a search that files' `Lived` has, so that what is promised of those holds of it.
+abbrev pub Lived-in-words : Type 0
+Lived-in-words =
+    (n d : ℕ) (domains opened-tables tables : List ℕ) (s : Held) → Lived-for-C n d domains opened-tables tables s
+    → Lived n d (wordsOf domains) (wordsOf opened-tables) (wordsOf tables) (wordsOf (s .agenda)) (stateOf (s .steps) (s .checks) (s .subproblems))
+
+-- A way on that says unsolvable: the problem that was opened has no plan.
+abbrev pub Unsolvable-no-plan : Type 0
+Unsolvable-no-plan =
+    (n d : ℕ) (domains opened-tables tables : List ℕ) (s : Held) (way : Way) (o : Outcome) → Lived-for-C n d domains opened-tables tables s
+    → Goes-on n d domains tables s way o → o .verdict ≡ 3 → Has-solution (problemIn n d domains opened-tables) → ⊥
+
+-- Of each such search, something said of the problem that was opened and of the search.
+abbrev pub Lives-for-C : (Problem → Search → Type 0) → Type 0
+Lives-for-C Said =
+    (n d : ℕ) (domains opened-tables tables : List ℕ) (s : Held) → Lived-for-C n d domains opened-tables tables s
+    → Said (problemIn n d domains opened-tables) (searchIn n s)
+
+-- The problem has a plan exactly if some subproblem that is held has one.
+abbrev pub Solvable-held : Type 0
+Solvable-held = Lives-for-C (λ p s. Has-solution p ↔ ((P : Subproblem) × List·Memᴰ P (s .memory) × Solvable p P))
+
+-- The steps are limited by the possibilities.
+abbrev pub Steps-limited : Type 0
+Steps-limited = Lives-for-C (λ p s. Limited p s)
+
+-- ---- the cut, on bytes
+
+-- Two ways on from one search, by the calls for C. Uncut: one call. Cut: a first call, what it leaves saved into a buffer of at least its blocks, loaded
+-- from exactly these blocks into domains and tables of the right lengths and an agenda of equal length, and a second call on what was loaded, which may
+-- depend on how many requests the first took. Whatever the lent buffers held before.
+pub record Cut (n d : ℕ) (domains tables : List ℕ) (s : Held) (all to-the-cut : Way) (rest : ℕ → Way) : Type 0 where
+  pub whole : Outcome
+  pub uncut : Goes-on n d domains tables s all whole
+  pub first : Outcome
+  pub first-part : Goes-on n d domains tables s to-the-cut first
+  pub buffer : List ℕ
+  pub written : List ℕ
+  pub blocks : ℕ
+  pub save-refusal : ℕ
+  pub saves : SavesForC n d domains tables (first .held .agenda) (first .held .steps) (first .held .checks) (first .held .subproblems) buffer written
+      blocks save-refusal
+  pub enough : 512 * blocksFor (length (handedContent n d (wordsOf domains) (wordsOf tables) (wordsOf (first .held .agenda)) (stateOf (first .held .steps) (first .held .checks) (first .held .subproblems)))) ≤ length buffer
+  pub loaded : Held
+  pub n′ : ℕ
+  pub d′ : ℕ
+  pub domains₀ : List ℕ
+  pub domains′ : List ℕ
+  pub tables₀ : List ℕ
+  pub tables′ : List ℕ
+  pub agenda₀ : List ℕ
+  pub load-refusal : ℕ
+  pub loads : LoadsForC (take (512 * blocks) written) domains₀ domains′ tables₀ tables′ agenda₀ (loaded .agenda) n′ d′ (loaded .steps) (loaded .checks)
+      (loaded .subproblems) load-refusal
+  pub domain-bytes : length domains₀ ≡ 2 * n
+  pub table-bytes : length tables₀ ≡ 2 * (n * n * d)
+  pub agenda-bytes : length agenda₀ ≡ length (first .held .agenda)
+  pub second : Outcome
+  pub goes-on : Goes-on n′ d′ domains′ tables′ loaded (rest (first .taken)) second
+
+-- Neither save nor load is refused, and the end is the uncut call's, to the byte: agenda, three numbers, verdict and refusal; the numbers taken add up.
+pub record Ends-as-uncut {n d : ℕ} {domains tables : List ℕ} {s : Held} {all to-the-cut : Way} {rest : ℕ → Way}
+    (c : Cut n d domains tables s all to-the-cut rest) : Type 0 where
+  pub saved : c .save-refusal ≡ 0
+  pub loaded : c .load-refusal ≡ 0
+  pub held : c .second .held ≡ c .whole .held
+  pub verdict : c .second .verdict ≡ c .whole .verdict
+  pub refusal : c .second .refusal ≡ c .whole .refusal
+  pub taken : c .first .taken + c .second .taken ≡ c .whole .taken
+
+-- A list of requests, cut between two of them, of any search whose first checks pass, both to the cut and uncut: the second call runs the requests not
+-- yet taken.
+abbrev pub Cut-run : Type 0
+Cut-run =
+    (n d : ℕ) (domains tables requests more : List ℕ) (s : Held) → Typed s
+    → (c : Cut n d domains tables s (by-requests (requests ++ more)) (by-requests requests)
+    (λ taken. by-requests (drop (2 * (taken * (n + 3))) (requests ++ more))))
+    → (c .first .verdict ≡ 0 → ⊥) → (c .whole .verdict ≡ 0 → ⊥) → Ends-as-uncut c
+
+-- The house chooser, up to m steps and then up to k more. A call asked for no step meets no refusal: where k is 0, the first is to have met none.
+abbrev pub Cut-chooser : Type 0
+Cut-chooser =
+    (n d : ℕ) (domains tables : List ℕ) (m k : ℕ) (s : Held) → Typed s
+    → (c : Cut n d domains tables s (by-chooser (m + k)) (by-chooser m) (λ taken. by-chooser k)) → (c .first .verdict ≡ 0 → ⊥)
+    → (k ≡ 0 → c .first .refusal ≡ 0) → Ends-as-uncut c
 
 -- ---- one answer
 

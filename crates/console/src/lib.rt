@@ -1,8 +1,9 @@
 // The planner for C: the five calls on numbers and byte slices, over the covered calls on words.
-mod bytes;
 mod calls;
+mod fronts;
 mod numbers;
 mod parts;
+mod rooms;
 
 ghost use Rattle.console.specs.Calls.{OpensForC, RunsForC, ChoosesForC, SavesForC, LoadsForC};
 

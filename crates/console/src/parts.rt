@@ -1,5 +1,4 @@
 // A list of requests of any length, turned into words and run a part at a time.
-use crate::bytes;
 use crate::numbers;
 use search::state::Ran;
 use search::state::State;
@@ -7,8 +6,8 @@ ghost use mathlib.Core.Path.{_≡_};
 ghost use Prim.Native.Nat.{_%_, _≤_, _<_};
 ghost use lib.ListN.{length};
 ghost use Rattle.search.specs.Calls.{Runs};
-ghost use Rattle.console.specs.Bytes.{wordsOf};
-ghost use Rattle.console.specs.Work.Parts.{goesOn, WholeAt, Listed, Part, Narrow};
+ghost use Rattle.bytes.specs.Bytes.{wordsOf};
+ghost use Rattle.console.specs.Loops.Parts.{goesOn, WholeAt, Listed, Part, Narrow};
 
 // Whether a run that ended so goes on with the next part: none refused and still running.
 fn goes_on(ran: Ran) -> bool
@@ -47,7 +46,7 @@ fn run_part(
     ensures { λ r. ⌜ Runs n d (now (domains .entry)) (now (tables .entry)) (now (agenda .entry)) (now (agenda .exit)) (wordsOf (now (requests .entry))) state r ⌝ }
 {
     let mut words = [0u16; 7000];
-    let count = bytes::any_words_of(requests, &mut words);
+    let count = bytes::words_of(requests, &mut words);
     search::run(n, d, domains, tables, agenda, &words[..count], state)
 }
 

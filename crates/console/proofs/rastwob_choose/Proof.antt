@@ -1,7 +1,7 @@
 -- `console::rastwob_choose` meets its contract.
 -- Assumes nothing.
 use mathlib.Core.Path.{refl}
-use Rattle.console.proofs.Refusing.{chooses-state}
+use Rattle.console.proofs.calls.Refusing.{chooses-state}
 use borrow.Author.Needs.{needs}
 use Rattle.console.proofs.rastwob_choose.Statement.{statement}
 use Rattle.console.proofs.rastwob_choose.Tie as tie

@@ -1,7 +1,7 @@
 -- `console::rastwob_run` meets its contract.
 -- Assumes nothing.
 use mathlib.Core.Path.{refl}
-use Rattle.console.proofs.Refusing.{runs-state}
+use Rattle.console.proofs.calls.Refusing.{runs-state}
 use borrow.Author.Needs.{needs}
 use Rattle.console.proofs.rastwob_run.Statement.{statement}
 use Rattle.console.proofs.rastwob_run.Tie as tie

@@ -1,7 +1,7 @@
 -- `console::rastwob_save` meets its contract.
 -- Assumes nothing.
 use mathlib.Core.Path.{refl}
-use Rattle.console.proofs.Refusing.{saves-state}
+use Rattle.console.proofs.calls.Refusing.{saves-state}
 use borrow.Author.Needs.{needs}
 use Rattle.console.proofs.rastwob_save.Statement.{statement}
 use Rattle.console.proofs.rastwob_save.Tie as tie

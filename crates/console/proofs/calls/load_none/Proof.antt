@@ -1,6 +1,6 @@
 -- `console::calls::load_none` meets its contract.
 -- Assumes nothing.
-use Rattle.console.proofs.Refusing.{none-loaded}
+use Rattle.console.proofs.calls.Refusing.{none-loaded}
 use borrow.Author.Needs.{needs}
 use Rattle.console.proofs.calls.load_none.Statement.{statement}
 use Rattle.console.proofs.calls.load_none.Tie as tie

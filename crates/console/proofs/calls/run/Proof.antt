@@ -3,91 +3,83 @@
 use mathlib.Core.Path.{sym}
 use native.Mathlib.Omega.{arith}
 use lib.Seq.{length-take-le}
-use borrow.Author.Tests.{not-false}
-use Rattle.console.proofs.Rooms.{room-true, front-room}
-use Rattle.console.proofs.Refusing.{listed-then, runs-long, runs-turned, runs-cut}
-use Rattle.console.proofs.Lending.{front-runs}
+use Rattle.console.proofs.rooms.Testing.{room-then, room-false, listed-then, listed-even}
+use Rattle.console.proofs.fronts.Measuring.{front-fits, front-room, front-whole-problem}
+use Rattle.console.proofs.calls.Refusing.{runs-long, runs-turned, runs-cut}
+use Rattle.console.proofs.calls.Lending.{front-runs}
 use borrow.Author.Needs.{needs}
 use Rattle.console.proofs.calls.run.Statement.{statement}
 use Rattle.console.proofs.calls.run.Tie as tie
 
-room-for-requires : tie.Need-room-for-requires
-room-for-requires c κs = search needs
+whole-list-requires : tie.Need-whole-list-requires
+whole-list-requires c κs = search needs
 
 refused-requires : tie.Need-refused-requires
 refused-requires c κs = search needs
 
 returns : tie.Need-returns
 returns c =
-    runs-long _ _ _ _ _ _ _ (c .before .before .room-for .ensures) _ _ (c .before .before .before .before .before .before .before .pre)
-    (λ i. omega (arith, c .before .before .before .before .slice-known .given i))
-    (c .refused .ensures) (c .before .if1 .taken)
-
-whole-list-requires : tie.Need-whole-list-requires
-whole-list-requires c κs = search needs
+    runs-cut (c .before .before .before .before .before .before .before .pre) (λ i. omega (arith, c .before .before .before .before .slice-known .given i)) (c .refused .ensures) _ (c .before .before .whole-list .ensures) (c .before .if1 .taken)
 
 front-of-requires : tie.Need-front-of-requires
-front-of-requires c κs = (
-  listed-then _ _ _ (c .before .before .whole-list .ensures) (c .before .if2 .taken) .few,
-  c .before .before .before .before .before .before .before .before .before .pre,
-)
+front-of-requires c κs =
+    (listed-then _ _ _ (c .before .before .whole-list .ensures) (c .before .if1 .left) .few, c .before .before .before .before .before .before .before .pre)
 
-slice-relend-prefix-run-words : tie.Need-slice-relend-prefix-run-words
-slice-relend-prefix-run-words c = c .front-of .ensures .reach .inside
+room-for-requires : tie.Need-room-for-requires
+room-for-requires c κs = search needs
 
-slice-aggregate-run-words : tie.Need-slice-aggregate-run-words
-slice-aggregate-run-words c = sym (length-take-le _ _ (c .before .front-of .ensures .reach .inside))
-
-run-words-requires : tie.Need-run-words-requires
-run-words-requires c κs =
-    let room = room-true _ _ _ _ (c .before .before .before .before .before .before .room-for .ensures)
-    (not-false _ (c .before .before .before .before .before .if1 .left)) in (
-      front-room (c .before .front-of .ensures) room,
-      (
-        listed-then _ _ _ (c .before .before .before .before .whole-list .ensures) (c .before .before .before .if2 .taken),
-        c .before .before .before .before .before .before .before .before .before .before .before .pre,
-      ),
-    )
+refused-requires-2 : tie.Need-refused-requires-2
+refused-requires-2 c κs = search needs
 
 same-length : tie.Need-same-length
 same-length c = search needs
 
 returns-2 : tie.Need-returns-2
 returns-2 c =
-    let ran = c .before .before .run-words in
-    let front = c .before .before .before .before .front-of .ensures in
-    let list = c .before .before .before .before .before .before .before .whole-list .ensures in
-    let listed = listed-then _ _ _ list (c .before .before .before .before .before .before .if2 .taken) in
-    let runs = front-runs front listed (ran .kept .1 .1 .1 .1 .0) (ran .ensures .0) in
-    let room = c .before .before .before .before .before .before .before .before .before .room-for .ensures in (
-      runs-turned _ _ _ _ _ _ _ room _ _ _ _ (c .before .before .before .before .before .before .before .before .if1 .left) list
-          (c .before .before .before .before .before .before .if2 .taken) runs,
-      ran .ensures .1,
-    )
+    runs-long (c .before .before .before .before .before .before .before .before .before .before .before .pre) (λ i. omega (arith, c .before .before .before .before .before .before .before .before .slice-known .given i)) (c .refused2 .ensures)
+    (λ w. room-false _ _ _ _ _ (c .before .before .room-for .ensures) (c .before .if2 .taken) w (front-fits (c .before .before .before .front-of .ensures)))
 
-refused-requires-2 : tie.Need-refused-requires-2
-refused-requires-2 c κs = search needs
+slice-relend-prefix-run-front : tie.Need-slice-relend-prefix-run-front
+slice-relend-prefix-run-front c = c .before .before .front-of .ensures .reach .inside
+
+slice-aggregate-run-front : tie.Need-slice-aggregate-run-front
+slice-aggregate-run-front c = sym (length-take-le _ _ (c .before .before .before .front-of .ensures .reach .inside))
+
+run-front-requires : tie.Need-run-front-requires
+run-front-requires c κs = (
+  front-room (c .before .before .before .front-of .ensures) (room-then _ (c .before .before .room-for .ensures) (c .before .if2 .left)),
+  (listed-then _ _ _ (c .before .before .before .before .before .before .whole-list .ensures) (c .before .before .before .before .before .if1 .left), c .before .before .before .before .before .before .before .before .before .before .before .pre),
+)
+
+same-length-2 : tie.Need-same-length-2
+same-length-2 c = search needs
 
 returns-3 : tie.Need-returns-3
 returns-3 c =
-    runs-cut _ _ _ _ _ _ _ (c .before .before .before .before .room-for .ensures) _ _
-    (c .before .before .before .before .before .before .before .before .before .pre)
-    (λ i. omega (arith, c .before .before .before .before .before .before .slice-known .given i))
-    (c .refused2 .ensures) _ (c .before .before .whole-list .ensures) (c .before .if2 .left)
+    let ran = c .before .before in
+    let test = ran .before .before in
+    let front = test .before .before .front-of .ensures in
+    let listed = listed-then _ _ _ (test .before .before .before .before .before .whole-list .ensures) (test .before .before .before .before .if1 .left) in
+    let fits = room-then _ (test .before .room-for .ensures) (test .if2 .left) in (
+      runs-turned (front-whole-problem front fits) (listed-even _ _ listed)
+          (front-runs front listed (ran .run-front .kept .1 .1 .1 .1 .0) (ran .run-front .ensures .0)),
+      ran .run-front .ensures .1,
+    )
 
 pub run-spec : {M : Type 1} → statement M
 run-spec =
     tie.close
     (tie.spec
-    room-for-requires
+    whole-list-requires
     refused-requires
     returns
-    whole-list-requires
     front-of-requires
-    slice-relend-prefix-run-words
-    slice-aggregate-run-words
-    run-words-requires
+    room-for-requires
+    refused-requires-2
     same-length
     returns-2
-    refused-requires-2
+    slice-relend-prefix-run-front
+    slice-aggregate-run-front
+    run-front-requires
+    same-length-2
     returns-3)

@@ -1,7 +1,11 @@
 -- `console::calls::save` meets its contract.
 -- Assumes nothing.
-use Rattle.console.proofs.Rooms.{room-true}
-use Rattle.console.proofs.Refusing.{saves-turned, saves-refused}
+use mathlib.Core.Path.{refl}
+use native.Mathlib.Omega.{arith}
+use Rattle.bytes.proofs.Fitting.{count-is}
+use Rattle.console.proofs.rooms.Testing.{room-true, room-whole, room-false}
+use Rattle.console.proofs.calls.Lending.{said-last, saves-words}
+use Rattle.console.proofs.calls.Refusing.{saves-turned, saves-refused}
 use borrow.Author.Needs.{needs}
 use Rattle.console.proofs.calls.save.Statement.{statement}
 use Rattle.console.proofs.calls.save.Tie as tie
@@ -9,24 +13,74 @@ use Rattle.console.proofs.calls.save.Tie as tie
 room-for-requires : tie.Need-room-for-requires
 room-for-requires c κs = search needs
 
-save-words-requires : tie.Need-save-words-requires
-save-words-requires c κs = room-true _ _ _ _ (c .before .before .room-for .ensures) (c .before .if1 .taken)
+unsaved-requires : tie.Need-unsaved-requires
+unsaved-requires c κs = search needs
+
+returns : tie.Need-returns
+returns c = saves-refused (λ w. room-false _ _ _ _ _ (c .before .before .room-for .ensures) (c .before .if1 .taken) w (λ f. f)) (c .unsaved .ensures)
+
+slice-aggregate-three-of : tie.Need-slice-aggregate-three-of
+slice-aggregate-three-of c = refl
+
+slice-aggregate-three-of-2 : tie.Need-slice-aggregate-three-of-2
+slice-aggregate-three-of-2 c = refl
+
+slice-aggregate-three-of-3 : tie.Need-slice-aggregate-three-of-3
+slice-aggregate-three-of-3 c = refl
+
+three-of-requires : tie.Need-three-of-requires
+three-of-requires c κs = tt
+
+array-share-prefix-domain-words : tie.Need-array-share-prefix-domain-words
+array-share-prefix-domain-words c = c .before .before .before .three-of .ensures .of-first .room
+
+slice-aggregate-save : tie.Need-slice-aggregate-save
+slice-aggregate-save c = count-is (c .before .before .before .before .three-of .ensures .of-first)
+
+array-share-prefix-table-words : tie.Need-array-share-prefix-table-words
+array-share-prefix-table-words c = c .before .before .before .before .three-of .ensures .of-third .room
+
+slice-aggregate-save-2 : tie.Need-slice-aggregate-save-2
+slice-aggregate-save-2 c = count-is (c .before .before .before .before .before .three-of .ensures .of-third)
+
+array-share-prefix-agenda-words : tie.Need-array-share-prefix-agenda-words
+array-share-prefix-agenda-words c = c .before .before .before .before .before .three-of .ensures .of-second .room
+
+slice-aggregate-save-3 : tie.Need-slice-aggregate-save-3
+slice-aggregate-save-3 c = count-is (c .before .before .before .before .before .before .three-of .ensures .of-second)
+
+save-requires : tie.Need-save-requires
+save-requires c κs = tt
 
 same-length : tie.Need-same-length
 same-length c = search needs
 
-returns : tie.Need-returns
-returns c =
-    saves-turned _ _ _ _ _ _ _ (c .before .before .before .before .before .room-for .ensures) _ _ _ (c .before .before .before .before .if1 .taken)
-    (c .before .before .save-words .ensures)
-
-unsaved-requires : tie.Need-unsaved-requires
-unsaved-requires c κs = search needs
-
 returns-2 : tie.Need-returns-2
-returns-2 c = saves-refused _ _ _ _ _ _ _ (c .before .before .room-for .ensures) _ _ (c .before .if1 .left) (c .unsaved .ensures)
+returns-2 c =
+    let made = c .before .before .before .before .before .before .before .before .before .before in
+    let test = made .before .before .before .before in
+    let room = room-true _ _ _ _ (test .before .room-for .ensures) (test .if1 .left) in
+    let (domains, agenda, tables) = said-last room refl refl refl (made .three-of .ensures) in
+    saves-turned (room-whole room)
+    (saves-words _ _ _ _ _ _ domains tables agenda (λ i. omega (arith, test .before .before .before .shared-slice-known3 .given i)) (c .before .before .save .ensures))
 
 pub save-spec : {M : Type 1} → statement M
 save-spec =
     tie.close
-    (tie.spec room-for-requires save-words-requires same-length returns unsaved-requires returns-2)
+    (tie.spec
+    room-for-requires
+    unsaved-requires
+    returns
+    slice-aggregate-three-of
+    slice-aggregate-three-of-2
+    slice-aggregate-three-of-3
+    three-of-requires
+    array-share-prefix-domain-words
+    slice-aggregate-save
+    array-share-prefix-table-words
+    slice-aggregate-save-2
+    array-share-prefix-agenda-words
+    slice-aggregate-save-3
+    save-requires
+    same-length
+    returns-2)

@@ -1,7 +1,7 @@
 -- `console::numbers::unwhole` meets its contract.
 -- Assumes nothing.
 use mathlib.Core.Path.{_∙_}
-use Rattle.console.proofs.Rooms.{none-unwhole}
+use Rattle.console.proofs.numbers.Unfit.{none-unwhole}
 use borrow.Author.Needs.{needs}
 use Rattle.console.proofs.numbers.unwhole.Statement.{statement}
 use Rattle.console.proofs.numbers.unwhole.Tie as tie

@@ -1,6 +1,6 @@
 -- `console::parts::end_of` meets its contract.
 -- Assumes nothing.
-use Rattle.console.proofs.SoFar.{part-last, part-full}
+use Rattle.console.proofs.parts.SoFar.{part-last, part-full}
 use borrow.Author.Needs.{needs}
 use Rattle.console.proofs.parts.end_of.Statement.{statement}
 use Rattle.console.proofs.parts.end_of.Tie as tie

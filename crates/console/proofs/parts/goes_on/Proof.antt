@@ -1,7 +1,7 @@
 -- `console::parts::goes_on` meets its contract.
 -- Assumes nothing.
 use borrow.Author.Tests.{eq-eqb, ne-eqb}
-use Rattle.console.specs.Work.Parts.{goesOn}
+use Rattle.console.specs.Loops.Parts.{goesOn}
 use borrow.Author.Needs.{needs}
 use Rattle.console.proofs.parts.goes_on.Statement.{statement}
 use Rattle.console.proofs.parts.goes_on.Tie as tie

@@ -1,23 +1,23 @@
 -- `console::parts::run_part` meets its contract.
 -- Assumes nothing.
 use mathlib.Core.Path.{refl}
-use Rattle.console.proofs.Lending.{count-is}
-use Rattle.console.proofs.Runs.{runs-list}
+use Rattle.bytes.proofs.Fitting.{count-is, words-said}
+use Rattle.console.proofs.parts.Runs.{runs-list}
 use borrow.Author.Needs.{needs}
 use Rattle.console.proofs.parts.run_part.Statement.{statement}
 use Rattle.console.proofs.parts.run_part.Tie as tie
 
-slice-aggregate-any-words-of : tie.Need-slice-aggregate-any-words-of
-slice-aggregate-any-words-of c = refl
+slice-aggregate-words-of : tie.Need-slice-aggregate-words-of
+slice-aggregate-words-of c = refl
 
-any-words-of-requires : tie.Need-any-words-of-requires
-any-words-of-requires c κs = search needs
+words-of-requires : tie.Need-words-of-requires
+words-of-requires c κs = tt
 
 array-share-prefix-words : tie.Need-array-share-prefix-words
-array-share-prefix-words c = c .before .before .any-words-of .ensures .room
+array-share-prefix-words c = c .before .before .words-of .ensures .room
 
 slice-aggregate-run : tie.Need-slice-aggregate-run
-slice-aggregate-run c = count-is (c .before .before .before .any-words-of .ensures)
+slice-aggregate-run c = count-is (c .before .before .before .words-of .ensures)
 
 run-requires : tie.Need-run-requires
 run-requires c κs = tt
@@ -27,14 +27,15 @@ same-length c = search needs
 
 returns : tie.Need-returns
 returns c =
-    runs-list _ _ _ _ _ _ _ _ _ _ (c .before .before .before .before .before .before .any-words-of .ensures .said) (c .before .before .run .ensures)
+    let pre = c .before .before .before .before .before .before .before .before .before .before .before .before .pre in
+    runs-list _ _ _ _ _ _ _ _ _ _ (words-said (pre .0) (pre .1) (c .before .before .before .before .before .before .words-of .ensures) .said) (c .before .before .run .ensures)
 
 pub run-part-spec : {M : Type 1} → statement M
 run-part-spec =
     tie.close
     (tie.spec
-    slice-aggregate-any-words-of
-    any-words-of-requires
+    slice-aggregate-words-of
+    words-of-requires
     array-share-prefix-words
     slice-aggregate-run
     run-requires

@@ -4,7 +4,7 @@ use mathlib.Core.Path.{refl}
 use Prim.Native.Nat.{_-_}
 use native.Mathlib.Omega.{arith}
 use lib.ListN.{length}
-use Rattle.console.proofs.SoFar.{Going, part-asks, so-far-none, part-taken, go-again, stepped-again, returns-end, returns-stop}
+use Rattle.console.proofs.parts.SoFar.{Going, part-asks, so-far-none, part-taken, go-again, stepped-again, returns-end, returns-stop}
 use borrow.Author.Needs.{needs}
 use Rattle.console.proofs.parts.run_parts.Statement.{statement}
 use Rattle.console.proofs.parts.run_parts.Tie as tie

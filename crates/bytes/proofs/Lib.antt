@@ -1,0 +1,4 @@
+pub mod Words
+pub mod Fitting
+pub mod Zero
+pub mod Promises

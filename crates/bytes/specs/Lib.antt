@@ -1,0 +1,4 @@
+-- Words in bytes, and what each call on them makes and leaves.
+pub mod Bytes
+pub mod Calls
+pub mod Promises

@@ -1,0 +1,3 @@
+-- What the proofs of src/calls.rt use.
+pub mod Lending
+pub mod Refusing

@@ -1,0 +1,3 @@
+-- What the proofs of src/parts.rt and its callers use.
+pub mod Runs
+pub mod SoFar

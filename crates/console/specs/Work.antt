@@ -1,3 +1,0 @@
--- What only mirrors the code.
-pub mod Rooms
-pub mod Parts
