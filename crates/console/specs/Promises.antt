@@ -171,7 +171,7 @@ Solvable-held = Lives-for-C (λ p s. Has-solution p ↔ ((P : Subproblem) × Lis
 
 -- The steps are limited by the possibilities.
 abbrev pub Steps-limited : Type 0
-Steps-limited = Lives-for-C (λ p s. Limited p s)
+Steps-limited = Lives-for-C (λ p s. Limited p (s .steps))
 
 -- ---- the cut, on bytes
 
