@@ -7,7 +7,7 @@ use lib.Dec.{eqb}
 use Rattle.problem.specs.Masks.{bit, _∈_, Part, size}
 use Rattle.problem.specs.Problem.{Problem, Solution, possibilities}
 use Rattle.splits.specs.declared.subproblem.Subproblem.{Subproblem}
-use Rattle.problem.specs.Lists.{every, some}
+use Rattle.problem.specs.Lists.{some, every}
 
 -- The domain of variable i; past the last the empty mask.
 abbrev pub domain : Subproblem → ℕ → ℕ
