@@ -11,7 +11,7 @@ use lib.Dec.{eqb, leb, ltb}
 use borrow.Author.Tests.{leb-true, ltb-true, lt-ltb, le-ltb, le-leb, eqb-true, eq-eqb, ne-eqb}
 use Rattle.problem.proofs.Tests.{and-left, and-right}
 use Rattle.bytes.specs.Bytes.{Whole, wordsOf, Fits, fits, noneEmpty, allFit}
-use Rattle.bytes.specs.Calls.{Puts, WordsOf, ThreeOf}
+use Rattle.bytes.specs.Calls.{Lent, Puts, WordsOf, ThreeOf}
 use Rattle.bytes.specs.declared.Three.{Three}
 use Rattle.bytes.proofs.Words.{words-length, none-said}
 
@@ -89,17 +89,17 @@ true-all a b c x y z f g h =
 
 -- Where it is not so.
 pub puts-none : (so : Bool) (bytes words : List ℕ) → so ≡ false → Puts so bytes words words 0
-puts-none so bytes words e = record { left = rw e refl; count = rw e refl; long = refl; room = omega arith }
+puts-none so bytes words e = record { left = rw e refl; count = rw e refl; lent = record { long = refl; room = omega arith } }
 
 -- Of no bytes.
 pub puts-empty : (so : Bool) (bytes words : List ℕ) → length bytes ≡ 0 → Puts so bytes words words 0
 puts-empty true bytes words e =
     let half : 0 ≡ length bytes / 2 = omega arith in
-    record { left = ap₂ (λ (l : List ℕ) (k : ℕ). l ++ drop k words) (none-said bytes e) half; count = half; long = refl; room = omega arith }
-puts-empty false bytes words e = record { left = refl; count = refl; long = refl; room = omega arith }
+    record { left = ap₂ (λ (l : List ℕ) (k : ℕ). l ++ drop k words) (none-said bytes e) half; count = half; lent = record { long = refl; room = omega arith } }
+puts-empty false bytes words e = record { left = refl; count = refl; lent = record { long = refl; room = omega arith } }
 
 -- How many are lent on.
-pub count-is : {so : Bool} {b words left : List ℕ} {k : ℕ} → Puts so b words left k → k ≡ length (take k left)
+pub count-is : {words left : List ℕ} {k : ℕ} → Lent k words left → k ≡ length (take k left)
 count-is {left = left} {k} t = sym (length-take-le k left (t .room))
 
 -- Where it is so.

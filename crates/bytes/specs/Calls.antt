@@ -7,13 +7,16 @@ use lib.ListN.{length, take, drop}
 use Rattle.bytes.specs.Bytes.{wordsOf, bytesOf, fits, allFit}
 use Rattle.bytes.specs.declared.Three.{Three}
 
+-- There are as many words as before, and k of them at least.
+pub record Lent (k : ℕ) (words words′ : List ℕ) : Type 0 where
+  pub long : length words′ ≡ length words
+  pub room : k ≤ length words′
+
 -- Where it is so, the words that the bytes say stand at the front of the lent ones, and k is their number; else nothing is changed, and k is 0.
--- Either way there are as many words as before, and k of them at least.
 pub record Puts (so : Bool) (bytes words words′ : List ℕ) (k : ℕ) : Type 0 where
   pub left : words′ ≡ cond so (wordsOf bytes ++ drop (length bytes / 2) words) words
   pub count : k ≡ cond so (length bytes / 2) 0
-  pub long : length words′ ≡ length words
-  pub room : k ≤ length words′
+  pub lent : Lent k words words′
 
 -- Of one slice: where its bytes are whole words and there is room for them.
 abbrev pub WordsOf : List ℕ → List ℕ → List ℕ → ℕ → Type 0

@@ -15,7 +15,7 @@ use Rattle.splits.specs.Subproblems.{domain}
 use Rattle.splits.specs.declared.subproblem.Subproblem.{Subproblem}
 use Rattle.search.specs.Agenda.{slotsIn, stackOf, slotAt, subproblemOf, holding}
 use Rattle.searches.specs.Verdicts.{numberOf}
-use Rattle.search.specs.Slots.{Stopped}
+use Rattle.search.specs.Slots.{slots, Stopped}
 use Rattle.searches.specs.Runs.{run, requestsIn}
 use Rattle.searches.specs.Chooser.{choose}
 use Rattle.search.specs.FirstChecks.{WholeRequests}
@@ -76,10 +76,10 @@ module _ (n d : ℕ) (domains tables : List ℕ) (s : Held) where
 
   unfoldable pub stoppedOf : Way → Stopped
   stoppedOf (by-requests requests) =
-      run (problemOf n d (wordsOf domains) (wordsOf tables)) (slotsIn n (length (wordsOf (s .agenda)))) (requestsIn n (wordsOf requests))
+      run (problemOf n d (wordsOf domains) (wordsOf tables)) (slots (slotsIn n (length (wordsOf (s .agenda))))) (requestsIn n (wordsOf requests))
       (searchOf n (wordsOf (s .agenda)) (stateIn s))
   stoppedOf (by-chooser limit) =
-      choose (problemOf n d (wordsOf domains) (wordsOf tables)) (slotsIn n (length (wordsOf (s .agenda)))) limit
+      choose (problemOf n d (wordsOf domains) (wordsOf tables)) (slots (slotsIn n (length (wordsOf (s .agenda))))) limit
       (searchOf n (wordsOf (s .agenda)) (stateIn s))
 
   pub went : (way : Way) (o : Outcome) → WholeProblem domains tables (s .agenda) → Whole (listOf way) → Goes-on n d domains tables s way o

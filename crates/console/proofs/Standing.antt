@@ -10,7 +10,9 @@ use lib.Seq.{length-take-le, take-at}
 use Rattle.problem.specs.Problem.{problemOf}
 use Rattle.search.specs.Agenda.{slotsIn, agendaOf}
 use Rattle.searches.specs.Verdicts.{numberOf, verdictOf}
-use Rattle.search.specs.Slots.{Stopped}
+use Rattle.search.specs.Slots.{slots, Stopped}
+use Rattle.searches.specs.Machines.{Machine}
+use Rattle.searches.specs.Steps.{stop}
 use Rattle.searches.specs.Runs.{run, requestsIn}
 use Rattle.search.specs.FirstChecks.{WholeRequests}
 use Rattle.search.specs.Calls.{searchOf}
@@ -50,7 +52,7 @@ taken-left n d domains tables requests s o q typed h some g =
     let p = passes-so n d domains tables s (by-requests requests) o typed h some in
     let (m, whole) = requests-whole n d domains tables requests s (p .first) in
     let pr = problemOf n d (wordsOf domains) (wordsOf tables) in
-    let room : ℕ = slotsIn n (length (wordsOf (s .agenda))) in
+    let room : Machine = slots (slotsIn n (length (wordsOf (s .agenda)))) in
     let x0 = searchOf n (wordsOf (s .agenda)) (stateIn s) in
     let rs = requestsIn n (wordsOf requests) in
     let x : Stopped = run pr room rs x0 in
@@ -67,7 +69,7 @@ taken-left n d domains tables requests s o q typed h some g =
     let passed = run-is-passed n d (wordsOf domains) (wordsOf tables) (wordsOf (s .agenda)) (s .steps) (s .checks) (s .subproblems) in
     let its-length : WholeRequests n (length (wordsOf (take (2 * k) requests))) = (o .taken, ap length says ∙ long) in
     let first = passed (wordsOf (take (2 * k) requests)) .1 (passed (wordsOf requests) .0 (p .first) .0, its-length) in
-    let same : run pr room (requestsIn n (wordsOf (take (2 * k) requests))) x0 ≡ record { search = x .search; refusal = 0; taken = x .taken } =
+    let same : run pr room (requestsIn n (wordsOf (take (2 * k) requests))) x0 ≡ stop (x .search) 0 (x .taken) =
     ap (λ (l : List (List ℕ)). run pr room l x0) (ap (requestsIn n) says ∙ front ∙ ap (λ (j : ℕ). take j rs) t) ∙ taken pr room rs x0 in
     let f = y .ends in
     let after : wordsOf (q .held .agenda) ≡ wordsOf (o .held .agenda) =

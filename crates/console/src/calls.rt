@@ -260,15 +260,10 @@ pub(crate) fn save(
 fn load_none(file: &[u8]) -> Loaded
     ensures { λ r. ⌜ r ≡ unloaded (now (file .entry)) ⌝ }
 {
-    let mut domain_words = [0u16; 1];
-    let mut table_words = [0u16; 1];
-    let mut agenda_words = [0u16; 1];
-    files::load(
-        file,
-        &mut domain_words[..0],
-        &mut table_words[..0],
-        &mut agenda_words[..0],
-    )
+    let mut domain_words = [0u16; 0];
+    let mut table_words = [0u16; 0];
+    let mut agenda_words = [0u16; 0];
+    files::load(file, &mut domain_words, &mut table_words, &mut agenda_words)
 }
 
 // Load.

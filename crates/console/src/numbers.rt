@@ -41,9 +41,8 @@ pub(crate) fn number_of(verdict: Verdict) -> u32
 fn unwhole(n: usize, d: usize) -> u32
     ensures { λ r. ⌜ r ≡ unwhole n d ⌝ }
 {
-    let word = [0u16; 1];
-    let none = &word[..0];
-    search::first_checks::open_refusal(n, d, none, none, none)
+    let none = [0u16; 0];
+    search::first_checks::open_refusal(n, d, &none, &none, &none)
 }
 
 // Opening that is refused so returns zeros.

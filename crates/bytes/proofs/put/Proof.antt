@@ -54,7 +54,7 @@ returns : tie.Need-returns Inv-loop μ-loop
 returns c =
     let inv = c .before .before .before .before .loop .inv in
     let more = word-more _ _ _ _ _ (inv .1 .1) (c .before .word .ensures) (inv .0) (omega arith) in
-    record { left = put-end _ _ _ _ more (inv .0) (c .if1 .taken); count = refl; long = simp length-set (inv .1 .0); room = simp length-set (omega arith) }
+    record { left = put-end _ _ _ _ more (inv .0) (c .if1 .taken); count = refl; lent = record { long = simp length-set (inv .1 .0); room = simp length-set (omega arith) } }
 
 loop-less : tie.Need-loop-less Inv-loop μ-loop
 loop-less c = search needs

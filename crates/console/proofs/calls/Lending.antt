@@ -2,7 +2,6 @@
 -- Assumes nothing.
 use mathlib.Core.Path.{_≡_, sym, ap, ap₂, subst, _∙_}
 use mathlib.Core.Logic.{_⊎_, inl, inr}
-use mathlib.Core.Bool.{Bool}
 use mathlib.Core.List.{List, [], _++_, append-nil}
 use Prim.Native.Nat.{ℕ, _+_, _*_, _/_, _%_, _^_, _≤_, _<_}
 use native.Mathlib.Omega.{arith}
@@ -23,7 +22,7 @@ use Rattle.files.specs.declared.saved.Loaded.{Loaded}
 use Rattle.files.proofs.Refusals.{save-none}
 use Rattle.files.proofs.Saving.{saved-few}
 use Rattle.bytes.specs.Bytes.{Whole, Fits, wordsOf, bytesOf}
-use Rattle.bytes.specs.Calls.{Puts, ThreeOf, Writes}
+use Rattle.bytes.specs.Calls.{Lent, ThreeOf, Writes}
 use Rattle.bytes.specs.declared.Three.{Three}
 use Rattle.console.specs.Calls.{WholeProblem, OpensWords, RunsWords, ChoosesWords, LoadsWords}
 use Rattle.console.specs.Loops.Rooms.{Room}
@@ -57,8 +56,8 @@ drop-same k a b e h =
     (λ i l. let inside : k + i < length a = omega (arith, length-drop k a) in getD-drop k a i 0 ∙ h (k + i) (omega arith) inside ∙ sym
     (getD-drop k b i 0))
 
--- A callee left y in the part that was lent to it.
-module _ {so : Bool} {b before words : List ℕ} {k : ℕ} (y : List ℕ) (t : Puts so b before words k) (kept : length y ≡ length (take k words)) where
+-- A callee left y in the part of the words that was lent to it.
+module _ {before words : List ℕ} {k : ℕ} (y : List ℕ) (t : Lent k before words) (kept : length y ≡ length (take k words)) where
   left-length : length y ≡ k
   left-length = kept ∙ sym (count-is t)
 
@@ -77,33 +76,33 @@ module _ {so : Bool} {b before words : List ℕ} {k : ℕ} (y : List ℕ) (t : P
   left-count = sym (ap length left-again ∙ left-length)
 
   -- Two bytes a word.
-  pub left-bytes : k ≡ length b / 2 → Whole b → length b ≡ 2 * length (take k (y ++ drop k words))
-  left-bytes half w = omega (arith, left-count)
+  pub left-bytes : (b : List ℕ) → k ≡ length b / 2 → Whole b → length b ≡ 2 * length (take k (y ++ drop k words))
+  left-bytes b half w = omega (arith, left-count)
 
   -- Turned back.
-  left-said : {after : List ℕ} → k ≡ length b / 2 → Whole b → Writes (y ++ drop k words) b after → after ≡ bytesOf y
-  left-said {after} half w s =
+  left-said : (b after : List ℕ) → k ≡ length b / 2 → Whole b → Writes (y ++ drop k words) b after → after ≡ bytesOf y
+  left-said b after half w s =
       writes-front (y ++ drop k words) b after w (omega (arith, left-fits)) s
       ∙ ap (λ (j : ℕ). bytesOf (take j (y ++ drop k words))) (sym half) ∙ ap bytesOf left-again
 
-module _ {so : Bool} {n d i j k : ℕ} {domains tables agenda ds ts ws xs after : List ℕ} (y : List ℕ) (e : Said domains i ds) (f : Said tables j ts)
-    (g : Said agenda k xs) (t : Puts so agenda ws xs k) (kept : length y ≡ length (take k xs)) (w : Whole agenda)
+module _ {n d i j k : ℕ} {domains tables agenda ds ts ws xs after : List ℕ} (y : List ℕ) (e : Said domains i ds) (f : Said tables j ts)
+    (g : Said agenda k xs) (t : Lent k ws xs) (kept : length y ≡ length (take k xs)) (w : Whole agenda)
     (said : Writes (y ++ drop k xs) agenda after) where
   pub opens-words : {r : Opened} → Opens n d (take i ds) (take j ts) (take k xs) y r → OpensWords n d domains tables agenda after r
-  opens-words h = record { left = y; opens = rw (← (e .said), ← (f .said), ← (g .said)) h; said = left-said y t kept (g .count) w said }
+  opens-words h = record { left = y; opens = rw (← (e .said), ← (f .said), ← (g .said)) h; said = left-said y t kept agenda after (g .count) w said }
 
   pub chooses-words : {limit : ℕ} {s : State} {r : Ran} → Chooses n d (take i ds) (take j ts) (take k xs) y limit s r
       → ChoosesWords n d domains tables agenda after limit s r
-  chooses-words h = record { left = y; chooses = rw (← (e .said), ← (f .said), ← (g .said)) h; said = left-said y t kept (g .count) w said }
+  chooses-words h = record { left = y; chooses = rw (← (e .said), ← (f .said), ← (g .said)) h; said = left-said y t kept agenda after (g .count) w said }
 
 -- A run that left y in the part of the words that was lent to it, of which what can have changed is written back.
-pub runs-words : {so : Bool} {n d i j k : ℕ} {domains tables agenda ds ts ws xs requests after : List ℕ} {s : State} {r : Ran} (y : List ℕ)
-    → Said domains i ds → Said tables j ts → Said agenda k xs → Puts so agenda ws xs k → Whole agenda
+pub runs-words : {n d i j k : ℕ} {domains tables agenda ds ts ws xs requests after : List ℕ} {s : State} {r : Ran} (y : List ℕ)
+    → Said domains i ds → Said tables j ts → Said agenda k xs → Lent k ws xs → Whole agenda
     → length y ≡ length (take k xs) → ((i : ℕ) → getD agenda i 0 < 256) → s .counts .steps .0 < 2 ^ 32 → Listed n (length requests)
     → Runs n d (take i ds) (take j ts) (take k xs) y (wordsOf requests) s r
     → WritesBack n (s .subproblems) (r .taken) (r .state .subproblems) (take k (y ++ drop k xs)) agenda after
     → RunsWords n d domains tables agenda after requests s r
-runs-words {n = n} {d} {domains = domains} {tables = tables} {agenda = agenda} {requests = requests} {after = after} {s = s} {r = r} y e f g t w kept small
+runs-words {n} {d} {domains = domains} {tables = tables} {agenda = agenda} {requests = requests} {after = after} {s = s} {r = r} y e f g t w kept small
     stepped listed h written =
     let runs : Runs n d (wordsOf domains) (wordsOf tables) (wordsOf agenda) y (wordsOf requests) s r = rw (← (e .said), ← (f .said), ← (g .said)) h in
     let back : WritesBack n (s .subproblems) (r .taken) (r .state .subproblems) y agenda after = rw (left-again y t kept) at written in
@@ -180,22 +179,21 @@ front-runs {n} {d} {domains} {tables} {agenda} {requests} {front} {f} {s} {r} fr
         }
 
 -- The callee left x, y and z, which are turned back.
-pub loads-words : {file domains tables agenda ds ts xs domains′ tables′ agenda′ : List ℕ} {us vs ws : List ℕ} {so : Bool}
-    {r : Loaded} {h i j : ℕ} (x y z : List ℕ)
+pub loads-words : {file domains tables agenda us ds vs ts ws xs domains′ tables′ agenda′ : List ℕ} {r : Loaded} {h i j : ℕ} (x y z : List ℕ)
     → Said domains h ds → Said tables i ts → Said agenda j xs
-    → Puts so domains us ds h → Puts so tables vs ts i → Puts so agenda ws xs j
+    → Lent h us ds → Lent i vs ts → Lent j ws xs
     → length x ≡ length (take h ds) → length y ≡ length (take i ts) → length z ≡ length (take j xs)
     → Loads file (take h ds) x (take i ts) y (take j xs) z r
     → WholeProblem domains tables agenda → Writes (x ++ drop h ds) domains domains′ → Writes (y ++ drop i ts) tables tables′
     → Writes (z ++ drop j xs) agenda agenda′ → LoadsWords file domains domains′ tables tables′ agenda agenda′ r
-loads-words x y z e f g p q r a b c h w s t u = record {
+loads-words {domains = domains} {tables} {agenda} {domains′ = domains′} {tables′} {agenda′} x y z e f g p q r a b c h w s t u = record {
   left-domains = x;
   left-tables = y;
   left-agenda = z;
   loads = rw (← (e .said), ← (f .said), ← (g .said)) h;
-  said-domains = left-said x p a (e .count) (w .of-domains) s;
-  said-tables = left-said y q b (f .count) (w .of-tables) t;
-  said-agenda = left-said z r c (g .count) (w .of-agenda) u;
+  said-domains = left-said x p a domains domains′ (e .count) (w .of-domains) s;
+  said-tables = left-said y q b tables tables′ (f .count) (w .of-tables) t;
+  said-agenda = left-said z r c agenda agenda′ (g .count) (w .of-agenda) u;
 }
 
 -- ---- what fits 32 bits

@@ -34,22 +34,22 @@ three-of-requires : tie.Need-three-of-requires
 three-of-requires c κs = tt
 
 array-share-prefix-domain-words : tie.Need-array-share-prefix-domain-words
-array-share-prefix-domain-words c = c .before .before .before .three-of .ensures .of-first .room
+array-share-prefix-domain-words c = c .before .before .before .three-of .ensures .of-first .lent .room
 
 slice-aggregate-choose : tie.Need-slice-aggregate-choose
-slice-aggregate-choose c = count-is (c .before .before .before .before .three-of .ensures .of-first)
+slice-aggregate-choose c = count-is (c .before .before .before .before .three-of .ensures .of-first .lent)
 
 array-share-prefix-table-words : tie.Need-array-share-prefix-table-words
-array-share-prefix-table-words c = c .before .before .before .before .three-of .ensures .of-third .room
+array-share-prefix-table-words c = c .before .before .before .before .three-of .ensures .of-third .lent .room
 
 slice-aggregate-choose-2 : tie.Need-slice-aggregate-choose-2
-slice-aggregate-choose-2 c = count-is (c .before .before .before .before .before .three-of .ensures .of-third)
+slice-aggregate-choose-2 c = count-is (c .before .before .before .before .before .three-of .ensures .of-third .lent)
 
 array-borrow-prefix-agenda-words : tie.Need-array-borrow-prefix-agenda-words
-array-borrow-prefix-agenda-words c = c .before .before .before .before .before .three-of .ensures .of-second .room
+array-borrow-prefix-agenda-words c = c .before .before .before .before .before .three-of .ensures .of-second .lent .room
 
 slice-aggregate-choose-3 : tie.Need-slice-aggregate-choose-3
-slice-aggregate-choose-3 c = count-is (c .before .before .before .before .before .before .three-of .ensures .of-second)
+slice-aggregate-choose-3 c = count-is (c .before .before .before .before .before .before .three-of .ensures .of-second .lent)
 
 choose-requires : tie.Need-choose-requires
 choose-requires c κs = tt
@@ -57,7 +57,7 @@ choose-requires c κs = tt
 slice-aggregate-bytes-of : tie.Need-slice-aggregate-bytes-of
 slice-aggregate-bytes-of c =
     let called = c .before .before in
-    left-long (called .choose .last .1 .1 .1 .1 .0) (called .before .before .before .before .before .before .before .three-of .ensures .of-second) (called .choose .kept .1 .1 .1 .1 .0)
+    left-long (called .choose .last .1 .1 .1 .1 .0) (called .before .before .before .before .before .before .before .three-of .ensures .of-second .lent) (called .choose .kept .1 .1 .1 .1 .0)
 
 bytes-of-requires : tie.Need-bytes-of-requires
 bytes-of-requires c κs = tt
@@ -74,7 +74,7 @@ returns-2 c =
     let (domains, agenda, tables) = said-last room refl refl refl (made .three-of .ensures) in
     let known = test .before .before in
     let start = known .before .before .before in
-    let chosen = chooses-words (called .choose .last .1 .1 .1 .1 .0) domains tables agenda (made .three-of .ensures .of-second)
+    let chosen = chooses-words (called .choose .last .1 .1 .1 .1 .0) domains tables agenda (made .three-of .ensures .of-second .lent)
     (called .choose .kept .1 .1 .1 .1 .0) (room .of-agenda .even) (c .before .before .bytes-of .ensures) (called .choose .ensures) in (
       chooses-turned (room-whole room) chosen,
       choose-fits (λ i. omega (arith, known .slice-known .given i)) (omega (arith, start .good .1 .1 .1 .1 .1 .1 .0)) (start .pre) chosen,

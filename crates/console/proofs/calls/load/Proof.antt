@@ -38,22 +38,22 @@ three-of-requires : tie.Need-three-of-requires
 three-of-requires c κs = tt
 
 array-borrow-prefix-domain-words : tie.Need-array-borrow-prefix-domain-words
-array-borrow-prefix-domain-words c = c .before .before .before .three-of .ensures .of-first .room
+array-borrow-prefix-domain-words c = c .before .before .before .three-of .ensures .of-first .lent .room
 
 slice-aggregate-load : tie.Need-slice-aggregate-load
-slice-aggregate-load c = count-is (c .before .before .before .before .three-of .ensures .of-first)
+slice-aggregate-load c = count-is (c .before .before .before .before .three-of .ensures .of-first .lent)
 
 array-borrow-prefix-table-words : tie.Need-array-borrow-prefix-table-words
-array-borrow-prefix-table-words c = c .before .before .before .before .three-of .ensures .of-third .room
+array-borrow-prefix-table-words c = c .before .before .before .before .three-of .ensures .of-third .lent .room
 
 slice-aggregate-load-2 : tie.Need-slice-aggregate-load-2
-slice-aggregate-load-2 c = count-is (c .before .before .before .before .before .three-of .ensures .of-third)
+slice-aggregate-load-2 c = count-is (c .before .before .before .before .before .three-of .ensures .of-third .lent)
 
 array-borrow-prefix-agenda-words : tie.Need-array-borrow-prefix-agenda-words
-array-borrow-prefix-agenda-words c = c .before .before .before .before .before .three-of .ensures .of-second .room
+array-borrow-prefix-agenda-words c = c .before .before .before .before .before .three-of .ensures .of-second .lent .room
 
 slice-aggregate-load-3 : tie.Need-slice-aggregate-load-3
-slice-aggregate-load-3 c = count-is (c .before .before .before .before .before .before .three-of .ensures .of-second)
+slice-aggregate-load-3 c = count-is (c .before .before .before .before .before .before .three-of .ensures .of-second .lent)
 
 load-requires : tie.Need-load-requires
 load-requires c κs = tt
@@ -61,7 +61,7 @@ load-requires c κs = tt
 slice-aggregate-bytes-of : tie.Need-slice-aggregate-bytes-of
 slice-aggregate-bytes-of c =
     let called = c .before .before .before .before in
-    left-long (called .load .last .1 .0) (called .before .before .before .before .before .before .before .three-of .ensures .of-first) (called .load .kept .1 .0)
+    left-long (called .load .last .1 .0) (called .before .before .before .before .before .before .before .three-of .ensures .of-first .lent) (called .load .kept .1 .0)
 
 bytes-of-requires : tie.Need-bytes-of-requires
 bytes-of-requires c κs = tt
@@ -69,7 +69,7 @@ bytes-of-requires c κs = tt
 slice-aggregate-bytes-of-2 : tie.Need-slice-aggregate-bytes-of-2
 slice-aggregate-bytes-of-2 c =
     let called = c .before .before .before .before .before .before .before .before .before in
-    left-long (called .load .last .1 .1 .0) (called .before .before .before .before .before .before .before .three-of .ensures .of-third) (called .load .kept .1 .1 .0)
+    left-long (called .load .last .1 .1 .0) (called .before .before .before .before .before .before .before .three-of .ensures .of-third .lent) (called .load .kept .1 .1 .0)
 
 bytes-of-requires-2 : tie.Need-bytes-of-requires-2
 bytes-of-requires-2 c κs = tt
@@ -77,7 +77,7 @@ bytes-of-requires-2 c κs = tt
 slice-aggregate-bytes-of-3 : tie.Need-slice-aggregate-bytes-of-3
 slice-aggregate-bytes-of-3 c =
     let called = c .before .before .before .before .before .before .before .before .before .before .before .before .before .before in
-    left-long (called .load .last .1 .1 .1 .0) (called .before .before .before .before .before .before .before .three-of .ensures .of-second) (called .load .kept .1 .1 .1 .0)
+    left-long (called .load .last .1 .1 .1 .0) (called .before .before .before .before .before .before .before .three-of .ensures .of-second .lent) (called .load .kept .1 .1 .1 .0)
 
 bytes-of-requires-3 : tie.Need-bytes-of-requires-3
 bytes-of-requires-3 c κs = tt
@@ -105,7 +105,7 @@ returns-2 c =
     let three = made .three-of .ensures in
     let (domains, agenda, tables) = said-last room refl refl refl three in
     loads-turned (room-whole room)
-    (loads-words (last .1 .0) (last .1 .1 .0) (last .1 .1 .1 .0) domains tables agenda (three .of-first) (three .of-third) (three .of-second) (kept .1 .0)
+    (loads-words (last .1 .0) (last .1 .1 .0) (last .1 .1 .1 .0) domains tables agenda (three .of-first .lent) (three .of-third .lent) (three .of-second .lent) (kept .1 .0)
     (kept .1 .1 .0) (kept .1 .1 .1 .0) (called .load .ensures) (room-whole room) (domains-back .bytes-of .ensures) (tables-back .bytes-of2 .ensures)
     (agenda-back .bytes-of3 .ensures))
 

@@ -34,22 +34,22 @@ three-of-requires : tie.Need-three-of-requires
 three-of-requires c κs = tt
 
 array-share-prefix-domain-words : tie.Need-array-share-prefix-domain-words
-array-share-prefix-domain-words c = c .before .before .before .three-of .ensures .of-first .room
+array-share-prefix-domain-words c = c .before .before .before .three-of .ensures .of-first .lent .room
 
 slice-aggregate-open : tie.Need-slice-aggregate-open
-slice-aggregate-open c = count-is (c .before .before .before .before .three-of .ensures .of-first)
+slice-aggregate-open c = count-is (c .before .before .before .before .three-of .ensures .of-first .lent)
 
 array-share-prefix-table-words : tie.Need-array-share-prefix-table-words
-array-share-prefix-table-words c = c .before .before .before .before .three-of .ensures .of-third .room
+array-share-prefix-table-words c = c .before .before .before .before .three-of .ensures .of-third .lent .room
 
 slice-aggregate-open-2 : tie.Need-slice-aggregate-open-2
-slice-aggregate-open-2 c = count-is (c .before .before .before .before .before .three-of .ensures .of-third)
+slice-aggregate-open-2 c = count-is (c .before .before .before .before .before .three-of .ensures .of-third .lent)
 
 array-borrow-prefix-agenda-words : tie.Need-array-borrow-prefix-agenda-words
-array-borrow-prefix-agenda-words c = c .before .before .before .before .before .three-of .ensures .of-second .room
+array-borrow-prefix-agenda-words c = c .before .before .before .before .before .three-of .ensures .of-second .lent .room
 
 slice-aggregate-open-3 : tie.Need-slice-aggregate-open-3
-slice-aggregate-open-3 c = count-is (c .before .before .before .before .before .before .three-of .ensures .of-second)
+slice-aggregate-open-3 c = count-is (c .before .before .before .before .before .before .three-of .ensures .of-second .lent)
 
 open-requires : tie.Need-open-requires
 open-requires c κs = tt
@@ -57,7 +57,7 @@ open-requires c κs = tt
 slice-aggregate-bytes-of : tie.Need-slice-aggregate-bytes-of
 slice-aggregate-bytes-of c =
     let called = c .before .before in
-    left-long (called .«open» .last .1 .1 .1 .1 .0) (called .before .before .before .before .before .before .before .three-of .ensures .of-second) (called .«open» .kept .1 .1 .1 .1 .0)
+    left-long (called .«open» .last .1 .1 .1 .1 .0) (called .before .before .before .before .before .before .before .three-of .ensures .of-second .lent) (called .«open» .kept .1 .1 .1 .1 .0)
 
 bytes-of-requires : tie.Need-bytes-of-requires
 bytes-of-requires c κs = tt
@@ -73,7 +73,7 @@ returns-2 c =
     let room = room-true _ _ _ _ (test .before .room-for .ensures) (test .if1 .left) in
     let (domains, agenda, tables) = said-last room refl refl refl (made .three-of .ensures) in
     opens-turned (room-whole room)
-    (opens-words (called .«open» .last .1 .1 .1 .1 .0) domains tables agenda (made .three-of .ensures .of-second) (called .«open» .kept .1 .1 .1 .1 .0)
+    (opens-words (called .«open» .last .1 .1 .1 .1 .0) domains tables agenda (made .three-of .ensures .of-second .lent) (called .«open» .kept .1 .1 .1 .1 .0)
     (room .of-agenda .even) (c .before .before .bytes-of .ensures) (called .«open» .ensures))
 
 pub open-spec : {M : Type 1} → statement M

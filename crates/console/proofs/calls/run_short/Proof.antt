@@ -28,28 +28,28 @@ words-of-requires : tie.Need-words-of-requires
 words-of-requires c κs = tt
 
 array-share-prefix-domain-words : tie.Need-array-share-prefix-domain-words
-array-share-prefix-domain-words c = c .before .before .before .before .before .before .three-of .ensures .of-first .room
+array-share-prefix-domain-words c = c .before .before .before .before .before .before .three-of .ensures .of-first .lent .room
 
 slice-aggregate-run : tie.Need-slice-aggregate-run
-slice-aggregate-run c = count-is (c .before .before .before .before .before .before .before .three-of .ensures .of-first)
+slice-aggregate-run c = count-is (c .before .before .before .before .before .before .before .three-of .ensures .of-first .lent)
 
 array-share-prefix-table-words : tie.Need-array-share-prefix-table-words
-array-share-prefix-table-words c = c .before .before .before .before .before .before .before .three-of .ensures .of-second .room
+array-share-prefix-table-words c = c .before .before .before .before .before .before .before .three-of .ensures .of-second .lent .room
 
 slice-aggregate-run-2 : tie.Need-slice-aggregate-run-2
-slice-aggregate-run-2 c = count-is (c .before .before .before .before .before .before .before .before .three-of .ensures .of-second)
+slice-aggregate-run-2 c = count-is (c .before .before .before .before .before .before .before .before .three-of .ensures .of-second .lent)
 
 array-borrow-prefix-agenda-words : tie.Need-array-borrow-prefix-agenda-words
-array-borrow-prefix-agenda-words c = c .before .before .before .before .before .before .before .before .three-of .ensures .of-third .room
+array-borrow-prefix-agenda-words c = c .before .before .before .before .before .before .before .before .three-of .ensures .of-third .lent .room
 
 slice-aggregate-run-3 : tie.Need-slice-aggregate-run-3
-slice-aggregate-run-3 c = count-is (c .before .before .before .before .before .before .before .before .before .three-of .ensures .of-third)
+slice-aggregate-run-3 c = count-is (c .before .before .before .before .before .before .before .before .before .three-of .ensures .of-third .lent)
 
 array-share-prefix-listed : tie.Need-array-share-prefix-listed
-array-share-prefix-listed c = c .before .before .before .before .words-of .ensures .room
+array-share-prefix-listed c = c .before .before .before .before .words-of .ensures .lent .room
 
 slice-aggregate-run-4 : tie.Need-slice-aggregate-run-4
-slice-aggregate-run-4 c = count-is (c .before .before .before .before .before .words-of .ensures)
+slice-aggregate-run-4 c = count-is (c .before .before .before .before .before .words-of .ensures .lent)
 
 run-requires : tie.Need-run-requires
 run-requires c κs = tt
@@ -57,12 +57,12 @@ run-requires c κs = tt
 array-share-prefix-agenda-words : tie.Need-array-share-prefix-agenda-words
 array-share-prefix-agenda-words c =
     let called = c .before in
-    left-fits (called .run .last .1 .1 .1 .1 .0) (called .before .before .before .before .before .before .before .before .before .before .before .three-of .ensures .of-third) (called .run .kept .1 .1 .1 .1 .0)
+    left-fits (called .run .last .1 .1 .1 .1 .0) (called .before .before .before .before .before .before .before .before .before .before .before .three-of .ensures .of-third .lent) (called .run .kept .1 .1 .1 .1 .0)
 
 slice-aggregate-write-back : tie.Need-slice-aggregate-write-back
 slice-aggregate-write-back c =
     let called = c .before .before in
-    left-count (called .run .last .1 .1 .1 .1 .0) (called .before .before .before .before .before .before .before .before .before .before .before .three-of .ensures .of-third) (called .run .kept .1 .1 .1 .1 .0)
+    left-count (called .run .last .1 .1 .1 .1 .0) (called .before .before .before .before .before .before .before .before .before .before .before .three-of .ensures .of-third .lent) (called .run .kept .1 .1 .1 .1 .0)
 
 write-back-requires : tie.Need-write-back-requires
 write-back-requires c κs =
@@ -75,7 +75,8 @@ write-back-requires c κs =
     let list = words-said (listed-even _ _ (start .pre .1 .1 .0)) (start .pre .1 .0) (called .before .before .before .before .before .before .words-of .ensures) in
     let runs = few-runs _ _ _ _ (called .run .last .1 .1 .1 .1 .0) _ _ agenda list (λ i. omega (arith, known .slice-known .given i))
     (omega (arith, start .good .1 .1 .1 .1 .1 .1 .0)) (start .pre .1 .1 .1) (start .pre .1 .1 .0) (called .run .ensures) in
-    let bytes = left-bytes (called .run .last .1 .1 .1 .1 .0) (made .three-of .ensures .of-third) (called .run .kept .1 .1 .1 .1 .0) (agenda .count)
+    let bytes = left-bytes (called .run .last .1 .1 .1 .1 .0) (made .three-of .ensures .of-third .lent) (called .run .kept .1 .1 .1 .1 .0)
+    (start .args .agenda .now) (agenda .count)
     (room .of-agenda .even) in
     (start .pre .1 .1 .0 .few, (start .pre .1 .1 .1, (runs .1 .subproblems, bytes)))
 
@@ -93,7 +94,7 @@ returns c =
     let list = words-said (listed-even _ _ (start .pre .1 .1 .0)) (start .pre .1 .0) (called .before .before .before .before .before .before .words-of .ensures) in
     let runs = few-runs _ _ _ _ (called .run .last .1 .1 .1 .1 .0) _ _ agenda list (λ i. omega (arith, known .slice-known .given i))
     (omega (arith, start .good .1 .1 .1 .1 .1 .1 .0)) (start .pre .1 .1 .1) (start .pre .1 .1 .0) (called .run .ensures) in (
-      runs-words (called .run .last .1 .1 .1 .1 .0) domains tables agenda (made .three-of .ensures .of-third) (room .of-agenda .even)
+      runs-words (called .run .last .1 .1 .1 .1 .0) domains tables agenda (made .three-of .ensures .of-third .lent) (room .of-agenda .even)
           (called .run .kept .1 .1 .1 .1 .0) (λ i. omega (arith, known .slice-known .given i)) (omega (arith, start .good .1 .1 .1 .1 .1 .1 .0))
           (start .pre .1 .1 .0) (runs .0) (c .before .before .write-back .ensures),
       runs .1,

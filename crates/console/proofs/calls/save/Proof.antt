@@ -32,22 +32,22 @@ three-of-requires : tie.Need-three-of-requires
 three-of-requires c κs = tt
 
 array-share-prefix-domain-words : tie.Need-array-share-prefix-domain-words
-array-share-prefix-domain-words c = c .before .before .before .three-of .ensures .of-first .room
+array-share-prefix-domain-words c = c .before .before .before .three-of .ensures .of-first .lent .room
 
 slice-aggregate-save : tie.Need-slice-aggregate-save
-slice-aggregate-save c = count-is (c .before .before .before .before .three-of .ensures .of-first)
+slice-aggregate-save c = count-is (c .before .before .before .before .three-of .ensures .of-first .lent)
 
 array-share-prefix-table-words : tie.Need-array-share-prefix-table-words
-array-share-prefix-table-words c = c .before .before .before .before .three-of .ensures .of-third .room
+array-share-prefix-table-words c = c .before .before .before .before .three-of .ensures .of-third .lent .room
 
 slice-aggregate-save-2 : tie.Need-slice-aggregate-save-2
-slice-aggregate-save-2 c = count-is (c .before .before .before .before .before .three-of .ensures .of-third)
+slice-aggregate-save-2 c = count-is (c .before .before .before .before .before .three-of .ensures .of-third .lent)
 
 array-share-prefix-agenda-words : tie.Need-array-share-prefix-agenda-words
-array-share-prefix-agenda-words c = c .before .before .before .before .before .three-of .ensures .of-second .room
+array-share-prefix-agenda-words c = c .before .before .before .before .before .three-of .ensures .of-second .lent .room
 
 slice-aggregate-save-3 : tie.Need-slice-aggregate-save-3
-slice-aggregate-save-3 c = count-is (c .before .before .before .before .before .before .three-of .ensures .of-second)
+slice-aggregate-save-3 c = count-is (c .before .before .before .before .before .before .three-of .ensures .of-second .lent)
 
 save-requires : tie.Need-save-requires
 save-requires c κs = tt

@@ -14,10 +14,10 @@ words-of-requires : tie.Need-words-of-requires
 words-of-requires c κs = tt
 
 array-share-prefix-words : tie.Need-array-share-prefix-words
-array-share-prefix-words c = c .before .before .words-of .ensures .room
+array-share-prefix-words c = c .before .before .words-of .ensures .lent .room
 
 slice-aggregate-run : tie.Need-slice-aggregate-run
-slice-aggregate-run c = count-is (c .before .before .before .words-of .ensures)
+slice-aggregate-run c = count-is (c .before .before .before .words-of .ensures .lent)
 
 run-requires : tie.Need-run-requires
 run-requires c κs = tt
