@@ -5,8 +5,9 @@ A name that docs/PROMISES.md cites, as `file:name`, is declared by that file. A 
 A file or folder that the papers name in backticks is there, and a law that README.md and these two name, with a hyphen in it, is declared.
 Every `pub fn` of every library has no `requires`, and an `ensures` that cites one definition; its uniqueness theorem, NAME-one, says of that
 definition, in its crate's specs/Promises.antt, that two results are equal, and is proved, as that statement, in its proofs/Promises.antt.
-Every promise that a specs/Promises.antt states is proved in its crate's proofs/Promises.antt under its own name, and what that proves is the statement.
-No crate cites the specs/Work of another, and no file of specs outside Work cites its own.
+Every promise that a specs/Promises.antt states, of Type 0 or of Type 1, is proved in its crate's proofs/Promises.antt under its own name, and what that
+proves is the statement. What mirrors a loop of the code stands in specs/Loops: no other crate cites it, no file of specs outside it does, and no
+contract of a `pub fn`.
 """
 import pathlib
 import re
@@ -16,6 +17,7 @@ TOP = pathlib.Path(__file__).resolve().parent.parent
 MARKS = r"(?:(?:unfoldable|abbrev|axiom|pub) )*"
 NUMBER = r"\d+|D\d\.\d"
 LAWS_NAMED = ("README.md", "docs/DECISIONS.md", "docs/PROMISES.md")
+ENSURES = r"ensures \{ λ r\. ⌜ (?:r ≡ )?([^\s()]+) "
 HELD = ("none owed: ", "by the language: ", "run: ", "to be read: ", "as [", "`crates/")
 
 
@@ -26,7 +28,7 @@ def text_of(path):
 def declares(path, name):
     text = text_of(path)
     if path.suffix == ".rt":
-        return re.search(rf"(?m)^\s*(?:pub(?:\(crate\))? )?(?:extern \"C\" )?(?:fn|struct|enum) {re.escape(name)}\b", text)
+        return re.search(rf"(?m)^\s*(?:pub(?:\(crate\))? )?(?:extern \"C\" )?(?:fn|struct|enum|const) {re.escape(name)}\b", text)
     shapes = rf"(?m)^(?:{MARKS}{re.escape(name)}(?: \{{[^}}]*\}})? :|(?:pub )?(?:record|data) {re.escape(name)}(?: |$))"
     return re.search(shapes, text)
 
@@ -112,7 +114,7 @@ def uniqueness(faults):
         specs, proofs = folder / "specs/Promises.antt", folder / "proofs/Promises.antt"
         if re.search(r"\brequires\b", header):
             faults.append(f"{where} has a requires")
-        ensures = re.search(r"ensures \{ λ r\. ⌜ (?:r ≡ )?([^\s()]+) ", header)
+        ensures = re.search(ENSURES, header)
         if not ensures:
             faults.append(f"{where} has no ensures that cites one definition")
         else:
@@ -140,15 +142,27 @@ def promises_proved(faults):
     return count
 
 
-def work_cited(faults):
+def taken_from(text, name):
+    """The module that a source takes a ghost name from."""
+    for module, names in re.findall(r"(?m)^ghost use (\S+?)\.\{([^}]*)\};$", text):
+        if name in [word.split(" as ")[-1].strip() for word in names.split(",")]:
+            return module
+    return ""
+
+
+def loops_cited(faults):
     for path in sorted(TOP.glob("crates/*/**/*")):
         if path.suffix not in (".antt", ".rt"):
             continue
         name, text = path.relative_to(TOP), path.read_text()
-        for crate in sorted(set(re.findall(r"Rattle·(\w+)\.specs\.Work\b", text))):
-            faults.append(f"{name} cites the specs/Work of {crate}")
-        if "specs" == name.parts[2] and "Work" not in name.parts and re.search(r"specs\.specs\.Work\b", text):
-            faults.append(f"{name} cites specs/Work")
+        for crate in sorted(set(re.findall(r"Rattle·(\w+)\.specs\.Loops\b", text))):
+            faults.append(f"{name} cites the specs/Loops of {crate}")
+        if name.parts[2] == "specs" and "Loops" not in name.parts and re.search(r"specs\.specs\.Loops\b", text):
+            faults.append(f"{name} cites specs/Loops")
+    for _, source, function, header in public_functions():
+        ensures = re.search(ENSURES, header)
+        if ensures and ".specs.Loops" in taken_from((TOP / source).read_text(), ensures.group(1)):
+            faults.append(f"{source}: {function} has a contract of specs/Loops")
 
 
 def main():
@@ -156,7 +170,7 @@ def main():
     numbers, names, places, functions = numbered_lines(faults), cited_names(faults), cited_places(faults), uniqueness(faults)
     promises = promises_proved(faults)
     named_in_papers(faults)
-    work_cited(faults)
+    loops_cited(faults)
     if not (numbers and names and places and functions and promises):
         faults.append("nothing was found to hold: is this the repository?")
     for fault in faults:
