@@ -83,27 +83,30 @@ extern "C" {
 
 /* Refusals: the result of each call, 0 for none. The order in which a call looks for them stands with the call. */
 #define RASTWOB_ACCEPTED 0u
-#define RASTWOB_REFUSED_N 1u           /* n not 1 to 32 */
-#define RASTWOB_REFUSED_D 2u           /* d not 1 to 16 */
-#define RASTWOB_REFUSED_LENGTH 3u      /* domains not n words; tables not n * n * d words; agenda not 1 to 512 whole
-                                          slots; request list not whole requests; or one of these slices is an odd
-                                          number of bytes */
-#define RASTWOB_REFUSED_MASK 4u        /* a domain or read table mask has a bit at d or above */
-#define RASTWOB_REFUSED_ONE_WAY 5u     /* a pair is allowed one way only */
-#define RASTWOB_REFUSED_SEARCH 6u      /* a handed-in search breaks the rules for subproblems, has more of them than
-                                          slots, has a nonzero unused slot, or more than 496 * steps checks */
-#define RASTWOB_REFUSED_KIND 7u        /* kind not 1 to 5 */
-#define RASTWOB_REFUSED_VARIABLE 8u    /* kinds 1 to 4: V is n or more, or instantiated */
-#define RASTWOB_REFUSED_VALUE 9u       /* kinds 1 to 3: v is d or more, or not in V's domain; kind 4: V has one value */
-#define RASTWOB_REFUSED_TARGET 10u     /* kind 5: a target is empty or not part of the top's domain, or all equal it */
-#define RASTWOB_REFUSED_STEPS 11u      /* steps already 4,294,967,295: no request is taken any more */
-#define RASTWOB_REFUSED_ROOM 12u       /* nonempty pieces exceed free slots, the top's slot counted free; at load, more
-                                          subproblems than slots. To go on: save, and load into more slots;
-                                          where there are 512, a request with fewer pieces */
-#define RASTWOB_REFUSED_FILE_ROOM 13u  /* the file buffer is shorter than the blocks to write */
-#define RASTWOB_REFUSED_BLOCKS 14u     /* file not 1 to 101 whole blocks, or a block's check, number or count wrong */
-#define RASTWOB_REFUSED_FILE_WORDS 15u /* the file's words break a rule, or do not fill exactly that many blocks with
-                                          zeros after */
+#define RASTWOB_REFUSED_N 1u           /* n is 0, or above 32 */
+#define RASTWOB_REFUSED_D 2u           /* d is 0, or above 16 */
+#define RASTWOB_REFUSED_LENGTH 3u      /* a wrong length: n words are due for the domains, n * n * d for the tables,
+                                          1 to 512 slots of n + 2 for the agenda, any number of n + 3 for the requests;
+                                          an odd number of bytes is no words */
+#define RASTWOB_REFUSED_MASK 4u        /* a bit that is d or higher, in a domain or in a mask of two different paths */
+#define RASTWOB_REFUSED_ONE_WAY 5u     /* two windows are allowed together by one order of their paths alone */
+#define RASTWOB_REFUSED_SEARCH 6u      /* the search that goes in: a subproblem that the rules do not allow, more of
+                                          them than slots, a word other than 0 in a slot not in use, or checks above
+                                          496 times steps */
+#define RASTWOB_REFUSED_KIND 7u        /* no such kind */
+#define RASTWOB_REFUSED_VARIABLE 8u    /* of kinds 1 to 4: there is no path V, or it is instantiated already */
+#define RASTWOB_REFUSED_VALUE 9u       /* of kinds 1 to 3: v is none of V's windows; of kind 4: V has a single one */
+#define RASTWOB_REFUSED_TARGET 10u     /* of kind 5: a target with no window, or with one that the top's list lacks; or
+                                          every target is the top's list */
+#define RASTWOB_REFUSED_STEPS 11u      /* 4,294,967,295 steps are counted: no request is taken any more */
+#define RASTWOB_REFUSED_ROOM 12u       /* more pieces, empty ones not counted, than slots for them, the top's being
+                                          one; at load, more subproblems than slots. To go on: save, and load into more
+                                          slots; where there are 512, a request with fewer pieces */
+#define RASTWOB_REFUSED_FILE_ROOM 13u  /* the blocks do not fit the file buffer */
+#define RASTWOB_REFUSED_BLOCKS 14u     /* bytes that are not 1 to 101 whole blocks, or a block with a wrong number,
+                                          count or check */
+#define RASTWOB_REFUSED_FILE_WORDS 15u /* words that break a rule, need another number of blocks, or are followed by
+                                          other than zeros */
 
 /* Opens a search: clears the agenda, which may hold anything before, and both counts, and places the problem in slot 0
  * with nothing instantiated; but nothing where a domain is empty.
@@ -116,8 +119,8 @@ uint32_t rastwob_open(uint32_t n, uint32_t d,
                       uint8_t *agenda, size_t agenda_bytes,
                       uint32_t *steps, uint64_t *checks, uint32_t *subproblems);
 
-/* Runs a list of requests. Each splits the top subproblem and is one step. The run stops at a verdict other than
- * running, at the first refused request, or at the list's end; on a finished search it takes none, with refusal 0.
+/* Runs a list of requests. Each splits the top subproblem and is one step. The run ends when the search is no
+ * longer running, when a request is refused, or with the list; of a finished search it takes none, with refusal 0.
  * The three numbers go in as the search has them.
  * Leaves: agenda and three numbers after the requests taken; *verdict, that of this state; *taken, how many were taken.
  * Returns the refusal. First 1 to 6: then *verdict and *taken are 0, agenda and three numbers as they were. Then, at
@@ -130,8 +133,9 @@ uint32_t rastwob_run(uint32_t n, uint32_t d,
                      uint32_t *steps, uint64_t *checks, uint32_t *subproblems,
                      uint32_t *verdict, uint32_t *taken);
 
-/* Runs the house chooser for up to limit steps. V is the uninstantiated path with the fewest windows, lowest number
- * among equals; v its lowest window; kind 2 if the precluded piece is empty or if kind 3 has no room, else kind 3.
+/* Runs the house chooser for up to limit steps. V is, of the paths not instantiated, one with the fewest windows, and
+ * of several such the lowest; v its lowest window. The kind is 3, or 2 where the precluded piece is empty or where the
+ * pieces of kind 3 would not fit.
  * Takes, leaves and returns as rastwob_run does, *taken being the steps taken; after 1 to 6 it meets only 11 and 12.
  * At its limit it stops with refusal 0, and the search may be gone on with. With limit 0 it only says the verdict, as
  * of a search just opened or loaded. */

@@ -98,7 +98,7 @@ def instantiate(subproblem, V, v):
 
 
 def is_solution_shown(problem, subproblem):
-    """A search is solved when its top subproblem has every variable instantiated."""
+    """Whether all variables are instantiated: with such a top a search is solved."""
     return subproblem.marked == frozenset(range(problem.n))
 
 
@@ -153,7 +153,7 @@ def value_removed(P, V, v):
 
 
 def precluded(problem, P, V, v):
-    """V instantiated to v, and every value not allowed beside v removed from every other domain."""
+    """V instantiated to v, all others left with what can stand beside v."""
     piece = instantiate(P, V, v)
     for j in others(problem, V):
         piece = with_domain(piece, j, P.domains[j] & allowed(problem, V, v, j))
@@ -238,7 +238,7 @@ def checks_of(problem, P, request):
 # ---- Refusal numbers 7 to 12: one request ---------------------------------------------------------
 
 def reasons_of_8(problem, P, request):
-    """Kinds 1 to 4: V is n or more, or instantiated."""
+    """Of kinds 1 to 4: no such variable, or one that is instantiated."""
     if request.kind == EXTRACTION:
         return []
     if request.V >= problem.n:
@@ -247,7 +247,7 @@ def reasons_of_8(problem, P, request):
 
 
 def reasons_of_9(problem, P, request):
-    """Kinds 1 to 3: v is d or more, or not in V's domain; kind 4: V has one value."""
+    """Of kinds 1 to 3: v is no value, or none of V's; of kind 4: V has a single one."""
     if request.kind == EXTRACTION:
         return []
     domain = P.domains[request.V]
@@ -259,7 +259,7 @@ def reasons_of_9(problem, P, request):
 
 
 def reasons_of_10(problem, P, request):
-    """Kind 5: a target is empty or not part of P's domain, or all equal P's."""
+    """Of kind 5: a target without a value, or with one that P lacks; or each target is its domain."""
     if request.kind != EXTRACTION:
         return []
     reasons = []
@@ -323,7 +323,7 @@ def run_list(search, requests):
 
 
 def chosen_variable(problem, P):
-    """The uninstantiated variable with the fewest values, lowest number among equals."""
+    """Of the variables not instantiated the one with the fewest values, and of several the lowest."""
     free = [i for i in range(problem.n) if i not in P.marked]
     return min(free, key=lambda i: (count(P.domains[i]), i))
 
@@ -410,7 +410,7 @@ def reasons_of_3(n, d, domains, tables, agenda, requests=()):
 
 
 def reasons_of_4(problem):
-    """A domain or read table mask has a bit at d or above."""
+    """A bit at d or above, in a domain or in a mask that is read."""
     reasons = []
     if any(has_bit_at_or_above(mask, problem.d) for mask in problem.domains):
         reasons.append("domain bit")
@@ -479,7 +479,7 @@ def first_checks(n, d, domains, tables, agenda, requests, state):
 # ---- The calls: open, run, choose -----------------------------------------------------------------
 
 def open_search(n, d, domains, tables, agenda):
-    """Opening: clears the agenda and both counts, and places the problem unless a domain is empty."""
+    """Opening: agenda and counts cleared, and the problem in slot 0 unless a domain has no value."""
     refusal = problem_refusal(n, d, domains, tables, agenda)
     if refusal:
         return Opened(refusal, NOTHING)
@@ -615,7 +615,7 @@ def save(n, d, domains, tables, agenda, state, file):
 
 
 def reasons_of_14(file):
-    """File not 1 to 101 whole blocks, or a block's check, number or count is wrong."""
+    """Bytes that are no whole blocks, none or more than 101 of them, or a block whose number, count or check is wrong."""
     if len(file) == 0:
         return ["no block"]
     if len(file) % BLOCK_BYTES != 0:
@@ -676,7 +676,7 @@ def search_in(content, slots):
 
 
 def reasons_of_15(content):
-    """The file's words break a rule, or do not fill exactly that many blocks with zeros after."""
+    """Words that break a rule, need another number of blocks, or are followed by other than zeros."""
     n, d, number = content[0], content[1], content[8]
     if not 1 <= n <= MOST_VARIABLES:
         return ["n not 1 to 32"]

@@ -134,7 +134,7 @@ def test_instantiated_kept_in_kind_3():
 
 
 def test_triangle_kind_1_then_3():
-    """Triangle, d 2: kind 1 on 0 with 0, then kind 3 on V 1, v 0 leaves 1,2,3 on top, 0 marked."""
+    """Three that differ, two values: kind 3 after kind 1 has 1,2,3 on top, with 0 marked."""
     lent = Lent(triangle(2))
     ran = lent.run((1, 0, 0), (3, 1, 0))
     assert ran.taken == 2 and lent.shown()[0] == ((1, 2, 3), [0])

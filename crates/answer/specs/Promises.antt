@@ -95,7 +95,7 @@ Says-no-plan =
 
 -- ---- document 01's printed example
 
--- Two variables, d 2, domains {0} and {0, 1}, unequal values allowed: beside 0 the mask 2, beside 1 the mask 1.
+-- Variable 0 has value 0, variable 1 has 0 and 1, d is 2, and the two must differ: beside 0 the mask 2, beside 1 the mask 1.
 abbrev pub printed-domains : List ℕ
 printed-domains = 1 ∷ 3 ∷ []
 

@@ -1,4 +1,5 @@
--- A file: blocks of 512 bytes, each 256 big-endian 16-bit words: its number from 1, the number of blocks, 253 words of content, the check.
+-- A file: blocks of 512 bytes. A block's words have their high byte first: which block it is, counted from 1, how many there are, 253 words of
+-- content, the check.
 use mathlib.Core.List.{List, [], _∷_, _++_}
 use Prim.Native.Nat.{ℕ, zero, suc, _+_, _-_, _*_, _/_, _%_}
 use lib.ListN.{length, getD, take, drop, replicate}

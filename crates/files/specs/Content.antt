@@ -13,7 +13,7 @@ unfoldable pub use Rattle.blocks.specs.Lists.{each}
 unfoldable pub after : ℕ → ℕ → List ℕ
 after n i = keep (λ j. ltb i j) (below n)
 
--- For i below j in rising order of i, then j, then each value of i, its allowed mask.
+-- The masks of each two variables, once: by the lower, then by the higher, then by the lower's value.
 unfoldable pub triangle : ℕ → ℕ → Table → List ℕ
 triangle n d allowed = each (λ i. each (λ j. map (allowed i j) (below d)) (after n i)) (below n)
 
@@ -21,7 +21,8 @@ triangle n d allowed = each (λ i. each (λ j. map (allowed i j) (below d)) (aft
 abbrev pub firstWord : ℕ → ℕ
 firstWord n = n
 
--- n; d; steps (2 words, high first); checks (4 words, high first); number of subproblems; the domains; the tables; the agenda, bottom first.
+-- Nine words, n, d, the steps in two, the checks in four and how many subproblems, high words first; then the domains, the tables, and the agenda
+-- from the bottom.
 unfoldable pub contentOf : ℕ → ℕ → List ℕ → Table → Search → List ℕ
 contentOf n d domains allowed s =
     firstWord n ∷ d ∷ s .steps / 65536 ∷ s .steps % 65536

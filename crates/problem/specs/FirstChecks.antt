@@ -17,7 +17,7 @@ Deserves-2 d = (d < 1) ⊎ (16 < d)
 abbrev pub Over : ℕ → ℕ → Type 0
 Over d m = (v : ℕ) × (d ≤ v) × (v ∈ m)
 
--- 4: a domain or read table mask has a bit at d or above.
+-- 4: some domain, or a mask of two different variables, has a bit that is d or higher.
 abbrev pub Deserves-4 : Problem → Type 0
 Deserves-4 p =
     ((i : ℕ) × (i < p .n) × Over (p .d) (p .domain i))

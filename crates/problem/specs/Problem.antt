@@ -45,7 +45,7 @@ Possibility n domain f = (i : ℕ) → i < n → f i ∈ domain i
 abbrev pub Consistent : ℕ → Table → (ℕ → ℕ) → Type 0
 Consistent n allowed f = (i j : ℕ) → i < n → j < n → (i ≡ j → ⊥) → f j ∈ allowed i j (f i)
 
--- A solution is a possibility in which every two variables hold allowed values.
+-- A solution: a possibility whose values are allowed, each two of them.
 pub record Solution (n : ℕ) (allowed : Table) (domain f : ℕ → ℕ) : Type 0 where
   pub possible : Possibility n domain f
   pub consistent : Consistent n allowed f

@@ -18,7 +18,7 @@ WholeSlots n words = (slots : ℕ) × (1 ≤ slots) × (slots ≤ 512) × (words
 abbrev pub WholeRequests : ℕ → ℕ → Type 0
 WholeRequests n words = (requests : ℕ) × (words ≡ requests * (n + 3))
 
--- 3: domains not n words; tables not n × n × d words; agenda not 1 to 512 whole slots; of a run, request list not whole requests.
+-- 3: a wrong length, of the domains, of the tables or of the agenda; of a run, of its list of requests too.
 abbrev pub Deserves-3 : ℕ → ℕ → List ℕ → List ℕ → List ℕ → Type 0
 Deserves-3 n d domains tables agenda =
     (length domains ≡ n → ⊥) ⊎ (length tables ≡ n * n * d → ⊥) ⊎ (WholeSlots n (length agenda) → ⊥)
@@ -26,8 +26,8 @@ Deserves-3 n d domains tables agenda =
 abbrev pub Deserves-3-run : ℕ → ℕ → List ℕ → List ℕ → List ℕ → List ℕ → Type 0
 Deserves-3-run n d domains tables agenda requests = Deserves-3 n d domains tables agenda ⊎ (WholeRequests n (length requests) → ⊥)
 
--- 6: a handed-in search breaks the rules for subproblems, has more of them than slots, has a nonzero unused slot, or more than
--- 496 × steps checks.
+-- 6: some subproblem of the search breaks its rules, there are more than slots, a word past those in use is not 0, or the checks are more than
+-- 496 times the steps.
 abbrev pub Deserves-6 : Problem → List ℕ → ℕ → ℕ → ℕ → Type 0
 Deserves-6 p agenda steps checks subproblems =
     ((P : Subproblem) × List·Memᴰ P (stackOf (p .n) agenda subproblems) × (Rules p P → ⊥))

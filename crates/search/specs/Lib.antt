@@ -1,4 +1,4 @@
--- The search, in the order of document 01. What only mirrors a loop of the code stands in Work.
+-- The search. What only mirrors a loop of the code stands in Loops; what decides a definition and need not be believed, in Tests.
 pub mod Agenda
 pub mod Calls
 pub mod Cases

@@ -13,7 +13,7 @@ use Rattle.searches.specs.Machines.{Machine}
 use Rattle.searches.specs.Steps.{Search, Stopped, stop, step}
 use Rattle.searches.specs.Tests.Refusal.{refusalOfRequest}
 
--- Of the first i of n variables, the uninstantiated one with the fewest values, lowest number among equals; n where there is none.
+-- Of the first i of n variables, of those not instantiated, the first that has no more values than any other; n where there is none.
 unfoldable pub fewestOf : ℕ → Subproblem → ℕ → ℕ
 fewestOf n P zero = n
 fewestOf n P (suc i) =
@@ -30,7 +30,7 @@ request kind V′ v = kind ∷ V′ ∷ v ∷ []
 abbrev pub requestFor : Problem → Subproblem → ℕ → List ℕ
 requestFor p P kind = request kind (fewest (p .n) P) (lowest (domain P (fewest (p .n) P)))
 
--- The request for a stack: kind 2 if the precluded piece is empty or if kind 3 has no room, else kind 3. `full` says of a request that it has none.
+-- The request for a stack: of kind 3, but of kind 2 where the precluded piece is empty or kind 3 finds no room, which `full` says of a request.
 unfoldable pub chosenOf : Problem → (List ℕ → Bool) → List Subproblem → List ℕ
 chosenOf p full [] = []
 chosenOf p full (P ∷ S) =

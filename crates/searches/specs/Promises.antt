@@ -61,7 +61,7 @@ Request-refusals =
 
 -- ---- a run
 
--- Where a run of the requests rs stopped, x: at a verdict other than running, at the first refused request, or at the list's end.
+-- Where a run of the requests rs stopped, x: the search is finished, a request is refused, or none is left.
 pub record Finished (p : Problem) (M : Machine) (x : Stopped (M .Memory)) : Type 0 where
   pub verdict : numberOf (verdictOf (p .n) (M .stack p (x .search .memory))) ≡ 1 → ⊥
   pub refusal : x .refusal ≡ 0
@@ -143,7 +143,7 @@ Chooser-stops =
 abbrev pub Picks : Type 1
 Picks = (p : Problem) (M : Machine) (limit : ℕ) (s : Search (M .Memory)) → choose p M limit s ≡ run p M (picks p M limit s) s
 
--- V is the uninstantiated variable with the fewest values, lowest number among equals.
+-- Of the variables not instantiated V has the fewest values, and the lowest number of those that have as few.
 pub record Fewest (n : ℕ) (P : Subproblem) (V′ : ℕ) : Type 0 where
   pub variable : V′ < n
   pub uninstantiated : Instantiated P V′ → ⊥

@@ -20,7 +20,7 @@ lookedAt f (i ∷ is) = suc (cond (f i) 0 (lookedAt f is))
 unfoldable pub others : ℕ → ℕ → Bool
 others V′ i = not (eqb i V′)
 
--- Kind 1: the counted instantiated variables in rising order, up to and with the first that forbids v, or all.
+-- Kind 1: of the counted variables that are instantiated, going up, those looked at, of which the first that forbids v is the last.
 unfoldable pub tried : (ℕ → Bool) → ℕ → Table → Subproblem → ℕ → ℕ → ℕ
 tried counted n allowed P V′ v =
     lookedAt (forbids allowed P V′ v) (keep (λ i. eqb (bit (P .marked) i) 1 && counted i) (below n))

@@ -43,8 +43,7 @@ Request-accepted = (n d : ℕ) (P : Subproblem) (r : List ℕ) → (refusalOf n 
 
 -- ---- the words read
 
--- Requests that agree on the words that their kind reads. Kinds 1 to 3 do not read the target; 4 reads neither v nor the target; 5 reads only the
--- target.
+-- Requests that agree on the words that their kind reads: V for kinds 1 to 4, v for 1 to 3, the targets for 5.
 pub record Agree (n : ℕ) (r s : List ℕ) : Type 0 where
   pub kind : kindOf r ≡ kindOf s
   pub variable : 1 ≤ kindOf r → kindOf r ≤ 4 → variableOf r ≡ variableOf s

@@ -13,17 +13,17 @@ use Rattle.splits.specs.declared.subproblem.Subproblem.{Subproblem}
 abbrev pub Deserves-7 : List ℕ → Type 0
 Deserves-7 r = (kindOf r < 1) ⊎ (5 < kindOf r)
 
--- 8: kinds 1 to 4: V is n or more, or instantiated.
+-- 8, of kinds 1 to 4: V is none of the n variables, or is instantiated already.
 abbrev pub Deserves-8 : ℕ → Subproblem → List ℕ → Type 0
 Deserves-8 n P r = ((1 ≤ kindOf r) × (kindOf r ≤ 4)) × ((n ≤ variableOf r) ⊎ Instantiated P (variableOf r))
 
--- 9: kinds 1 to 3: v is d or more, or not in V's domain; kind 4: V has one value.
+-- 9, of kinds 1 to 3: v is none of the d values or none of V's; of kind 4: V has a single value.
 abbrev pub Deserves-9 : ℕ → Subproblem → List ℕ → Type 0
 Deserves-9 d P r =
     (((1 ≤ kindOf r) × (kindOf r ≤ 3)) × ((d ≤ valueOf r) ⊎ (valueOf r ∈ domain P (variableOf r) → ⊥)))
     ⊎ ((kindOf r ≡ 4) × (size (domain P (variableOf r)) ≡ 1))
 
--- 10: kind 5: a target is empty or not part of P's domain, or all equal P's.
+-- 10, of kind 5: some target has no value or one that P's domain lacks, or no target is another than the domain.
 abbrev pub Deserves-10 : ℕ → Subproblem → List ℕ → Type 0
 Deserves-10 n P r =
     (kindOf r ≡ 5)

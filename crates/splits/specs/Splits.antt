@@ -37,7 +37,7 @@ cutBeside allowed P V′ v j =
 unfoldable pub atTargets : Subproblem → List ℕ → ℕ → Subproblem
 atTargets P r j = record { domains = changed j (λ i m. targetOf r i) (P .domains); marked = P .marked }
 
--- Kind 1 (a) is dropped if v is not allowed beside some instantiated value: whether variable i, instantiated, forbids v.
+-- Kind 1 has no first piece where an instantiated value forbids v: whether that of variable i, which is instantiated, does.
 unfoldable pub forbids : Table → Subproblem → ℕ → ℕ → ℕ → Bool
 forbids allowed P V′ v i = eqb (bit (allowed i V′ (lowest (domain P i))) v) 0
 
@@ -49,16 +49,16 @@ instantiatedOther P V′ i = eqb (bit (P .marked) i) 1 && not (eqb i V′)
 unfoldable pub forbidden : ℕ → Table → Subproblem → ℕ → ℕ → Bool
 forbidden n allowed P V′ v = some n (λ i. instantiatedOther P V′ i && forbids allowed P V′ v i)
 
--- The precluded piece: V instantiated to v, and every value not allowed beside v removed from every other domain.
+-- The precluded piece: all other domains cut to what is allowed beside v, and V instantiated to v.
 unfoldable pub precluded : ℕ → Table → Subproblem → ℕ → ℕ → Subproblem
 precluded n allowed P V′ v = instantiate (cutBeside allowed P V′ v n) V′ v
 
--- The further piece of IDC for j: V without v, variables before j (except V) cut to values allowed beside v, j cut to values
--- not allowed beside v.
+-- The further piece of IDC for j: v is taken out of V's domain, the variables before j, but for V, keep what is allowed beside v, and j keeps what
+-- is not.
 unfoldable pub disjunct : Table → Subproblem → ℕ → ℕ → ℕ → Subproblem
 disjunct allowed P V′ v j = without (cutBeside allowed (without P V′ (single v)) V′ v j) j (allowed V′ j v)
 
--- The further piece of extraction for j: earlier variables at their targets, this one at its domain without its target.
+-- The further piece of extraction for j: the variables before j have their targets, and j loses the values of its own.
 unfoldable pub extract : Subproblem → List ℕ → ℕ → Subproblem
 extract P r j = without (atTargets P r j) j (targetOf r j)
 
@@ -79,7 +79,7 @@ idc n allowed P V′ v = precluded n allowed P V′ v ∷ map (disjunct allowed 
 unfoldable pub halving : Subproblem → ℕ → List Subproblem
 halving P V′ = cut P V′ (smallerHalf (domain P V′)) ∷ without P V′ (smallerHalf (domain P V′)) ∷ []
 
--- 5. Extraction: the target, then one for each variable in rising order whose target differs from its domain.
+-- 5. Extraction: all at their targets, then a piece for every variable, going up, that has another domain than its target.
 unfoldable pub extraction : ℕ → Subproblem → List ℕ → List Subproblem
 extraction n P r = atTargets P r n ∷ map (extract P r) (keep (λ j. not (eqb (targetOf r j) (domain P j))) (below n))
 
@@ -103,7 +103,7 @@ unfoldable pub pieces : ℕ → Table → Subproblem → List ℕ → List Subpr
 unfolding filled
 pieces n allowed P r = filled n (named n allowed P r)
 
--- For the calls that make pieces one by one, or by a row: document 01's splits end above.
+-- For the calls that make pieces one by one, or by a row: the rules' splits end above.
 
 -- By the row of v of V: every other domain cut to its own mask, V's is the row's, which is v alone, and V marked. It is the precluded piece (By-row).
 unfoldable pub precludedBy : Subproblem → ℕ → List ℕ → Subproblem

@@ -11,7 +11,7 @@ use Rattle.splits.specs.Splits.{precluded, pieces}
 use Rattle.splits.specs.declared.subproblem.Subproblem.{Subproblem}
 use Rattle.searches.specs.Chooser.{fewest, request}
 
--- Kind 2 if the precluded piece is empty or if kind 3 has no room in the free slots, else kind 3.
+-- The kind: 3, but 2 where the precluded piece is empty or the free slots do not take the pieces of kind 3.
 unfoldable pub kindFor : ℕ → ℕ → List ℕ → Subproblem → ℕ → ℕ → ℕ → ℕ
 kindFor n d tables P V′ v free =
     cond (empty n (precluded n (tableOf n d tables) P V′ v) || ltb free (length (pieces n (tableOf n d tables) P (request 3 V′ v)))) 2 3
