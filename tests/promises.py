@@ -67,7 +67,9 @@ def cited_places(faults):
         path, number, word = TOP / found.group(1), int(found.group(2)), found.group(3)
         lines = path.read_text().split("\n") if path.is_file() else []
         if not (0 < number <= len(lines) and word in lines[number - 1]):
-            faults.append(f"docs/DECISIONS.md cites {found.group(1)}:{number} for '{word}', which that line does not have")
+            there = [str(k) for k, line in enumerate(lines, 1) if word in line]
+            said = f"line {', '.join(there)} has it" if there else "no line has it"
+            faults.append(f"docs/DECISIONS.md cites {found.group(1)}:{number} for '{word}', which that line does not have ({said})")
     return count
 
 

@@ -10,7 +10,7 @@ use search::state::State;
 use search::state::Steps;
 use searches::verdict::Verdict;
 
-// The ring: four variables, d 3, neighbours 0-1, 1-2, 2-3, 3-0 unequal.
+// The ring of the rules: three values, and variables next to each other, 3 next to 0, must differ.
 const RING: [u16; 48] = [
     0,
     0,
@@ -192,7 +192,7 @@ fn ring_choice(text: &[u8], agenda: &mut [u16]) {
     );
 }
 
-// One slot: kind 2 on the ring is refused 12; two slots suffice.
+// The ring in a single slot, in which kind 2 finds no room, and in two.
 fn ring() {
     let mut one = [0u16; 6];
     ring_run(b"ring, one slot, kind 2", &mut one);
