@@ -6,6 +6,7 @@ use crate::state::State;
 use crate::step;
 use crate::step::Stop;
 use problem::mask;
+use splits::at_once;
 use splits::subproblem::Subproblem;
 ghost use mathlib.Core.Path.{_≡_};
 ghost use mathlib.Core.Bool.{true, false};
@@ -43,7 +44,7 @@ fn look(top: Subproblem, n: usize, d: usize, tables: &[u16], rows: &mut [[u16; 3
     let variable = (key % 32) as usize;
     let value = mask::lowest(top.domain(variable));
     let row = kept::row(n, d, tables, rows, variable * 16 + value, variable, value);
-    let lost = lanes::loses(domains, row);
+    let lost = at_once::loses(domains, row);
     Choice {
         variable,
         value,
@@ -115,7 +116,7 @@ fn further_of(top: Subproblem, choice: Choice) -> Further
     let mut row = choice.row;
     let variable = choice.variable;
     row[variable] = 65535;
-    let out = lanes::outsides(whole, row);
+    let out = at_once::outsides(whole, row);
     Further { rest, row, out }
 }
 
@@ -205,7 +206,7 @@ fn put(
     let free = agenda.len() / (n + 2) - slot;
     let further = further_of(top, choice);
     let out = further.out;
-    if (lanes::filled(out) as usize) < free {
+    if (at_once::filled(out) as usize) < free {
         return Left {
             refusal: 0,
             subproblems: spread(top, n, d, tables, agenda, choice, further, slot),
@@ -229,7 +230,7 @@ fn with_checks(top: Subproblem, choice: Choice, before: u64) -> u64
     ensures { λ r. ⌜ r ≡ before + (total 32 (λ j. size (domain top j)) - choice .values) ⌝ }
 {
     let domains = top.domains;
-    before + ((lanes::values(domains) - choice.values) as u64)
+    before + ((at_once::values(domains) - choice.values) as u64)
 }
 
 // One step of the chooser by a search that runs and whose top is `top`.

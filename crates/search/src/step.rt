@@ -1,11 +1,11 @@
 // A step: the top subproblem gives way to the pieces of a request, in the lent agenda.
 use crate::agenda;
-use crate::lanes;
 use problem::tables;
 use crate::state::Checks;
 use crate::state::Counts;
 use crate::state::State;
 use crate::state::Steps;
+use splits::at_once;
 use splits::checks;
 use splits::refusal;
 use splits::split;
@@ -132,10 +132,10 @@ fn keeps_none(
     let domain = top.domain(j);
     if request[0] == 3 {
         let beside = tables::allowed(n, d, tables, request[1] as usize, j, request[2] as usize);
-        return lanes::outside(domain, beside) == 0;
+        return at_once::outside(domain, beside) == 0;
     }
     if request[0] == 5 {
-        return lanes::outside(domain, request[3 + j]) == 0;
+        return at_once::outside(domain, request[3 + j]) == 0;
     }
     false
 }

@@ -32,7 +32,8 @@ use Rattle.search.specs.Loops.Slots.{SlotIn}
 use Rattle.search.specs.Loops.Kept.{Regular}
 use Rattle.search.specs.Loops.Choices.{kindFor, chosenFor}
 use Rattle.search.specs.Loops.Steps.{Replaced, Taking, refusalFor}
-use Rattle.search.specs.Loops.Lanes.{Beyond, LeastKey, loses}
+use Rattle.search.specs.Loops.Lanes.{Beyond, LeastKey}
+use Rattle.splits.specs.AtOnce.{loses}
 use Rattle.search.specs.Loops.Found.{Found, AtTop, Puts, requestBy, leftBy, several, TakesChosen}
 use Rattle.search.specs.declared.state.State.{State}
 use Rattle.search.specs.declared.chooser.Choice.{Choice}

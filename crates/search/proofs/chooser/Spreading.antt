@@ -28,7 +28,9 @@ use Rattle.search.specs.Agenda.{slotWords}
 use Rattle.searches.specs.Chooser.{request}
 use Rattle.search.specs.Loops.Slots.{SlotIn}
 use Rattle.search.specs.Loops.Steps.{Replaced}
-use Rattle.search.specs.Loops.Lanes.{outsideTo, filled, BeforeTo}
+use Rattle.splits.specs.AtOnce.{outsideTo}
+use Rattle.splits.specs.AtOnce.{filled}
+use Rattle.search.specs.Loops.Lanes.{BeforeTo}
 use Rattle.search.specs.Loops.Found.{AtTop, RoomFor, FurtherOf, FurtherPiece, several}
 use Rattle.search.specs.declared.chooser.Choice.{Choice}
 use Rattle.search.specs.declared.chooser.Further.{Further}

@@ -18,7 +18,8 @@ use Rattle.search.specs.Loops.Slots.{SlotIn}
 use Rattle.search.specs.Loops.Kept.{Regular}
 use Rattle.search.specs.Loops.Choices.{chosenFor}
 use Rattle.search.specs.Loops.Steps.{TakesOne, Replaced}
-use Rattle.search.specs.Loops.Lanes.{outsideTo, BeforeTo}
+use Rattle.splits.specs.AtOnce.{outsideTo}
+use Rattle.search.specs.Loops.Lanes.{BeforeTo}
 use Rattle.search.specs.declared.state.State.{State}
 use Rattle.search.specs.declared.step.Stop.{Stop}
 use Rattle.search.specs.declared.chooser.Choice.{Choice}

@@ -1,13 +1,13 @@
--- `search::lanes::filled` meets its contract. The invariant: the sum is of the first i.
+-- `at_once::filled` meets its contract. The invariant: the sum is of the first i.
 -- Assumes nothing.
 use mathlib.Core.Path.{_≡_, refl}
 use Prim.Native.Nat.{_≤_, _-_}
 use native.Mathlib.Omega.{arith}
 use Rattle.problem.specs.Lists.{total}
-use Rattle.search.specs.Loops.Lanes.{filled}
+use Rattle.splits.specs.AtOnce.{filled}
 use Rattle.problem.proofs.Products.{total-turn}
-use Rattle.search.proofs.lanes.filled.Statement.{statement}
-use Rattle.search.proofs.lanes.filled.Tie as tie
+use Rattle.splits.proofs.at_once.filled.Statement.{statement}
+use Rattle.splits.proofs.at_once.filled.Tie as tie
 
 abbrev Inv-loop : tie.InvT-loop
 Inv-loop out sum₀ i₀ sum i = (i ≤ 32) × ((sum ≤ i) × (sum ≡ filled out i))

@@ -1,4 +1,4 @@
--- `search::lanes::loses` meets its contract. The invariant: the marks joined are not 0 where one of the first i is lost.
+-- `at_once::loses` meets its contract. The invariant: the marks joined are not 0 where one of the first i is lost.
 -- Assumes nothing.
 use mathlib.Core.Path.{_≡_, refl}
 use mathlib.Core.Bool.{not}
@@ -7,10 +7,10 @@ use native.Mathlib.Omega.{arith}
 use lib.ListN.{getD}
 use lib.Dec.{eqb}
 use Rattle.problem.specs.Lists.{some}
-use Rattle.search.specs.Loops.Lanes.{lost, loses}
-use Rattle.search.proofs.lanes.AtOnce.{some-turn}
-use Rattle.search.proofs.lanes.loses.Statement.{statement}
-use Rattle.search.proofs.lanes.loses.Tie as tie
+use Rattle.splits.specs.AtOnce.{lost, loses}
+use Rattle.splits.proofs.at_once.Turns.{some-turn}
+use Rattle.splits.proofs.at_once.loses.Statement.{statement}
+use Rattle.splits.proofs.at_once.loses.Tie as tie
 
 abbrev Inv-loop : tie.InvT-loop
 Inv-loop domains row lost₀ i₀ found i = (i ≤ 32) × (not (eqb found 0) ≡ some i (λ j. lost (getD domains j 0) (getD row j 0)))

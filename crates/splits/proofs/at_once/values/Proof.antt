@@ -1,4 +1,4 @@
--- `search::lanes::values` meets its contract. The invariant: the sum is that of the first i, at most 16 each.
+-- `at_once::values` meets its contract. The invariant: the sum is that of the first i, at most 16 each.
 -- Assumes nothing.
 use mathlib.Core.Path.{_≡_, refl}
 use Prim.Native.Nat.{_≤_, _-_, _*_}
@@ -7,8 +7,8 @@ use lib.ListN.{getD}
 use Rattle.problem.specs.Masks.{size}
 use Rattle.problem.specs.Lists.{total}
 use Rattle.problem.proofs.Products.{total-turn}
-use Rattle.search.proofs.lanes.values.Statement.{statement}
-use Rattle.search.proofs.lanes.values.Tie as tie
+use Rattle.splits.proofs.at_once.values.Statement.{statement}
+use Rattle.splits.proofs.at_once.values.Tie as tie
 
 abbrev Inv-loop : tie.InvT-loop
 Inv-loop domains sum₀ i₀ sum i = (i ≤ 32) × ((sum ≡ total i (λ j. size (getD domains j 0))) × (sum ≤ 16 * i))

@@ -1,13 +1,13 @@
--- `search::lanes::outsides` meets its contract. The invariant: the first i are done.
+-- `at_once::outsides` meets its contract. The invariant: the first i are done.
 -- Assumes nothing.
 use mathlib.Core.Path.{_≡_, refl}
 use Prim.Native.Nat.{_≤_, _-_}
 use native.Mathlib.Omega.{arith}
 use Rattle.problem.specs.Lists.{changed}
-use Rattle.search.specs.Loops.Lanes.{outsideTo}
-use Rattle.search.proofs.lanes.AtOnce.{outside-more}
-use Rattle.search.proofs.lanes.outsides.Statement.{statement}
-use Rattle.search.proofs.lanes.outsides.Tie as tie
+use Rattle.splits.specs.AtOnce.{outsideTo}
+use Rattle.splits.proofs.at_once.Turns.{outside-more}
+use Rattle.splits.proofs.at_once.outsides.Statement.{statement}
+use Rattle.splits.proofs.at_once.outsides.Tie as tie
 
 abbrev Inv-loop : tie.InvT-loop
 Inv-loop domains₀ row i₀ domains i = (i ≤ 32) × (domains ≡ outsideTo domains₀ row i)

@@ -1,8 +1,8 @@
--- `search::lanes::loss` meets its contract.
+-- `at_once::loss` meets its contract.
 -- Assumes nothing.
-use Rattle.search.proofs.lanes.AtOnce.{loss-empty, loss-all, loss-none}
-use Rattle.search.proofs.lanes.loss.Statement.{statement}
-use Rattle.search.proofs.lanes.loss.Tie as tie
+use Rattle.splits.proofs.at_once.Turns.{loss-empty, loss-all, loss-none}
+use Rattle.splits.proofs.at_once.loss.Statement.{statement}
+use Rattle.splits.proofs.at_once.loss.Tie as tie
 
 returns : tie.Need-returns
 returns c = loss-empty _ _ (c .if1 .taken)

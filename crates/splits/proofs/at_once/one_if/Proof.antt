@@ -1,10 +1,10 @@
--- `search::lanes::one_if` meets its contract.
+-- `at_once::one_if` meets its contract.
 -- Assumes nothing.
 use mathlib.Core.Path.{refl}
 use native.Mathlib.Omega.{arith}
 use borrow.Author.Tests.{eq-eqb, ne-eqb}
-use Rattle.search.proofs.lanes.one_if.Statement.{statement}
-use Rattle.search.proofs.lanes.one_if.Tie as tie
+use Rattle.splits.proofs.at_once.one_if.Statement.{statement}
+use Rattle.splits.proofs.at_once.one_if.Tie as tie
 
 returns : tie.Need-returns
 returns c = (rw (eq-eqb _ 0 (c .if1 .taken)) refl, omega arith)

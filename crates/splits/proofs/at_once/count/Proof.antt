@@ -1,11 +1,11 @@
--- `search::lanes::count` meets its contract.
+-- `at_once::count` meets its contract.
 -- Assumes nothing.
 use mathlib.Core.Path.{refl}
 use lib.Count.{ones-le}
 use native.Mathlib.Omega.{arith}
 use borrow.Author.Needs.{needs}
-use Rattle.search.proofs.lanes.count.Statement.{statement}
-use Rattle.search.proofs.lanes.count.Tie as tie
+use Rattle.splits.proofs.at_once.count.Statement.{statement}
+use Rattle.splits.proofs.at_once.count.Tie as tie
 
 cast-result : tie.Need-cast-result
 cast-result c = omega (arith, ones-le 16 (c .args .domain) (c .fits .domain .fits))
