@@ -168,21 +168,6 @@ fn place(
     at
 }
 
-// The checks so far with those of a request.
-fn with_checks(
-    top: Subproblem,
-    n: usize,
-    d: usize,
-    tables: &[u16],
-    request: &[u16],
-    before: u64,
-) -> u64
-    requires { ⌜ (readable n d (now tables) (now request) ≡ true) × (before + checks n (tableOf n d (now tables)) top (now request) < 2 ^ 64) ⌝ }
-    ensures { λ r. ⌜ r ≡ before + checks n (tableOf n d (now (tables .entry))) top (now (request .entry)) ⌝ }
-{
-    before + (checks::checks(top, n, d, tables, request) as u64)
-}
-
 // One request taken by a search that runs and whose top is `top`.
 pub(crate) fn take(
     top: Subproblem,
@@ -203,7 +188,8 @@ pub(crate) fn take(
     if refusal != 0 {
         return stopped(refusal, state);
     }
-    let checks = with_checks(top, n, d, tables, request, state.counts.checks.0);
+    let made = checks::checks(top, n, d, tables, request);
+    let checks = state.counts.checks.0 + (made as u64);
     agenda::clear_slot(n, agenda, slot);
     let subproblems = place(top, n, d, tables, agenda, request, slot);
     taken(steps, checks, subproblems)
