@@ -24,11 +24,10 @@ ghost use Rattle.search.specs.Loops.Steps.{Replaced, Taking};
 ghost use Rattle.search.specs.Loops.Lanes.{Rows, Sides};
 ghost use Rattle.search.specs.Loops.Found.{Found, AtTop, RoomFor, FurtherOf, FurtherPiece, Puts, requestBy, leftBy, several, TakesChosen};
 
-// What the chooser finds of a top subproblem: the variable and its value, how many values the variable has, what is allowed
-// beside the value, and whether the precluded piece is empty. `value` is for the contracts alone: the row has it.
+// What the chooser finds of a top subproblem: the variable, how many values it has, what is allowed beside its lowest value, and whether the precluded
+// piece is empty.
 pub(crate) struct Choice {
     pub(crate) variable: usize,
-    pub(crate) value: usize,
     pub(crate) values: u16,
     pub(crate) row: [u16; 32],
     pub(crate) lost: bool,
@@ -47,7 +46,6 @@ fn look(top: Subproblem, n: usize, d: usize, tables: &[u16], rows: &mut [[u16; 3
     let lost = at_once::loses(domains, row);
     Choice {
         variable,
-        value,
         values: key / 32,
         row,
         lost,
@@ -142,7 +140,7 @@ fn spread(
     slot: usize,
 ) -> usize
     requires { ⌜ AtTop n d (now tables) top choice slot (length (now agenda)) × (RoomFor n d (now tables) top choice 3 slot (length (now agenda)) × ((several choice ≡ true) × FurtherOf top choice further)) ⌝ }
-    ensures { λ r. ⌜ Replaced n (pieces n (tableOf n d (now (tables .entry))) top (requestBy choice 3)) slot (now (agenda .entry)) (now (agenda .exit)) r ⌝ }
+    ensures { λ r. ⌜ Replaced n (pieces n (tableOf n d (now (tables .entry))) top (requestBy top choice 3)) slot (now (agenda .entry)) (now (agenda .exit)) r ⌝ }
 {
     let out = further.out;
     let sides = lanes::sides();
@@ -170,7 +168,7 @@ fn put_two(
     slot: usize,
 ) -> usize
     requires { ⌜ AtTop n d (now tables) top choice slot (length (now agenda)) × (RoomFor n d (now tables) top choice 2 slot (length (now agenda)) × (several choice ≡ true)) ⌝ }
-    ensures { λ r. ⌜ Replaced n (pieces n (tableOf n d (now (tables .entry))) top (requestBy choice 2)) slot (now (agenda .entry)) (now (agenda .exit)) r ⌝ }
+    ensures { λ r. ⌜ Replaced n (pieces n (tableOf n d (now (tables .entry))) top (requestBy top choice 2)) slot (now (agenda .entry)) (now (agenda .exit)) r ⌝ }
 {
     agenda::write_slot(n, agenda, slot, rest(top, choice));
     agenda::write_slot(n, agenda, slot + 1, precluded(top, choice));
