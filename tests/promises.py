@@ -29,7 +29,8 @@ def declares(path, name):
     text = text_of(path)
     if path.suffix == ".rt":
         return re.search(rf"(?m)^\s*(?:pub(?:\(crate\))? )?(?:extern \"C\" )?(?:fn|struct|enum|const) {re.escape(name)}\b", text)
-    shapes = rf"(?m)^(?:{MARKS}{re.escape(name)}(?: \{{[^}}]*\}})? :|(?:pub )?(?:record|data) {re.escape(name)}(?: |$))"
+    said = re.escape(name)
+    shapes = rf"(?m)^(?:{MARKS}{said}(?: \{{[^}}]*\}})? :|\s+(?:abbrev|unfoldable) (?:pub )?{said} :|\s*(?:pub )?(?:record|data) {said}(?: |$))"
     return re.search(shapes, text)
 
 

@@ -23,7 +23,7 @@ blockWord file b k = wordAt file (256 * b + k)
 unfoldable pub headOf : List ℕ → ℕ → List ℕ
 headOf file b = map (blockWord file b) (below 255)
 
--- 14: the bytes are not 1 to 101 whole blocks, or some block has another number, count or check than it should.
+-- 14: bytes that are not whole blocks, no block or more than 101, or one whose number, count or check is not what it is to be.
 abbrev pub Deserves-14 : List ℕ → Type 0
 Deserves-14 file =
     ((length file ≡ blocksIn file * 512 → ⊥) ⊎ (blocksIn file < 1) ⊎ (101 < blocksIn file))

@@ -14,8 +14,9 @@ ghost use mathlib.Core.Path.{_≡_};
 ghost use Prim.Native.Nat.{_≤_, _<_};
 ghost use lib.ListN.{length};
 ghost use Rattle.console.specs.Calls.{OpensBytes, RunsBytes, RunsWords, ChoosesBytes, SavesBytes, unloaded, LoadsBytes};
+ghost use Rattle.bytes.specs.Bytes.{Fits};
 ghost use Rattle.console.specs.Loops.Rooms.{Room};
-ghost use Rattle.console.specs.Loops.Parts.{Listed, Narrow, NarrowLoaded};
+ghost use Rattle.console.specs.Loops.Parts.{Listed, RunsAt, Narrow, NarrowLoaded};
 
 // Opening.
 pub(crate) fn open(n: usize, d: usize, domains: &[u8], tables: &[u8], agenda: &mut [u8]) -> Opened
@@ -50,34 +51,25 @@ pub(crate) fn open(n: usize, d: usize, domains: &[u8], tables: &[u8], agenda: &m
 fn run_short(
     n: usize,
     d: usize,
-    domains: &[u8],
-    tables: &[u8],
+    domains: &[u16],
+    tables: &[u16],
     agenda: &mut [u8],
     requests: &[u8],
     state: State,
 ) -> Ran
-    requires { ⌜ Room (now domains) (now tables) (now agenda) 8704 × ((length (now requests) ≤ 1120) × (Listed n (length (now requests)) × (state .subproblems < 4294967296))) ⌝ }
-    ensures { λ r. ⌜ RunsWords n d (now (domains .entry)) (now (tables .entry)) (now (agenda .entry)) (now (agenda .exit)) (now (requests .entry)) state r × Narrow r ⌝ }
+    requires { ⌜ Fits (length (now agenda)) 8704 × ((length (now requests) ≤ 1120) × (Listed n (length (now requests)) × (state .subproblems < 4294967296))) ⌝ }
+    ensures { λ r. ⌜ RunsAt n d (now (domains .entry)) (now (tables .entry)) (now (agenda .entry)) (now (agenda .exit)) (now (requests .entry)) state r × Narrow r ⌝ }
 {
-    let mut domain_words = [0u16; rooms::DOMAIN_WORDS];
-    let mut table_words = [0u16; rooms::TABLE_WORDS];
-    let mut agenda_words = [0u16; rooms::SHORT_WORDS];
-    let made = bytes::three_of(
-        domains,
-        tables,
-        agenda,
-        &mut domain_words,
-        &mut table_words,
-        &mut agenda_words,
-    );
+    let mut words = [0u16; rooms::SHORT_WORDS];
+    let room = bytes::words_of(agenda, &mut words);
     let mut listed = [0u16; rooms::FEW_WORDS];
     let count = bytes::words_of(requests, &mut listed);
     let ran = search::run(
         n,
         d,
-        &domain_words[..made.first],
-        &table_words[..made.second],
-        &mut agenda_words[..made.third],
+        domains,
+        tables,
+        &mut words[..room],
         &listed[..count],
         state,
     );
@@ -86,7 +78,7 @@ fn run_short(
         state.subproblems,
         ran.taken,
         ran.state.subproblems,
-        &agenda_words[..made.third],
+        &words[..room],
         agenda,
     );
     ran
@@ -96,48 +88,31 @@ fn run_short(
 fn run_long(
     n: usize,
     d: usize,
-    domains: &[u8],
-    tables: &[u8],
+    domains: &[u16],
+    tables: &[u16],
     agenda: &mut [u8],
     requests: &[u8],
     state: State,
 ) -> Ran
-    requires { ⌜ Room (now domains) (now tables) (now agenda) 17408 × (Listed n (length (now requests)) × (state .subproblems < 4294967296)) ⌝ }
-    ensures { λ r. ⌜ RunsWords n d (now (domains .entry)) (now (tables .entry)) (now (agenda .entry)) (now (agenda .exit)) (now (requests .entry)) state r × Narrow r ⌝ }
+    requires { ⌜ Fits (length (now agenda)) 17408 × (Listed n (length (now requests)) × (state .subproblems < 4294967296)) ⌝ }
+    ensures { λ r. ⌜ RunsAt n d (now (domains .entry)) (now (tables .entry)) (now (agenda .entry)) (now (agenda .exit)) (now (requests .entry)) state r × Narrow r ⌝ }
 {
-    let mut domain_words = [0u16; rooms::DOMAIN_WORDS];
-    let mut table_words = [0u16; rooms::TABLE_WORDS];
-    let mut agenda_words = [0u16; rooms::AGENDA_WORDS];
-    let made = bytes::three_of(
-        domains,
-        tables,
-        agenda,
-        &mut domain_words,
-        &mut table_words,
-        &mut agenda_words,
-    );
-    let ran = parts::run_parts(
-        n,
-        d,
-        &domain_words[..made.first],
-        &table_words[..made.second],
-        &mut agenda_words[..made.third],
-        requests,
-        state,
-    );
+    let mut words = [0u16; rooms::AGENDA_WORDS];
+    let room = bytes::words_of(agenda, &mut words);
+    let ran = parts::run_parts(n, d, domains, tables, &mut words[..room], requests, state);
     fronts::write_back(
         n,
         state.subproblems,
         ran.taken,
         ran.state.subproblems,
-        &agenda_words[..made.third],
+        &words[..room],
         agenda,
     );
     ran
 }
 
-// A run in so much of an agenda as tells how it ends.
-fn run_front(
+// A run in so much of an agenda as tells how it ends. Its words are made one slice after another: how many are made of the agenda depends on it.
+fn run_words(
     n: usize,
     d: usize,
     domains: &[u8],
@@ -149,6 +124,12 @@ fn run_front(
     requires { ⌜ Room (now domains) (now tables) (now agenda) 17408 × (Listed n (length (now requests)) × (state .subproblems < 4294967296)) ⌝ }
     ensures { λ r. ⌜ RunsWords n d (now (domains .entry)) (now (tables .entry)) (now (agenda .entry)) (now (agenda .exit)) (now (requests .entry)) state r × Narrow r ⌝ }
 {
+    let mut domain_words = [0u16; rooms::DOMAIN_WORDS];
+    let variables = bytes::words_of(domains, &mut domain_words);
+    let mut table_words = [0u16; rooms::TABLE_WORDS];
+    let masks = bytes::words_of(tables, &mut table_words);
+    let domains = &domain_words[..variables];
+    let tables = &table_words[..masks];
     if rooms::few(agenda.len(), requests.len()) {
         return run_short(n, d, domains, tables, agenda, requests, state);
     }
@@ -176,7 +157,7 @@ pub(crate) fn run(
     if !rooms::room_for(domains.len(), tables.len(), front) {
         return numbers::refused(n, d, state);
     }
-    run_front(n, d, domains, tables, &mut agenda[..front], requests, state)
+    run_words(n, d, domains, tables, &mut agenda[..front], requests, state)
 }
 
 // The house chooser.

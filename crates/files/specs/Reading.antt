@@ -88,8 +88,8 @@ saidSearch file =
 abbrev pub saidWords : List ℕ → ℕ
 saidWords file = wordCount (saidN file) (saidD file) (saidSubproblems file)
 
--- 15: n, d or the number of subproblems is out of its range, the words need another number of blocks or something other than zeros follows them,
--- or what they say breaks a rule. The rules are 1, 2, 4 and 6; 5 no file can break, as it says each pair once.
+-- 15: numbers out of their ranges, a number of blocks that the words do not need, a word after them that is not zero, or what 4 and 6 refuse. 5 no file
+-- can deserve, as it says each pair once.
 abbrev pub Deserves-15 : List ℕ → Type 0
 Deserves-15 file =
     Deserves-1 (saidN file)

@@ -1,5 +1,4 @@
 // The lent agenda: slots of n + 2 words, slot 0 the bottom. A step reads, writes and clears slots here alone; the first checks read them as words.
-use crate::lanes;
 use splits::subproblem::Subproblem;
 ghost use mathlib.Core.Path.{_≡_};
 ghost use Prim.Native.Nat.{_+_, _*_, _≤_, _<_};
@@ -40,21 +39,21 @@ pub(crate) fn marked_at(words: &[u16], at: usize) -> u32
 }
 
 // The words of slot `k`.
-pub(crate) fn slot(n: usize, agenda: &[u16], k: usize) -> &[u16]
-    requires { ⌜ SlotIn n k (length (now agenda)) ⌝ }
-    ensures { λ r. ⌜ (now r ≡ slotAt n (now (agenda .entry)) k) × (length (now r) ≡ n + 2) ⌝ }
+pub(crate) fn slot(n: usize, memory: &[u16], k: usize) -> &[u16]
+    requires { ⌜ SlotIn n k (length (now memory)) ⌝ }
+    ensures { λ r. ⌜ (now r ≡ slotAt n (now (memory .entry)) k) × (length (now r) ≡ n + 2) ⌝ }
 {
     let at = k * (n + 2);
     let end = at + (n + 2);
-    &agenda[at..end]
+    &memory[at..end]
 }
 
 // The subproblem in slot `k`.
-pub(crate) fn read_slot(n: usize, agenda: &[u16], k: usize) -> Subproblem
-    requires { ⌜ SlotIn n k (length (now agenda)) ⌝ }
-    ensures { λ r. ⌜ r ≡ subproblemOf n (slotAt n (now (agenda .entry)) k) ⌝ }
+pub(crate) fn read_slot(n: usize, memory: &[u16], k: usize) -> Subproblem
+    requires { ⌜ SlotIn n k (length (now memory)) ⌝ }
+    ensures { λ r. ⌜ r ≡ subproblemOf n (slotAt n (now (memory .entry)) k) ⌝ }
 {
-    let words = slot(n, agenda, k);
+    let words = slot(n, memory, k);
     holding(n, words, marked_at(words, n))
 }
 
@@ -66,25 +65,25 @@ fn kept_words(lanes: [u16; 32], words: &[u16]) -> [u16; 32]
     let mut domains = [0u16; 32];
     let mut i = 0;
     while i < 32 {
-        domains[i] = lanes::kept(words[i], lanes[i]);
+        domains[i] = words[i] & lanes[i];
         i += 1;
     }
     domains
 }
 
 // The subproblem in slot `k`, all 32 masks at once where so many words follow; `lanes` keep those of the n variables.
-pub(crate) fn read_lanes(lanes: [u16; 32], n: usize, agenda: &[u16], k: usize) -> Subproblem
-    requires { ⌜ SlotIn n k (length (now agenda)) × Below n lanes ⌝ }
-    ensures { λ r. ⌜ r ≡ subproblemOf n (slotAt n (now (agenda .entry)) k) ⌝ }
+pub(crate) fn read_lanes(lanes: [u16; 32], n: usize, memory: &[u16], k: usize) -> Subproblem
+    requires { ⌜ SlotIn n k (length (now memory)) × Below n lanes ⌝ }
+    ensures { λ r. ⌜ r ≡ subproblemOf n (slotAt n (now (memory .entry)) k) ⌝ }
 {
     let at = k * (n + 2);
     let end = at + 32;
-    if agenda.len() < end {
-        return read_slot(n, agenda, k);
+    if memory.len() < end {
+        return read_slot(n, memory, k);
     }
     Subproblem {
-        domains: kept_words(lanes, &agenda[at..end]),
-        marked: marked_at(agenda, at + n),
+        domains: kept_words(lanes, &memory[at..end]),
+        marked: marked_at(memory, at + n),
     }
 }
 
@@ -124,34 +123,34 @@ fn put_words(n: usize, slot: &mut [u16], p: Subproblem)
 }
 
 // Slot `k` holds the subproblem.
-pub(crate) fn write_slot(n: usize, agenda: &mut [u16], k: usize, p: Subproblem)
-    requires { ⌜ SlotIn n k (length (now agenda)) ⌝ }
-    ensures { λ r. ⌜ now (agenda .exit) ≡ splice (now (agenda .entry)) (k * (n + 2)) (slotWords n p) ⌝ }
+pub(crate) fn write_slot(n: usize, memory: &mut [u16], k: usize, p: Subproblem)
+    requires { ⌜ SlotIn n k (length (now memory)) ⌝ }
+    ensures { λ r. ⌜ now (memory .exit) ≡ splice (now (memory .entry)) (k * (n + 2)) (slotWords n p) ⌝ }
 {
     let at = k * (n + 2);
     let end = at + (n + 2);
-    put_words(n, &mut agenda[at..end], p);
+    put_words(n, &mut memory[at..end], p);
 }
 
 // Slot `k` holds zeros.
-pub(crate) fn clear_slot(n: usize, agenda: &mut [u16], k: usize)
-    requires { ⌜ SlotIn n k (length (now agenda)) ⌝ }
-    ensures { λ r. ⌜ now (agenda .exit) ≡ splice (now (agenda .entry)) (k * (n + 2)) (replicate (n + 2) 0) ⌝ }
+pub(crate) fn clear_slot(n: usize, memory: &mut [u16], k: usize)
+    requires { ⌜ SlotIn n k (length (now memory)) ⌝ }
+    ensures { λ r. ⌜ now (memory .exit) ≡ splice (now (memory .entry)) (k * (n + 2)) (replicate (n + 2) 0) ⌝ }
 {
     let none = Subproblem {
         domains: [0u16; 32],
         marked: 0,
     };
-    write_slot(n, agenda, k, none);
+    write_slot(n, memory, k, none);
 }
 
 // Every word is zero.
-pub(crate) fn clear(agenda: &mut [u16])
-    ensures { λ r. ⌜ now (agenda .exit) ≡ replicate (length (now (agenda .entry))) 0 ⌝ }
+pub(crate) fn clear(memory: &mut [u16])
+    ensures { λ r. ⌜ now (memory .exit) ≡ replicate (length (now (memory .entry))) 0 ⌝ }
 {
     let mut k = 0;
-    while k < agenda.len() {
-        agenda[k] = 0;
+    while k < memory.len() {
+        memory[k] = 0;
         k += 1;
     }
 }

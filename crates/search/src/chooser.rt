@@ -6,6 +6,7 @@ use crate::state::State;
 use crate::step;
 use crate::step::Stop;
 use problem::mask;
+use splits::at_once;
 use splits::subproblem::Subproblem;
 ghost use mathlib.Core.Path.{_≡_};
 ghost use mathlib.Core.Bool.{true, false};
@@ -23,11 +24,10 @@ ghost use Rattle.search.specs.Loops.Steps.{Replaced, Taking};
 ghost use Rattle.search.specs.Loops.Lanes.{Rows, Sides};
 ghost use Rattle.search.specs.Loops.Found.{Found, AtTop, RoomFor, FurtherOf, FurtherPiece, Puts, requestBy, leftBy, several, TakesChosen};
 
-// What the chooser finds of a top subproblem: the variable and its value, how many values the variable has, what is allowed
-// beside the value, and whether the precluded piece is empty. `value` is for the contracts alone: the row has it.
+// What the chooser finds of a top subproblem: the variable, how many values it has, what is allowed beside its lowest value, and whether the precluded
+// piece is empty.
 pub(crate) struct Choice {
     pub(crate) variable: usize,
-    pub(crate) value: usize,
     pub(crate) values: u16,
     pub(crate) row: [u16; 32],
     pub(crate) lost: bool,
@@ -43,10 +43,9 @@ fn look(top: Subproblem, n: usize, d: usize, tables: &[u16], rows: &mut [[u16; 3
     let variable = (key % 32) as usize;
     let value = mask::lowest(top.domain(variable));
     let row = kept::row(n, d, tables, rows, variable * 16 + value, variable, value);
-    let lost = lanes::loses(domains, row);
+    let lost = at_once::loses(domains, row);
     Choice {
         variable,
-        value,
         values: key / 32,
         row,
         lost,
@@ -115,7 +114,7 @@ fn further_of(top: Subproblem, choice: Choice) -> Further
     let mut row = choice.row;
     let variable = choice.variable;
     row[variable] = 65535;
-    let out = lanes::outsides(whole, row);
+    let out = at_once::outsides(whole, row);
     Further { rest, row, out }
 }
 
@@ -141,7 +140,7 @@ fn spread(
     slot: usize,
 ) -> usize
     requires { ⌜ AtTop n d (now tables) top choice slot (length (now agenda)) × (RoomFor n d (now tables) top choice 3 slot (length (now agenda)) × ((several choice ≡ true) × FurtherOf top choice further)) ⌝ }
-    ensures { λ r. ⌜ Replaced n (pieces n (tableOf n d (now (tables .entry))) top (requestBy choice 3)) slot (now (agenda .entry)) (now (agenda .exit)) r ⌝ }
+    ensures { λ r. ⌜ Replaced n (pieces n (tableOf n d (now (tables .entry))) top (requestBy top choice 3)) slot (now (agenda .entry)) (now (agenda .exit)) r ⌝ }
 {
     let out = further.out;
     let sides = lanes::sides();
@@ -169,7 +168,7 @@ fn put_two(
     slot: usize,
 ) -> usize
     requires { ⌜ AtTop n d (now tables) top choice slot (length (now agenda)) × (RoomFor n d (now tables) top choice 2 slot (length (now agenda)) × (several choice ≡ true)) ⌝ }
-    ensures { λ r. ⌜ Replaced n (pieces n (tableOf n d (now (tables .entry))) top (requestBy choice 2)) slot (now (agenda .entry)) (now (agenda .exit)) r ⌝ }
+    ensures { λ r. ⌜ Replaced n (pieces n (tableOf n d (now (tables .entry))) top (requestBy top choice 2)) slot (now (agenda .entry)) (now (agenda .exit)) r ⌝ }
 {
     agenda::write_slot(n, agenda, slot, rest(top, choice));
     agenda::write_slot(n, agenda, slot + 1, precluded(top, choice));
@@ -205,7 +204,7 @@ fn put(
     let free = agenda.len() / (n + 2) - slot;
     let further = further_of(top, choice);
     let out = further.out;
-    if (lanes::filled(out) as usize) < free {
+    if (at_once::filled(out) as usize) < free {
         return Left {
             refusal: 0,
             subproblems: spread(top, n, d, tables, agenda, choice, further, slot),
@@ -229,7 +228,7 @@ fn with_checks(top: Subproblem, choice: Choice, before: u64) -> u64
     ensures { λ r. ⌜ r ≡ before + (total 32 (λ j. size (domain top j)) - choice .values) ⌝ }
 {
     let domains = top.domains;
-    before + ((lanes::values(domains) - choice.values) as u64)
+    before + ((at_once::values(domains) - choice.values) as u64)
 }
 
 // One step of the chooser by a search that runs and whose top is `top`.

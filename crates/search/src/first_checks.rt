@@ -28,25 +28,6 @@ fn whole_slots(n: usize, words: usize) -> bool
     slots <= 512
 }
 
-// 3, or none, of the number of words lent as requests.
-fn refusal_of_requests(n: usize, words: usize) -> u32
-    requires { ⌜ n ≤ 32 ⌝ }
-    ensures { λ r. ⌜ r ≡ refusalOfRequests n words ⌝ }
-{
-    if words % (n + 3) == 0 {
-        return 0;
-    }
-    3
-}
-
-// Whether every word at `from` and after it is zero.
-fn zeros_from(words: &[u16], from: usize) -> bool
-    requires { ⌜ from ≤ length (now words) ⌝ }
-    ensures { λ r. ⌜ r ≡ zerosFrom from (now (words .entry)) ⌝ }
-{
-    problem::first_checks::bits_of(&words[from..]) == 0
-}
-
 // 6, or none.
 fn refusal_of_search(
     n: usize,
@@ -65,7 +46,8 @@ fn refusal_of_search(
     if 496 * (state.counts.steps.0 as u64) < state.counts.checks.0 {
         return 6;
     }
-    if !zeros_from(agenda, state.subproblems * (n + 2)) {
+    let used = state.subproblems * (n + 2);
+    if problem::first_checks::bits_of(&agenda[used..]) != 0 {
         return 6;
     }
     if rules::all_obey(n, d, domains, tables, agenda, state.subproblems) {
@@ -133,9 +115,8 @@ pub fn run_refusal(
     if sizes != 0 {
         return sizes;
     }
-    let list = refusal_of_requests(n, requests.len());
-    if list != 0 {
-        return list;
+    if requests.len() % (n + 3) != 0 {
+        return 3;
     }
     search_refusal(n, d, domains, tables, agenda, state)
 }

@@ -1,8 +1,8 @@
 // The rules for the subproblems in slots, the first check that 6 is about, on the words as they lie there.
 use crate::agenda;
-use crate::lanes;
 use crate::kept;
 use problem::mask;
+use splits::at_once;
 ghost use mathlib.Core.Path.{_≡_};
 ghost use Prim.Native.Nat.{_+_, _*_, _≤_, _<_};
 ghost use lib.ListN.{length};
@@ -78,7 +78,7 @@ fn missing(held: [u16; 32], row: [u16; 32]) -> u16
     let mut wrong: u16 = 0;
     let mut j = 0;
     while j < 32 {
-        wrong = wrong | lanes::outside(held[j], row[j]);
+        wrong = wrong | at_once::outside(held[j], row[j]);
         j += 1;
     }
     wrong

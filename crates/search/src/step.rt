@@ -1,11 +1,11 @@
 // A step: the top subproblem gives way to the pieces of a request, in the lent agenda.
 use crate::agenda;
-use crate::lanes;
 use problem::tables;
 use crate::state::Checks;
 use crate::state::Counts;
 use crate::state::State;
 use crate::state::Steps;
+use splits::at_once;
 use splits::checks;
 use splits::refusal;
 use splits::split;
@@ -132,10 +132,10 @@ fn keeps_none(
     let domain = top.domain(j);
     if request[0] == 3 {
         let beside = tables::allowed(n, d, tables, request[1] as usize, j, request[2] as usize);
-        return lanes::outside(domain, beside) == 0;
+        return at_once::outside(domain, beside) == 0;
     }
     if request[0] == 5 {
-        return lanes::outside(domain, request[3 + j]) == 0;
+        return at_once::outside(domain, request[3 + j]) == 0;
     }
     false
 }
@@ -168,21 +168,6 @@ fn place(
     at
 }
 
-// The checks so far with those of a request.
-fn with_checks(
-    top: Subproblem,
-    n: usize,
-    d: usize,
-    tables: &[u16],
-    request: &[u16],
-    before: u64,
-) -> u64
-    requires { ⌜ (readable n d (now tables) (now request) ≡ true) × (before + checks n (tableOf n d (now tables)) top (now request) < 2 ^ 64) ⌝ }
-    ensures { λ r. ⌜ r ≡ before + checks n (tableOf n d (now (tables .entry))) top (now (request .entry)) ⌝ }
-{
-    before + (checks::checks(top, n, d, tables, request) as u64)
-}
-
 // One request taken by a search that runs and whose top is `top`.
 pub(crate) fn take(
     top: Subproblem,
@@ -203,7 +188,8 @@ pub(crate) fn take(
     if refusal != 0 {
         return stopped(refusal, state);
     }
-    let checks = with_checks(top, n, d, tables, request, state.counts.checks.0);
+    let made = checks::checks(top, n, d, tables, request);
+    let checks = state.counts.checks.0 + (made as u64);
     agenda::clear_slot(n, agenda, slot);
     let subproblems = place(top, n, d, tables, agenda, request, slot);
     taken(steps, checks, subproblems)

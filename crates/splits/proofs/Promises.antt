@@ -1,7 +1,7 @@
 -- The promises of specs/Promises.antt, proved.
 -- Assumes nothing.
-use mathlib.Core.Path.{_∙_}
-use Rattle.splits.specs.Promises.{One-by-one, By-row, Request-refusals, Request-accepted, First-one, Reads-refusal, Reads-pieces, Reads-checks, Diagonal-piece, Diagonal-checks, Domain-one, Is-instantiated-one, All-instantiated-one, Is-empty-one, Instantiate-one, Without-one, Cut-one, Cut-each-one, Precluded-one, Candidates-one, Piece-one, Checks-one, Refusal-one}
+use mathlib.Core.Path.{sym, _∙_}
+use Rattle.splits.specs.Promises.{One-by-one, By-row, Request-refusals, Request-accepted, First-one, Reads-refusal, Reads-pieces, Reads-checks, Diagonal-piece, Diagonal-checks, Domain-one, Is-instantiated-one, All-instantiated-one, Is-empty-one, Instantiate-one, Without-one, Cut-one, Cut-each-one, Precluded-one, Candidates-one, Piece-one, Checks-one, Refusal-one, Count-one, Values-one, Loses-one, Outside-one, Outsides-one, Filled-one}
 use Rattle.splits.proofs.split.OneByOne.{all-one-by-one}
 use Rattle.splits.proofs.subproblem.Rows.{row-made}
 use Rattle.splits.proofs.Apart.{apart-piece, apart-checks}
@@ -77,3 +77,21 @@ checks-one P n d tables request = one _
 
 pub refusal-one : Refusal-one
 refusal-one P n d request = one _
+
+pub count-one : Count-one
+count-one domain r s p q = p .0 ∙ sym (q .0)
+
+pub values-one : Values-one
+values-one domains = one _
+
+pub loses-one : Loses-one
+loses-one domains row = one _
+
+pub outside-one : Outside-one
+outside-one domain mask = one _
+
+pub outsides-one : Outsides-one
+outsides-one domains row = one _
+
+pub filled-one : Filled-one
+filled-one masks = one _

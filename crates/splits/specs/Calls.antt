@@ -2,10 +2,13 @@
 use mathlib.Core.Path.{_≡_}
 use mathlib.Core.Bool.{Bool, cond, _&&_}
 use mathlib.Core.List.{List}
-use Prim.Native.Nat.{ℕ}
+use Prim.Native.Nat.{ℕ, _≤_}
+use lib.ListN.{getD}
 use lib.Dec.{eqb, leb, ltb}
-use Rattle.problem.specs.Masks.{bit}
+use Rattle.problem.specs.Masks.{bit, size, minus}
 use Rattle.problem.specs.Problem.{tableOf}
+use Rattle.problem.specs.Lists.{total}
+use Rattle.splits.specs.AtOnce.{loses, outsideTo, filled}
 use Rattle.splits.specs.Subproblems.{domain, empty, allInstantiated}
 use Rattle.splits.specs.Requests.{kindOf, variableOf, valueOf}
 use Rattle.splits.specs.Splits.{instantiate, without, cut, cutEach, precludedBy, byKind, candidates, candidate}
@@ -65,3 +68,23 @@ Checks-of P n d tables request r = r ≡ cond (readable n d tables request) (che
 
 abbrev pub Refusal-of : Subproblem → ℕ → ℕ → List ℕ → ℕ → Type 0
 Refusal-of P n d request r = r ≡ refusalOf n d P request
+
+-- Of all 32 domains at once: how many values one has, and all together; whether one loses all its values where each is cut to its own mask; what one,
+-- and each, has outside its mask; how many are not empty.
+abbrev pub Few : ℕ → ℕ → Type 0
+Few domain r = (r ≡ size domain) × (r ≤ 16)
+
+abbrev pub Values : List ℕ → ℕ → Type 0
+Values domains r = r ≡ total 32 (λ j. size (getD domains j 0))
+
+abbrev pub Loses : List ℕ → List ℕ → Bool → Type 0
+Loses domains row r = r ≡ loses domains row
+
+abbrev pub Outside : ℕ → ℕ → ℕ → Type 0
+Outside domain mask r = r ≡ minus domain mask
+
+abbrev pub Outsides : List ℕ → List ℕ → List ℕ → Type 0
+Outsides domains row r = r ≡ outsideTo domains row 32
+
+abbrev pub Filled : List ℕ → ℕ → Type 0
+Filled masks r = r ≡ filled masks 32

@@ -1,4 +1,5 @@
 -- Rules and splits, in the order of document 01. What only mirrors a loop of the code stands in Work.
+pub mod AtOnce
 pub mod Calls
 pub mod Checks
 pub mod Loops

@@ -16,7 +16,7 @@ use Rattle.problem.specs.Refusing.{Refusals, First-of}
 use Rattle.splits.specs.Refusals.{Accepted, refusals}
 use Rattle.splits.specs.Tests.Refusals.{refusalOf}
 use Rattle.splits.specs.declared.subproblem.Subproblem.{Subproblem}
-use Rattle.splits.specs.Calls.{Domain, Is-instantiated, All-instantiated, Is-empty, Instantiate, Without, Cut, Cut-each, Precluded, Candidates, Piece, Checks-of, Refusal-of}
+use Rattle.splits.specs.Calls.{Domain, Is-instantiated, All-instantiated, Is-empty, Instantiate, Without, Cut, Cut-each, Precluded, Candidates, Piece, Checks-of, Refusal-of, Few, Values, Loses, Outside, Outsides, Filled}
 use Rattle.problem.specs.Answers.{One}
 
 -- What stands in the places, made one by one, is the split's pieces in order, with empty subproblems in the places that name none.
@@ -133,3 +133,22 @@ Checks-one = (P : Subproblem) (n d : ℕ) (tables request : List ℕ) → One (C
 -- The refusal of a request, 0 for none.
 abbrev pub Refusal-one : Type 0
 Refusal-one = (P : Subproblem) (n d : ℕ) (request : List ℕ) → One (Refusal-of P n d request)
+
+-- What is asked of all domains at once.
+abbrev pub Count-one : Type 0
+Count-one = (domain : ℕ) → One (Few domain)
+
+abbrev pub Values-one : Type 0
+Values-one = (domains : List ℕ) → One (Values domains)
+
+abbrev pub Loses-one : Type 0
+Loses-one = (domains row : List ℕ) → One (Loses domains row)
+
+abbrev pub Outside-one : Type 0
+Outside-one = (domain mask : ℕ) → One (Outside domain mask)
+
+abbrev pub Outsides-one : Type 0
+Outsides-one = (domains row : List ℕ) → One (Outsides domains row)
+
+abbrev pub Filled-one : Type 0
+Filled-one = (masks : List ℕ) → One (Filled masks)

@@ -1,4 +1,5 @@
 // The splits: a subproblem, a request, and the five splits.
+pub mod at_once;
 pub mod checks;
 pub mod refusal;
 pub mod split;

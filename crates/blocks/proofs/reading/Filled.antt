@@ -36,21 +36,20 @@ pub from-join : (file : List ℕ) (a b : ℕ) → contentFrom file 0 (a + b) ≡
 unfolding contentFrom seq
 from-join file a b = seq-join (contentWord file) 0 a b ∙ ap (λ (x : ℕ). contentFrom file 0 a ++ contentFrom file x b) (zero-add a)
 
--- Past its blocks the words of a content are zeros.
-pub content-past : (file : List ℕ) (k : ℕ) → length file ≤ k / 253 * 512 → contentWord file k ≡ 0
+-- A word past the last byte is 0.
+past : (file : List ℕ) (k : ℕ) → length file ≤ 2 * (256 * (k / 253) + (2 + k % 253)) → contentWord file k ≡ 0
 unfolding contentWord blockWord wordAt
-content-past file k h =
-    let high : length file ≤ 2 * (256 * (k / 253) + (2 + k % 253)) = omega arith in
+past file k high =
     let low : length file ≤ 2 * (256 * (k / 253) + (2 + k % 253)) + 1 = omega arith in
     rw (List·getD-eq-default file 0 high, List·getD-eq-default file 0 low) refl
 
+-- Past its blocks the words of a content are zeros.
+pub content-past : (file : List ℕ) (k : ℕ) → length file ≤ k / 253 * 512 → contentWord file k ≡ 0
+content-past file k h = past file k (omega arith)
+
 -- So is a word whose number is not less than that of bytes.
 pub content-far : (file : List ℕ) (k : ℕ) → length file ≤ k → 0 ≡ contentWord file k
-unfolding contentWord blockWord wordAt
-content-far file k h =
-    let high : length file ≤ 2 * (256 * (k / 253) + (2 + k % 253)) = omega arith in
-    let low : length file ≤ 2 * (256 * (k / 253) + (2 + k % 253)) + 1 = omega arith in
-    rw (List·getD-eq-default file 0 high, List·getD-eq-default file 0 low) refl
+content-far file k h = sym (past file k (omega arith))
 
 module _ (file l : List ℕ) where
   -- No block is read yet.

@@ -22,19 +22,19 @@ use Rattle.files.specs.declared.saved.Loaded.{Loaded}
 use Rattle.files.proofs.Refusals.{save-none}
 use Rattle.files.proofs.Saving.{saved-few}
 use Rattle.bytes.specs.Bytes.{Whole, Fits, wordsOf, bytesOf}
-use Rattle.bytes.specs.Calls.{Lent, ThreeOf, Writes}
+use Rattle.bytes.specs.Calls.{Lent, WordsOf, ThreeOf, Writes}
 use Rattle.bytes.specs.declared.Three.{Three}
 use Rattle.console.specs.Calls.{WholeProblem, OpensWords, RunsWords, ChoosesWords, LoadsWords}
 use Rattle.console.specs.Loops.Rooms.{Room}
 use Rattle.console.specs.Loops.Fronts.{WritesBack, Shorter, FrontOf}
-use Rattle.console.specs.Loops.Parts.{Listed, Narrow}
+use Rattle.console.specs.Loops.Parts.{Listed, RunsAt, Narrow}
 use Rattle.bytes.proofs.Words.{words-length, bytes-length, word-at, words-small, words-append, bytes-append, bytes-again, middle-said, writes-front}
-use Rattle.bytes.proofs.Fitting.{Said, count-is, three-said}
+use Rattle.bytes.proofs.Fitting.{Said, count-is, three-said, words-said}
 use Rattle.console.proofs.parts.Runs.{choose-narrow, run-narrow, run-past, run-lower}
 use Rattle.console.proofs.parts.SoFar.{whole-words, requests-count}
 use Rattle.console.proofs.fronts.Reaching.{Zeros, runs-front}
 
--- Domains, agenda and tables turned into words, in the order in which the calls make them; and of a run, tables before the agenda.
+-- Domains, agenda and tables turned into words, in the order in which the calls make them.
 pub said-last : {domains tables agenda u u′ v v′ w w′ : List ℕ} {r : Three} {most : ℕ} → Room domains tables agenda most → 32 ≡ length u
     → most ≡ length v → 16384 ≡ length w → ThreeOf domains agenda tables u u′ v v′ w w′ r
     → Said domains (r .first) u′ × Said agenda (r .second) v′ × Said tables (r .third) w′
@@ -42,12 +42,11 @@ said-last {domains} {tables} {agenda} room a b c t =
     three-said (subst (Fits (length domains)) a (room .of-domains)) (subst (Fits (length agenda)) b (room .of-agenda))
     (subst (Fits (length tables)) c (room .of-tables)) t
 
-pub said-run : {domains tables agenda u u′ v v′ w w′ : List ℕ} {r : Three} {most : ℕ} → Room domains tables agenda most → 32 ≡ length u
-    → 16384 ≡ length v → most ≡ length w → ThreeOf domains tables agenda u u′ v v′ w w′ r
-    → Said domains (r .first) u′ × Said tables (r .second) v′ × Said agenda (r .third) w′
-said-run {domains} {tables} {agenda} room a b c t =
-    three-said (subst (Fits (length domains)) a (room .of-domains)) (subst (Fits (length tables)) b (room .of-tables))
-    (subst (Fits (length agenda)) c (room .of-agenda)) t
+-- Of one slice.
+pub said-one : {b u u′ : List ℕ} {k most : ℕ} → Fits (length b) most → most ≡ length u → WordsOf b u u′ k → Said b k u′
+said-one {b} {u} fits e h =
+    let room : length b ≤ 2 * length u = subst (λ (j : ℕ). length b ≤ 2 * j) e (fits .few) in
+    words-said (fits .even) room h
 
 -- Lists of one length that agree from k on.
 drop-same : (k : ℕ) (a b : List ℕ) → length a ≡ length b → ((i : ℕ) → k ≤ i → i < length a → getD a i 0 ≡ getD b i 0) → drop k a ≡ drop k b
@@ -96,27 +95,27 @@ module _ {n d i j k : ℕ} {domains tables agenda ds ts ws xs after : List ℕ} 
   chooses-words h = record { left = y; chooses = rw (← (e .said), ← (f .said), ← (g .said)) h; said = left-said y t kept agenda after (g .count) w said }
 
 -- A run that left y in the part of the words that was lent to it, of which what can have changed is written back.
-pub runs-words : {n d i j k : ℕ} {domains tables agenda ds ts ws xs requests after : List ℕ} {s : State} {r : Ran} (y : List ℕ)
-    → Said domains i ds → Said tables j ts → Said agenda k xs → Lent k ws xs → Whole agenda
+pub runs-at : {n d k : ℕ} {domains tables agenda ws xs requests after : List ℕ} {s : State} {r : Ran} (y : List ℕ) → Said agenda k xs → Lent k ws xs
+    → Whole agenda
     → length y ≡ length (take k xs) → ((i : ℕ) → getD agenda i 0 < 256) → s .counts .steps .0 < 2 ^ 32 → Listed n (length requests)
-    → Runs n d (take i ds) (take j ts) (take k xs) y (wordsOf requests) s r
+    → Runs n d domains tables (take k xs) y (wordsOf requests) s r
     → WritesBack n (s .subproblems) (r .taken) (r .state .subproblems) (take k (y ++ drop k xs)) agenda after
-    → RunsWords n d domains tables agenda after requests s r
-runs-words {n} {d} {domains = domains} {tables = tables} {agenda = agenda} {requests = requests} {after = after} {s = s} {r = r} y e f g t w kept small
-    stepped listed h written =
-    let runs : Runs n d (wordsOf domains) (wordsOf tables) (wordsOf agenda) y (wordsOf requests) s r = rw (← (e .said), ← (f .said), ← (g .said)) h in
+    → RunsAt n d domains tables agenda after requests s r
+runs-at {n} {d} {domains = domains} {tables = tables} {agenda = agenda} {requests = requests} {after = after} {s = s} {r = r} y g t w kept small stepped
+    listed h written =
+    let runs : Runs n d domains tables (wordsOf agenda) y (wordsOf requests) s r = rw (← (g .said)) h in
     let back : WritesBack n (s .subproblems) (r .taken) (r .state .subproblems) y agenda after = rw (left-again y t kept) at written in
     let long : length y ≡ length (wordsOf agenda) = kept ∙ ap length (g .said) in
     let whole = whole-words n requests (listed .requests, listed .whole) in
     let fits : s .counts .steps .0 ≤ 4294967295 = omega arith in
     let low : take (back .from) y ≡ take (back .from) (wordsOf agenda) =
     sym (take-take (back .from) _ y (back .lower)) ∙ ap (take (back .from))
-    (run-lower n d (wordsOf domains) (wordsOf tables) (wordsOf agenda) s (words-small agenda small) fits y (wordsOf requests) r whole runs)
+    (run-lower n d domains tables (wordsOf agenda) s (words-small agenda small) fits y (wordsOf requests) r whole runs)
     ∙ take-take (back .from) _ (wordsOf agenda) (back .lower) in
     let past : drop (back .to) y ≡ drop (back .to) (wordsOf agenda) =
     drop-same (back .to) y (wordsOf agenda) long
     (λ i l m. let (b, a) = back .front .past i l m in
-    run-past n d (wordsOf domains) (wordsOf tables) (wordsOf agenda) s (words-small agenda small) fits y (wordsOf requests) r whole runs i (omega arith) m b a) in
+    run-past n d domains tables (wordsOf agenda) s (words-small agenda small) fits y (wordsOf requests) r whole runs i (omega arith) m b a) in
     record { left = y; runs = runs; said = back .said ∙ middle-said (back .from) (back .to) agenda y w small (back .order) low past }
 
 -- A run of a list that was turned into words whole: what it returns fits 32 bits.
@@ -129,6 +128,11 @@ few-runs n d {k = k} domains tables {agenda} {xs} {requests} y s r t e small ste
     let runs : Runs n d domains tables (wordsOf agenda) y (wordsOf requests) s r = rw (← (t .said)) list in
     let whole = whole-words n requests (listed .requests, listed .whole) in
     (list, run-narrow n d domains tables (wordsOf agenda) s (words-small agenda small) (omega arith) y (wordsOf requests) r whole few runs)
+
+-- A run at the words that the bytes of the problem say.
+pub runs-words : {n d i j : ℕ} {domains tables agenda ds ts requests after : List ℕ} {s : State} {r : Ran} → Said domains i ds → Said tables j ts
+    → RunsAt n d (take i ds) (take j ts) agenda after requests s r × Narrow r → RunsWords n d domains tables agenda after requests s r × Narrow r
+runs-words e f (h, narrow) = (record { left = h .left; runs = rw (← (e .said), ← (f .said)) (h .runs); said = h .said }, narrow)
 
 -- Bytes that are zero say words that are.
 zeros-said : (b : List ℕ) → Zeros b → Zeros (wordsOf b)

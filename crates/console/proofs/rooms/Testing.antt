@@ -60,19 +60,11 @@ pub listed-even : (n bytes : ℕ) → Listed n bytes → bytes % 2 ≡ 0
 listed-even n bytes h = omega (arith, h .whole)
 
 -- What is few is short.
-pub few-short : {domains tables agenda : List ℕ} {requests most : ℕ} {b : Bool} → b ≡ few (length agenda) requests → b ≡ true
-    → Room domains tables agenda most → Room domains tables agenda 8704 × (requests ≤ 1120)
+pub few-short : {agenda requests most : ℕ} {b : Bool} → b ≡ few agenda requests → b ≡ true → Fits agenda most
+    → Fits agenda 8704 × (requests ≤ 1120)
 unfolding few
-few-short {agenda = agenda} {requests} is y h =
-    let both : (leb (length agenda) 17408 && leb requests 1120) ≡ true = sym is ∙ y in (
-      record {
-        of-domains = h .of-domains;
-        of-tables = h .of-tables;
-        of-agenda = record {
-          even = h .of-agenda .even;
-          some = h .of-agenda .some;
-          few = leb-true (length agenda) 17408 (and-left (leb (length agenda) 17408) (leb requests 1120) both);
-        };
-      },
-      leb-true requests 1120 (and-right (leb (length agenda) 17408) (leb requests 1120) both),
+few-short {agenda} {requests} is y h =
+    let both : (leb agenda 17408 && leb requests 1120) ≡ true = sym is ∙ y in (
+      record { even = h .even; some = h .some; few = leb-true agenda 17408 (and-left (leb agenda 17408) (leb requests 1120) both) },
+      leb-true requests 1120 (and-right (leb agenda 17408) (leb requests 1120) both),
     )

@@ -1,11 +1,15 @@
 -- A list of requests run a part at a time.
 use mathlib.Core.Path.{_≡_}
 use mathlib.Core.Bool.{Bool, _&&_}
+use mathlib.Core.List.{List}
 use Prim.Native.Nat.{ℕ, _+_, _-_, _*_, _≤_, _<_}
 use lib.Dec.{eqb}
 use Rattle.searches.specs.Verdicts.{numberOf}
+use Rattle.search.specs.Calls.{Runs}
+use Rattle.search.specs.declared.state.State.{State}
 use Rattle.search.specs.declared.state.Ran.{Ran}
 use Rattle.files.specs.declared.saved.Loaded.{Loaded}
+use Rattle.bytes.specs.Bytes.{wordsOf, bytesOf}
 
 -- None refused and still running.
 unfoldable pub goesOn : Ran → Bool
@@ -31,6 +35,12 @@ pub record Part (n at bytes end : ℕ) : Type 0 where
   pub whole : WholeAt n (end - at)
   pub place : WholeAt n end
   pub rest : WholeAt n (bytes - end)
+
+-- A run at words of the problem, and at the words that the bytes of agenda and requests say.
+pub record RunsAt (n d : ℕ) (domains tables before after requests : List ℕ) (s : State) (r : Ran) : Type 0 where
+  pub left : List ℕ
+  pub runs : Runs n d domains tables (wordsOf before) left (wordsOf requests) s r
+  pub said : after ≡ bytesOf left
 
 -- What fits numbers of 32 bits.
 pub record Narrow (r : Ran) : Type 0 where

@@ -20,7 +20,7 @@ use Rattle.search.specs.Agenda.{slotWords, slotsIn}
 use Rattle.search.specs.Loops.Slots.{SlotIn}
 use Rattle.search.specs.Loops.Steps.{Replaced}
 use Rattle.search.specs.Loops.Choices.{chosenFor}
-use Rattle.search.specs.Loops.Found.{AtTop, RoomFor, Puts, requestBy, leftBy, several}
+use Rattle.search.specs.Loops.Found.{AtTop, RoomFor, Puts, requestBy, leftBy, several, valueIn}
 use Rattle.search.specs.declared.chooser.Choice.{Choice}
 use Rattle.search.proofs.step.Gathering.{Gathered, gather-none, gather-slot, gather-keep, gather-replaced}
 use Rattle.search.proofs.chooser.Settling.{several-kept, left-is, left-few, kindBy, chosen-by, put-reads, put-precluded, put-kept, put-rest}
@@ -28,9 +28,9 @@ use Rattle.search.proofs.chooser.Settling.{several-kept, left-is, left-
 -- Kind 2's pieces, where several are left.
 module _ (n d : ℕ) (t : List ℕ) (P : Subproblem) (c : Choice) (below words : ℕ) (h : AtTop n d t P c below words) (s : several c ≡ true) where
   abbrev r : List ℕ
-  r = requestBy c 2
+  r = requestBy P c 2
 
-  pub two-pieces : pieces n (tableOf n d t) P r ≡ precluded n (tableOf n d t) P (c .variable) (c .value) ∷ without P (c .variable) (single (c .value)) ∷ []
+  pub two-pieces : pieces n (tableOf n d t) P r ≡ precluded n (tableOf n d t) P (c .variable) (valueIn P c) ∷ without P (c .variable) (single (valueIn P c)) ∷ []
   unfolding pieces filled named keep forwardChecking
   two-pieces = rw (put-kept n d t P c below words h s, put-rest n d t P c below words h s) refl
 
@@ -47,7 +47,7 @@ module _ (n d : ℕ) (t : List ℕ) (P : Subproblem) (c : Choice) (below words :
     start : Gathered n d t P r before below before below 2
     start = gather-none n d t P r (put-reads n d t P c below words h 2 (inl refl)) before below 2 (h .regular .shape .long) two-named
 
-    rest-is : Q ≡ without P (c .variable) (single (c .value))
+    rest-is : Q ≡ without P (c .variable) (single (valueIn P c))
     rest-is = q ∙ ap (without P (c .variable)) (h .found .row .own)
 
     rest-piece : Piece P n d t r (2 - 1) Q
@@ -99,7 +99,7 @@ module _ (n d : ℕ) (t : List ℕ) (P : Subproblem) (c : Choice) (below words :
   room-in k l = le-trans (mul-le-mul-right (n + 2) (omega (arith, top-slot))) (div-mul-le-self words (n + 2))
 
   -- For kind 3's pieces, and for kind 2's two.
-  pub room-three : length (pieces n (tableOf n d t) P (requestBy c 3)) ≤ slotsIn n words - below → RoomFor n d t P c 3 below words
+  pub room-three : length (pieces n (tableOf n d t) P (requestBy P c 3)) ≤ slotsIn n words - below → RoomFor n d t P c 3 below words
   room-three l = room-in _ l
 
   pub room-two : several c ≡ true → 2 ≤ slotsIn n words - below → RoomFor n d t P c 2 below words
@@ -115,8 +115,8 @@ module _ (n d : ℕ) (t : List ℕ) (P : Subproblem) (c : Choice) (below : ℕ) 
   some-free = omega (arith, top-slot n d t P c below (length before) h)
 
   -- The request by its kind.
-  by-kind : (k : ℕ) → kindBy n d t P (h .fitting) (h .regular) (h .runs) c (h .found) free ≡ k → chosenFor n d t P free ≡ requestBy c k
-  by-kind k e = chosen-by n d t P (h .fitting) (h .regular) (h .runs) c (h .found) free ∙ ap (requestBy c) e
+  by-kind : (k : ℕ) → kindBy n d t P (h .fitting) (h .regular) (h .runs) c (h .found) free ≡ k → chosenFor n d t P free ≡ requestBy P c k
+  by-kind k e = chosen-by n d t P (h .fitting) (h .regular) (h .runs) c (h .found) free ∙ ap (requestBy P c) e
 
   -- Pieces of it that are placed, or have no room.
   module _ (R : List ℕ) (its : chosenFor n d t P free ≡ R) where
@@ -140,37 +140,37 @@ module _ (n d : ℕ) (t : List ℕ) (P : Subproblem) (c : Choice) (below : ℕ) 
       → Puts n d t P below before after (record { refusal = 0; subproblems = count })
   unfolding kindBy
   puts-left s after count m =
-      placed-by (requestBy c (cond (c .lost) 2 3)) (by-kind (cond (c .lost) 2 3) (go (c .lost) refl)) after count
+      placed-by (requestBy P c (cond (c .lost) 2 3)) (by-kind (cond (c .lost) 2 3) (go (c .lost) refl)) after count
       (rw all (omega (arith, some-free, left-few P c))) (rw all m)
     where
-      all : pieces n (tableOf n d t) P (requestBy c (cond (c .lost) 2 3)) ≡ leftBy P c
+      all : pieces n (tableOf n d t) P (requestBy P c (cond (c .lost) 2 3)) ≡ leftBy P c
       all = left-is n d t P (h .fitting) (h .regular) (h .runs) c (h .found) s
 
       go : (b : Bool) → c .lost ≡ b → kindBy n d t P (h .fitting) (h .regular) (h .runs) c (h .found) free ≡ cond b 2 3
       go true e = rw e refl
       go false e =
-          let few : length (pieces n (tableOf n d t) P (requestBy c 3)) ≤ free = rw
-          (subst (λ (b : Bool). pieces n (tableOf n d t) P (requestBy c (cond b 2 3)) ≡ leftBy P c) e all) (omega (arith, some-free, left-few P c)) in
+          let few : length (pieces n (tableOf n d t) P (requestBy P c 3)) ≤ free = rw
+          (subst (λ (b : Bool). pieces n (tableOf n d t) P (requestBy P c (cond b 2 3)) ≡ leftBy P c) e all) (omega (arith, some-free, left-few P c)) in
           rw (e, le-ltb free _ few) refl
 
   -- Several.
   module _ (s : several c ≡ true) where
-    pub puts-three : length (pieces n (tableOf n d t) P (requestBy c 3)) ≤ free → (after : List ℕ) (count : ℕ)
-        → Replaced n (pieces n (tableOf n d t) P (requestBy c 3)) below before after count → Puts n d t P below before after (record { refusal = 0; subproblems = count })
+    pub puts-three : length (pieces n (tableOf n d t) P (requestBy P c 3)) ≤ free → (after : List ℕ) (count : ℕ)
+        → Replaced n (pieces n (tableOf n d t) P (requestBy P c 3)) below before after count → Puts n d t P below before after (record { refusal = 0; subproblems = count })
     unfolding kindBy
-    puts-three l after count m = placed-by (requestBy c 3) (by-kind 3 (rw (several-kept c s, le-ltb free _ l) refl)) after count l m
+    puts-three l after count m = placed-by (requestBy P c 3) (by-kind 3 (rw (several-kept c s, le-ltb free _ l) refl)) after count l m
 
-    module _ (l : free < length (pieces n (tableOf n d t) P (requestBy c 3))) where
+    module _ (l : free < length (pieces n (tableOf n d t) P (requestBy P c 3))) where
       kind-two : kindBy n d t P (h .fitting) (h .regular) (h .runs) c (h .found) free ≡ 2
       unfolding kindBy
       kind-two = rw (several-kept c s, lt-ltb free _ l) refl
 
-      two : length (pieces n (tableOf n d t) P (requestBy c 2)) ≡ 2
+      two : length (pieces n (tableOf n d t) P (requestBy P c 2)) ≡ 2
       two = ap length (two-pieces n d t P c below (length before) h s)
 
-      pub puts-two : 2 ≤ free → (after : List ℕ) (count : ℕ) → Replaced n (pieces n (tableOf n d t) P (requestBy c 2)) below before after count
+      pub puts-two : 2 ≤ free → (after : List ℕ) (count : ℕ) → Replaced n (pieces n (tableOf n d t) P (requestBy P c 2)) below before after count
           → Puts n d t P below before after (record { refusal = 0; subproblems = count })
-      puts-two k after count m = placed-by (requestBy c 2) (by-kind 2 kind-two) after count (rw two k) m
+      puts-two k after count m = placed-by (requestBy P c 2) (by-kind 2 kind-two) after count (rw two k) m
 
       pub puts-none : free < 2 → Puts n d t P below before before (record { refusal = 12; subproblems = 0 })
-      puts-none k = full-by (requestBy c 2) (by-kind 2 kind-two) (rw two k)
+      puts-none k = full-by (requestBy P c 2) (by-kind 2 kind-two) (rw two k)

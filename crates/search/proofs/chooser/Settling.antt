@@ -32,8 +32,9 @@ use Rattle.search.specs.Loops.Slots.{SlotIn}
 use Rattle.search.specs.Loops.Kept.{Regular}
 use Rattle.search.specs.Loops.Choices.{kindFor, chosenFor}
 use Rattle.search.specs.Loops.Steps.{Replaced, Taking, refusalFor}
-use Rattle.search.specs.Loops.Lanes.{Beyond, LeastKey, loses}
-use Rattle.search.specs.Loops.Found.{Found, AtTop, Puts, requestBy, leftBy, several, TakesChosen}
+use Rattle.search.specs.Loops.Lanes.{Beyond, LeastKey}
+use Rattle.splits.specs.AtOnce.{loses}
+use Rattle.search.specs.Loops.Found.{Found, AtTop, Puts, requestBy, leftBy, several, TakesChosen, valueIn}
 use Rattle.search.specs.declared.state.State.{State}
 use Rattle.search.specs.declared.chooser.Choice.{Choice}
 use Rattle.search.specs.declared.chooser.Left.{Left}
@@ -154,13 +155,14 @@ module _ (n d : ℕ) (t : List ℕ) (P : Subproblem) (fit : Sized n d t) (reg : 
 
     -- All of it is the rule's.
     pub found-is : (row : List ℕ) (b : Bool) → RowOf n (tableOf n d t) V′ v row → b ≡ loses (P .domains) row
-        → Found n d t P (record { variable = V′; value = v; values = k / 32; row = row; lost = b })
+        → Found n d t P (record { variable = V′; values = k / 32; row = row; lost = b })
     found-is row b r e = record {
       variable = is-fewest;
-      value = low ∙ ap lowest its;
       values = rw is-fewest (omega (arith, key-is, variable-below n P runs, fit .few));
-      row = r;
-      lost = e ∙ lost-is n d (tableOf n d t) P V′ v (fit .few) reg (its-variable V′ is-fewest) (its-value V′ v is-fewest (low ∙ ap lowest its)) row r;
+      row = subst (λ (u : ℕ). RowOf n (tableOf n d t) V′ u row) (low ∙ ap lowest its) r;
+      lost =
+          e ∙ lost-is n d (tableOf n d t) P V′ v (fit .few) reg (its-variable V′ is-fewest) (its-value V′ v is-fewest (low ∙ ap lowest its)) row r
+          ∙ ap (λ (u : ℕ). empty n (precluded n (tableOf n d t) P V′ u)) (low ∙ ap lowest its);
     }
 
   -- ---- what it tells
@@ -169,28 +171,28 @@ module _ (n d : ℕ) (t : List ℕ) (P : Subproblem) (fit : Sized n d t) (reg : 
     pub variable-is : c .variable < n
     variable-is = its-variable (c .variable) (h .variable)
 
-    pub value-is : c .value ∈ domain P (c .variable)
-    value-is = its-value (c .variable) (c .value) (h .variable) (h .value)
+    pub value-is : valueIn P c ∈ domain P (c .variable)
+    value-is = its-value (c .variable) (valueIn P c) (h .variable) refl
 
     -- The words of its request fit.
-    pub its-words : (k : ℕ) → (k ≡ 2) ⊎ (k ≡ 3) → readable n d t (request k (c .variable) (c .value)) ≡ true
+    pub its-words : (k : ℕ) → (k ≡ 2) ⊎ (k ≡ 3) → readable n d t (request k (c .variable) (valueIn P c)) ≡ true
     unfolding readable
     its-words k e =
-        let all : inside n d t (c .variable) (c .value) ≡ true =
-        inside-is n d t (c .variable) (c .value) (record {
+        let all : inside n d t (c .variable) (valueIn P c) ≡ true =
+        inside-is n d t (c .variable) (valueIn P c) (record {
           fit = fit;
           a-variable = variable-is;
-          a-value = rw (h .value) (value-below n d t P (c .variable) fit reg variable-is);
+          a-value = value-below n d t P (c .variable) fit reg variable-is;
         }) in
         ⊎-elim (λ (q : k ≡ 2). rw q all) (λ (q : k ≡ 3). rw q all) e
 
     -- The precluded piece.
-    pub precluded-is : precludedBy P (c .variable) (c .row) ≡ precluded n (tableOf n d t) P (c .variable) (c .value)
+    pub precluded-is : precludedBy P (c .variable) (c .row) ≡ precluded n (tableOf n d t) P (c .variable) (valueIn P c)
     precluded-is =
-        by-row n (tableOf n d t) P (c .variable) (c .value) (c .row) (fit .few) (reg .shape .long) (word n d P (fit .few) (fit .small) reg) variable-is (h .row)
+        by-row n (tableOf n d t) P (c .variable) (valueIn P c) (c .row) (fit .few) (reg .shape .long) (word n d P (fit .few) (fit .small) reg) variable-is (h .row)
 
     -- One piece at most.
-    pub left-is : several c ≡ false → pieces n (tableOf n d t) P (requestBy c (cond (c .lost) 2 3)) ≡ leftBy P c
+    pub left-is : several c ≡ false → pieces n (tableOf n d t) P (requestBy P c (cond (c .lost) 2 3)) ≡ leftBy P c
     unfolding several leftBy
     left-is s = go (c .lost) (sym (h .lost)) (eqb (c .values) 1) refl s
       where
@@ -200,20 +202,20 @@ module _ (n d : ℕ) (t : List ℕ) (P : Subproblem) (fit : Sized n d t) (reg : 
         one : eqb (c .values) 1 ≡ true → size (domain P (c .variable)) ≡ 1
         one e = sym (h .values) ∙ eqb-true (c .values) 1 e
 
-        go : (b : Bool) → empty n (precluded n (tableOf n d t) P (c .variable) (c .value)) ≡ b → (k : Bool) → eqb (c .values) 1 ≡ k
+        go : (b : Bool) → empty n (precluded n (tableOf n d t) P (c .variable) (valueIn P c)) ≡ b → (k : Bool) → eqb (c .values) 1 ≡ k
             → cond b false (cond k false true) ≡ false
-            → pieces n (tableOf n d t) P (request (cond b 2 3) (c .variable) (c .value))
+            → pieces n (tableOf n d t) P (request (cond b 2 3) (c .variable) (valueIn P c))
             ≡ cond b (cond k [] (without P (c .variable) (getD (c .row) (c .variable) 0) ∷ [])) (precludedBy P (c .variable) (c .row) ∷ [])
-        go true e true k s = two-none n d (tableOf n d t) P (c .variable) (c .value) (fit .few) reg variable-is value-is e (one k)
+        go true e true k s = two-none n d (tableOf n d t) P (c .variable) (valueIn P c) (fit .few) reg variable-is value-is e (one k)
         go true e false k s =
-            rw (h .row .own) (two-rest n d (tableOf n d t) P (c .variable) (c .value) (fit .few) reg variable-is value-is e (more k))
+            rw (h .row .own) (two-rest n d (tableOf n d t) P (c .variable) (valueIn P c) (fit .few) reg variable-is value-is e (more k))
         go false e true k s =
-            three-one n d (tableOf n d t) P (c .variable) (c .value) (fit .few) reg variable-is value-is e (one k)
+            three-one n d (tableOf n d t) P (c .variable) (valueIn P c) (fit .few) reg variable-is value-is e (one k)
             ∙ ap (λ (Q : Subproblem). Q ∷ []) (sym precluded-is)
         go false e false k s = absurd (true-false s)
 
     -- The checks, of kind 2 as of kind 3.
-    pub checks-by : (k : ℕ) → (k ≡ 2) ⊎ (k ≡ 3) → checks n (tableOf n d t) P (requestBy c k) ≡ valuesIn (others (c .variable)) n P
+    pub checks-by : (k : ℕ) → (k ≡ 2) ⊎ (k ≡ 3) → checks n (tableOf n d t) P (requestBy P c k) ≡ valuesIn (others (c .variable)) n P
     unfolding checks
     checks-by k e = ⊎-elim (λ (q : k ≡ 2). rw q refl) (λ (q : k ≡ 3). rw q refl) e
 
@@ -223,27 +225,27 @@ module _ (n d : ℕ) (t : List ℕ) (P : Subproblem) (fit : Sized n d t) (reg : 
         (omega (arith, sum, h .values), omega (arith, sum, h .values))
 
     -- Both are accepted.
-    pub accepted-by : (k : ℕ) → (k ≡ 2) ⊎ (k ≡ 3) → refusalOf n d P (requestBy c k) ≡ 0
+    pub accepted-by : (k : ℕ) → (k ≡ 2) ⊎ (k ≡ 3) → refusalOf n d P (requestBy P c k) ≡ 0
     accepted-by k e =
-        is-none n d P (requestBy c k) .1
-        (accepted n d P (requestBy c k) e variable-is (rw (h .variable) (fewest-is n P runs .uninstantiated))
-        (rw (h .value) (value-below n d t P (c .variable) fit reg variable-is)) value-is)
+        is-none n d P (requestBy P c k) .1
+        (accepted n d P (requestBy P c k) e variable-is (rw (h .variable) (fewest-is n P runs .uninstantiated))
+        (value-below n d t P (c .variable) fit reg variable-is) value-is)
 
     -- The one that the rule chooses: kind 2 where the precluded piece is empty or kind 3 has no room, else kind 3.
     unfoldable pub kindBy : ℕ → ℕ
-    kindBy free = cond (c .lost || ltb free (length (pieces n (tableOf n d t) P (requestBy c 3)))) 2 3
+    kindBy free = cond (c .lost || ltb free (length (pieces n (tableOf n d t) P (requestBy P c 3)))) 2 3
 
     pub kind-is : (free : ℕ) → (kindBy free ≡ 2) ⊎ (kindBy free ≡ 3)
     unfolding kindBy
-    kind-is free = go (c .lost || ltb free (length (pieces n (tableOf n d t) P (requestBy c 3))))
+    kind-is free = go (c .lost || ltb free (length (pieces n (tableOf n d t) P (requestBy P c 3))))
       where
         go : (b : Bool) → (_≡_ {A = ℕ} (cond b 2 3) 2) ⊎ (_≡_ {A = ℕ} (cond b 2 3) 3)
         go true = inl refl
         go false = inr refl
 
-    pub chosen-by : (free : ℕ) → chosenFor n d t P free ≡ requestBy c (kindBy free)
+    pub chosen-by : (free : ℕ) → chosenFor n d t P free ≡ requestBy P c (kindBy free)
     unfolding chosenFor kindFor kindBy
-    chosen-by free = rw (← h .variable, ← h .value, ← h .lost) refl
+    chosen-by free = rw (← h .variable, ← h .lost) refl
 
 -- ---- the step
 
@@ -278,7 +280,7 @@ module _ (n d : ℕ) (t agenda : List ℕ) (P : Subproblem) (s : State) (h : Tak
     abbrev kind : ℕ
     kind = kindBy n d t P (h .ready .fitting) taking-regular (h .runs) c f free
 
-    is-chosen : chosenFor n d t P free ≡ requestBy c kind
+    is-chosen : chosenFor n d t P free ≡ requestBy P c kind
     is-chosen = chosen-by n d t P (h .ready .fitting) taking-regular (h .runs) c f free
 
     its-kind : (kind ≡ 2) ⊎ (kind ≡ 3)
@@ -334,21 +336,21 @@ module _ (n d : ℕ) (t : List ℕ) (P : Subproblem) (c : Choice) (below words :
   pub put-variable : c .variable < n
   put-variable = variable-is n d t P (h .fitting) (h .regular) (h .runs) c (h .found)
 
-  pub put-member : c .value ∈ domain P (c .variable)
+  pub put-member : valueIn P c ∈ domain P (c .variable)
   put-member = value-is n d t P (h .fitting) (h .regular) (h .runs) c (h .found)
 
   -- The words of its request fit.
-  pub put-reads : (k : ℕ) → (k ≡ 2) ⊎ (k ≡ 3) → readable n d t (requestBy c k) ≡ true
+  pub put-reads : (k : ℕ) → (k ≡ 2) ⊎ (k ≡ 3) → readable n d t (requestBy P c k) ≡ true
   put-reads = its-words n d t P (h .fitting) (h .regular) (h .runs) c (h .found)
 
   -- The precluded piece is as the code makes it; where several are left it is not empty, nor is V without its value.
-  pub put-precluded : precludedBy P (c .variable) (c .row) ≡ precluded n (tableOf n d t) P (c .variable) (c .value)
+  pub put-precluded : precludedBy P (c .variable) (c .row) ≡ precluded n (tableOf n d t) P (c .variable) (valueIn P c)
   put-precluded = precluded-is n d t P (h .fitting) (h .regular) (h .runs) c (h .found)
 
-  pub put-kept : several c ≡ true → empty n (precluded n (tableOf n d t) P (c .variable) (c .value)) ≡ false
+  pub put-kept : several c ≡ true → empty n (precluded n (tableOf n d t) P (c .variable) (valueIn P c)) ≡ false
   put-kept s = sym (h .found .lost) ∙ several-kept c s
 
-  pub put-rest : several c ≡ true → empty n (without P (c .variable) (single (c .value))) ≡ false
+  pub put-rest : several c ≡ true → empty n (without P (c .variable) (single (valueIn P c))) ≡ false
   put-rest s =
-      rest-full n d (tableOf n d t) P (c .variable) (c .value) (h .fitting .few) (h .regular) put-variable put-member
+      rest-full n d (tableOf n d t) P (c .variable) (valueIn P c) (h .fitting .few) (h .regular) put-variable put-member
       (several-more n d t P c (h .found) s)

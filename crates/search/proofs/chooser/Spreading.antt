@@ -28,8 +28,10 @@ use Rattle.search.specs.Agenda.{slotWords}
 use Rattle.searches.specs.Chooser.{request}
 use Rattle.search.specs.Loops.Slots.{SlotIn}
 use Rattle.search.specs.Loops.Steps.{Replaced}
-use Rattle.search.specs.Loops.Lanes.{outsideTo, filled, BeforeTo}
-use Rattle.search.specs.Loops.Found.{AtTop, RoomFor, FurtherOf, FurtherPiece, several}
+use Rattle.splits.specs.AtOnce.{outsideTo}
+use Rattle.splits.specs.AtOnce.{filled}
+use Rattle.search.specs.Loops.Lanes.{BeforeTo}
+use Rattle.search.specs.Loops.Found.{AtTop, RoomFor, FurtherOf, FurtherPiece, several, valueIn}
 use Rattle.search.specs.declared.chooser.Choice.{Choice}
 use Rattle.search.specs.declared.chooser.Further.{Further}
 use Rattle.search.proofs.step.Candidates.{firsts, firsts-start, firsts-drop, firsts-keep, pieces-are}
@@ -45,17 +47,17 @@ piece-made f j masks R Q b e h = (masks, b, h ∙ ap (λ (X : Subproblem). witho
 
 module _ (n d : ℕ) (t : List ℕ) (P : Subproblem) (c : Choice) (below words : ℕ) (h : AtTop n d t P c below words) (s : several c ≡ true) where
   abbrev r : List ℕ
-  r = request 3 (c .variable) (c .value)
+  r = request 3 (c .variable) (valueIn P c)
 
   -- V without v; and the variables before j cut to what is allowed beside it.
   less : List ℕ
-  less = without P (c .variable) (single (c .value)) .domains
+  less = without P (c .variable) (single (valueIn P c)) .domains
 
   besides : ℕ → ℕ → ℕ
-  besides i m = cond (eqb i (c .variable)) m (common m (tableOf n d t (c .variable) i (c .value)))
+  besides i m = cond (eqb i (c .variable)) m (common m (tableOf n d t (c .variable) i (valueIn P c)))
 
   abbrev pub cutDown : ℕ → List ℕ
-  cutDown j = cutBeside (tableOf n d t) (without P (c .variable) (single (c .value))) (c .variable) (c .value) j .domains
+  cutDown j = cutBeside (tableOf n d t) (without P (c .variable) (single (valueIn P c))) (c .variable) (valueIn P c) j .domains
 
   cut-is : (j : ℕ) → cutDown j ≡ changed j besides less
   unfolding cutBeside besides less
@@ -72,7 +74,7 @@ module _ (n d : ℕ) (t : List ℕ) (P : Subproblem) (c : Choice) (below words :
   long = length-set (P .domains) (c .variable) _ ∙ h .regular .shape .long
 
   -- What it holds at V and elsewhere.
-  less-own : getD less (c .variable) 0 ≡ minus (domain P (c .variable)) (single (c .value))
+  less-own : getD less (c .variable) 0 ≡ minus (domain P (c .variable)) (single (valueIn P c))
   unfolding less without
   less-own = getD-set-same (P .domains) (c .variable) _ 0 (omega (arith, below-n, few, h .regular .shape .long))
 
@@ -86,19 +88,19 @@ module _ (n d : ℕ) (t : List ℕ) (P : Subproblem) (c : Choice) (below words :
   less-some : (i : ℕ) → i < n → getD less i 0 ≡ 0 → ⊥
   less-some i l z = elim (ℕ-discrete i (c .variable)) [
     | yes e ↦
-        some-left n d (tableOf n d t) P (c .variable) (c .value) few (h .regular) below-n (put-member n d t P c below words h)
+        some-left n d (tableOf n d t) P (c .variable) (valueIn P c) few (h .regular) below-n (put-member n d t P c below words h)
         (several-more n d t P c (h .found) s)
         (sym less-own ∙ rw e at z)
     | no k ↦ h .regular .filled i l (sym (less-other i k) ∙ z)
   ]
 
   -- What is allowed leaves something of each other variable.
-  cut-some : (i : ℕ) → i < n → (i ≡ c .variable → ⊥) → common (domain P i) (tableOf n d t (c .variable) i (c .value)) ≡ 0 → ⊥
+  cut-some : (i : ℕ) → i < n → (i ≡ c .variable → ⊥) → common (domain P i) (tableOf n d t (c .variable) i (valueIn P c)) ≡ 0 → ⊥
   cut-some i l k z =
       let none =
-      precluded-empty n (tableOf n d t) P (c .variable) (c .value) (h .regular .shape .long) below-n few ∙ sym (h .found .lost) ∙ several-kept c s in
-      let at = some-none (λ i. not (eqb i (c .variable)) && eqb (common (domain P i) (tableOf n d t (c .variable) i (c .value))) 0) n i l none in
-      true-false (rw (ne-eqb i (c .variable) k, eq-eqb (common (domain P i) (tableOf n d t (c .variable) i (c .value))) 0 z) at at)
+      precluded-empty n (tableOf n d t) P (c .variable) (valueIn P c) (h .regular .shape .long) below-n few ∙ sym (h .found .lost) ∙ several-kept c s in
+      let at = some-none (λ i. not (eqb i (c .variable)) && eqb (common (domain P i) (tableOf n d t (c .variable) i (valueIn P c))) 0) n i l none in
+      true-false (rw (ne-eqb i (c .variable) k, eq-eqb (common (domain P i) (tableOf n d t (c .variable) i (valueIn P c))) 0 z) at at)
 
   -- Kind 3's words and places.
   reads : readable n d t r ≡ true
@@ -123,7 +125,7 @@ module _ (n d : ℕ) (t : List ℕ) (P : Subproblem) (c : Choice) (below words :
 
   module _ (f : Further) (its : FurtherOf P c f) where
     -- V without v; the row, with all values for V.
-    rest-is : f .rest ≡ without P (c .variable) (single (c .value))
+    rest-is : f .rest ≡ without P (c .variable) (single (valueIn P c))
     rest-is = its .rest ∙ ap (without P (c .variable)) (h .found .row .own)
 
     rest-domains : f .rest .domains ≡ less
@@ -135,7 +137,7 @@ module _ (n d : ℕ) (t : List ℕ) (P : Subproblem) (c : Choice) (below words :
         ap (λ (l : List ℕ). getD l (c .variable) 0) (its .row) ∙ getD-set-same (c .row) (c .variable) 65535 0
         (omega (arith, below-n, few, h .found .row .long))
 
-    row-other : (i : ℕ) → i < n → (i ≡ c .variable → ⊥) → getD (f .row) i 0 ≡ tableOf n d t (c .variable) i (c .value)
+    row-other : (i : ℕ) → i < n → (i ≡ c .variable → ⊥) → getD (f .row) i 0 ≡ tableOf n d t (c .variable) i (valueIn P c)
     row-other i l k = ap (λ (l : List ℕ). getD l i 0) (its .row) ∙ getD-set-other (c .row) (c .variable) i 65535 0 k ∙ h .found .row .other i l k
 
     -- A domain is a word of 16 bits.
@@ -143,7 +145,7 @@ module _ (n d : ℕ) (t : List ℕ) (P : Subproblem) (c : Choice) (below words :
     less-word i = elim (ℕ-discrete i (c .variable)) [
       | yes e ↦
           rw (e, less-own)
-          (part-lt 16 _ _ (minus-part (domain P (c .variable)) (single (c .value))) (word n d P few (h .fitting .small) (h .regular) (c .variable)))
+          (part-lt 16 _ _ (minus-part (domain P (c .variable)) (single (valueIn P c))) (word n d P few (h .fitting .small) (h .regular) (c .variable)))
       | no k ↦ rw (less-other i k) (word n d P few (h .fitting .small) (h .regular) i)
     ]
 
@@ -158,7 +160,7 @@ module _ (n d : ℕ) (t : List ℕ) (P : Subproblem) (c : Choice) (below words :
     out-own : getD (f .out) (c .variable) 0 ≡ 0
     out-own = out-by (c .variable) (omega (arith, below-n, few)) ∙ rw row-own (all-minus 16 (getD less (c .variable) 0) (less-word (c .variable)))
 
-    out-other : (i : ℕ) → i < n → (i ≡ c .variable → ⊥) → getD (f .out) i 0 ≡ minus (getD less i 0) (tableOf n d t (c .variable) i (c .value))
+    out-other : (i : ℕ) → i < n → (i ≡ c .variable → ⊥) → getD (f .out) i 0 ≡ minus (getD less i 0) (tableOf n d t (c .variable) i (valueIn P c))
     out-other i l k = out-by i (omega (arith, few)) ∙ rw (row-other i l k) refl
 
     out-past : (i : ℕ) → n ≤ i → i < 32 → getD (f .out) i 0 ≡ 0
@@ -169,7 +171,7 @@ module _ (n d : ℕ) (t : List ℕ) (P : Subproblem) (c : Choice) (below words :
       abbrev rest : ℕ
       rest = getD (f .out) (j - 1) 0
 
-      other-rest : (j - 1 ≡ c .variable → ⊥) → rest ≡ minus (getD less (j - 1) 0) (tableOf n d t (c .variable) (j - 1) (c .value))
+      other-rest : (j - 1 ≡ c .variable → ⊥) → rest ≡ minus (getD less (j - 1) 0) (tableOf n d t (c .variable) (j - 1) (valueIn P c))
       other-rest k = out-other (j - 1) (omega arith) k
 
       -- V's own has nothing left.
@@ -181,20 +183,20 @@ module _ (n d : ℕ) (t : List ℕ) (P : Subproblem) (c : Choice) (below words :
       unfolding candidate inferred
       candidate-own e = rw (ne-eqb j 0 (λ z. omega arith), eq-eqb (j - 1) (c .variable) e) refl
 
-      candidate-other : (j - 1 ≡ c .variable → ⊥) → candidate n (tableOf n d t) P r j ≡ disjunct (tableOf n d t) P (c .variable) (c .value) (j - 1)
+      candidate-other : (j - 1 ≡ c .variable → ⊥) → candidate n (tableOf n d t) P r j ≡ disjunct (tableOf n d t) P (c .variable) (valueIn P c) (j - 1)
       unfolding candidate inferred
       candidate-other e = rw (ne-eqb j 0 (λ z. omega arith), ne-eqb (j - 1) (c .variable) e) refl
 
       -- What the further piece holds for its own variable, and for another.
-      here : domain (disjunct (tableOf n d t) P (c .variable) (c .value) (j - 1)) (j - 1)
-          ≡ minus (getD less (j - 1) 0) (tableOf n d t (c .variable) (j - 1) (c .value))
+      here : domain (disjunct (tableOf n d t) P (c .variable) (valueIn P c) (j - 1)) (j - 1)
+          ≡ minus (getD less (j - 1) 0) (tableOf n d t (c .variable) (j - 1) (valueIn P c))
       unfolding disjunct without
       here =
           getD-set-same (cutDown (j - 1)) (j - 1) _ 0 (rw (cut-is (j - 1), length-changed (j - 1) besides less) (omega (arith, long, few)))
-          ∙ ap (λ (m : ℕ). minus m (tableOf n d t (c .variable) (j - 1) (c .value))) (rw (cut-is (j - 1)) (changed-next (j - 1) besides less))
+          ∙ ap (λ (m : ℕ). minus m (tableOf n d t (c .variable) (j - 1) (valueIn P c))) (rw (cut-is (j - 1)) (changed-next (j - 1) besides less))
 
       elsewhere : (i : ℕ) → (i ≡ j - 1 → ⊥)
-          → domain (disjunct (tableOf n d t) P (c .variable) (c .value) (j - 1)) i ≡ getD (changed (j - 1) besides less) i 0
+          → domain (disjunct (tableOf n d t) P (c .variable) (valueIn P c) (j - 1)) i ≡ getD (changed (j - 1) besides less) i 0
       unfolding disjunct without
       elsewhere i k = getD-set-other (cutDown (j - 1)) (j - 1) i _ 0 k ∙ rw (cut-is (j - 1)) refl
 
@@ -204,7 +206,7 @@ module _ (n d : ℕ) (t : List ℕ) (P : Subproblem) (c : Choice) (below words :
         | yes e ↦ rw (candidate-own e) own-empty
         | no k ↦
             rw (candidate-other k)
-            (sym (empty-at n (disjunct (tableOf n d t) P (c .variable) (c .value) (j - 1)) (j - 1) (omega arith) (here ∙ sym (other-rest k) ∙ z)))
+            (sym (empty-at n (disjunct (tableOf n d t) P (c .variable) (valueIn P c) (j - 1)) (j - 1) (omega arith) (here ∙ sym (other-rest k) ∙ z)))
       ]
 
       -- It is not where something is.
@@ -212,14 +214,14 @@ module _ (n d : ℕ) (t : List ℕ) (P : Subproblem) (c : Choice) (below words :
       unfolding empty besides
       some-rest k =
           rw (candidate-other (rest-other k))
-          (some-all-not (λ i. eqb (domain (disjunct (tableOf n d t) P (c .variable) (c .value) (j - 1)) i) 0) n (λ i q. ne-eqb _ 0 (at i q)))
+          (some-all-not (λ i. eqb (domain (disjunct (tableOf n d t) P (c .variable) (valueIn P c) (j - 1)) i) 0) n (λ i q. ne-eqb _ 0 (at i q)))
         where
-          at : (i : ℕ) → i < n → domain (disjunct (tableOf n d t) P (c .variable) (c .value) (j - 1)) i ≡ 0 → ⊥
+          at : (i : ℕ) → i < n → domain (disjunct (tableOf n d t) P (c .variable) (valueIn P c) (j - 1)) i ≡ 0 → ⊥
           at i q z = elim (ℕ-discrete i (j - 1)) [
             | yes e ↦ k (other-rest (rest-other k) ∙ sym here ∙ rw e at z)
             | no w ↦ elim (decLt i (j - 1)) [
               | yes b ↦
-                  let m : cond (eqb i (c .variable)) (getD less i 0) (common (getD less i 0) (tableOf n d t (c .variable) i (c .value))) ≡ 0 =
+                  let m : cond (eqb i (c .variable)) (getD less i 0) (common (getD less i 0) (tableOf n d t (c .variable) i (valueIn P c))) ≡ 0 =
                   sym (changed-before (j - 1) besides less i b (omega (arith, long, few))) ∙ sym (elsewhere i w) ∙ z in
                   elim (ℕ-discrete i (c .variable)) [
                     | yes e ↦ less-some i q (rw (eq-eqb i (c .variable) e) at m)
@@ -247,7 +249,7 @@ module _ (n d : ℕ) (t : List ℕ) (P : Subproblem) (c : Choice) (below words :
             ]
           where
             cut-at : i < j - 1
-                → common (getD less i 0) (getD (f .row) i 0) ≡ cond (eqb i (c .variable)) (getD less i 0) (common (getD less i 0) (tableOf n d t (c .variable) i (c .value)))
+                → common (getD less i 0) (getD (f .row) i 0) ≡ cond (eqb i (c .variable)) (getD less i 0) (common (getD less i 0) (tableOf n d t (c .variable) i (valueIn P c)))
             cut-at u = elim (ℕ-discrete i (c .variable)) [
               | yes e ↦ rw (eq-eqb i (c .variable) e) (rw (e, row-own) (all-common 16 (getD less (c .variable) 0) (less-word (c .variable))))
               | no w ↦ rw (ne-eqb i (c .variable) w, row-other i (omega arith) w) refl
@@ -260,17 +262,17 @@ module _ (n d : ℕ) (t : List ℕ) (P : Subproblem) (c : Choice) (below words :
         all = ext-getD 0 _ _ (made-long ∙ sym (length-changed (j - 1) besides less ∙ long)) (λ i b. made-at i (omega (arith, made-long)))
 
         cut-same : cutEach (f .rest) masks
-            ≡ cutBeside (tableOf n d t) (without P (c .variable) (single (c .value))) (c .variable) (c .value) (j - 1)
+            ≡ cutBeside (tableOf n d t) (without P (c .variable) (single (valueIn P c))) (c .variable) (valueIn P c) (j - 1)
         unfolding cutEach cutBeside
         cut-same =
-            let marks : f .rest .marked ≡ without P (c .variable) (single (c .value)) .marked = ap (λ (R : Subproblem). R .marked) rest-is in
+            let marks : f .rest .marked ≡ without P (c .variable) (single (valueIn P c)) .marked = ap (λ (R : Subproblem). R .marked) rest-is in
             λ i. record { domains = (ap (changed 32 (λ i m. common m (getD masks i 0))) rest-domains ∙ all ∙ sym (cut-is (j - 1))) i; marked = marks i }
 
         pub made-is : Q ≡ candidate n (tableOf n d t) P r j
         unfolding disjunct
         made-is =
             q .2 ∙ ap (λ (R : Subproblem). without R (j - 1) (getD (f .row) (j - 1) 0)) cut-same
-            ∙ ap (without (cutBeside (tableOf n d t) (without P (c .variable) (single (c .value))) (c .variable) (c .value) (j - 1)) (j - 1))
+            ∙ ap (without (cutBeside (tableOf n d t) (without P (c .variable) (single (valueIn P c))) (c .variable) (valueIn P c) (j - 1)) (j - 1))
             (row-other (j - 1) (omega arith) (rest-other k))
             ∙ sym (candidate-other (rest-other k))
 

@@ -3,20 +3,20 @@
 use mathlib.Core.Path.{_≡_, refl, sym, ap, _∙_}
 use mathlib.Core.Bool.{Bool, true, false, not, cond, _&&_, and-false, and-true}
 use mathlib.Core.List.{List}
-use Prim.Native.Nat.{ℕ, zero, suc, _+_, _*_, _≤_, _<_}
+use Prim.Native.Nat.{ℕ, zero, suc, _+_, _*_, _%_, _≤_, _<_}
 use native.Mathlib.Omega.{arith}
 use native.Mathlib.Nat.{mul-le-mul-right, div-mul-le-self, le-trans}
 use native.Mathlib.Decide.{ℕ-discrete}
 use lib.ListN.{length}
 use lib.Dec.{eqb}
-use borrow.Author.Tests.{le-leb, lt-leb, ne-eqb, eqb-true, not-true, not-false}
+use borrow.Author.Tests.{le-leb, lt-leb, eq-eqb, ne-eqb, eqb-true, not-true, not-false}
 use Rattle.problem.specs.Problem.{Problem, problemOf}
 use Rattle.problem.specs.Lists.{every}
 use Rattle.splits.specs.declared.subproblem.Subproblem.{Subproblem}
 use Rattle.problem.proofs.Tests.{and-left, and-right}
 use Rattle.search.specs.Agenda.{stackOf, slotsIn, slotAt, subproblemOf}
 use Rattle.problem.specs.Tests.FirstChecks.{refusalOfNumbers, refusalOfProblem, problemSizes, problemRefusal, orElse}
-use Rattle.search.specs.Tests.FirstChecks.{wholeSlots, refusalOfLengths, obeys, allObey, zerosFrom, refusalOfSearch, sizesRefusal, openRefusal}
+use Rattle.search.specs.Tests.FirstChecks.{wholeSlots, refusalOfLengths, refusalOfRequests, obeys, allObey, zerosFrom, refusalOfSearch, sizesRefusal, openRefusal}
 use Rattle.problem.specs.Ranges.{Fitting}
 use Rattle.problem.proofs.first_checks.Parts.{and-turn, else-pass, given-if, else-first, else-rest, numbers-pass}
 
@@ -55,19 +55,19 @@ module _ (n d : ℕ) (domains tables agenda : List ℕ) (steps checks subproblem
   search-checks h = simp (lt-leb checks (496 * steps) h, and-false)
 
   -- An unused slot is not zero.
-  pub search-zeros : (b : Bool) → b ≡ zerosFrom (subproblems * (n + 2)) agenda → not b ≡ true
+  pub search-zeros : (bits : ℕ) → eqb bits 0 ≡ zerosFrom (subproblems * (n + 2)) agenda → (bits ≡ 0 → ⊥)
       → 6 ≡ refusalOfSearch (problemOf n d domains tables) agenda steps checks subproblems
   unfolding refusalOfSearch
-  search-zeros b e y = simp (sym e ∙ not-true b y, and-false)
+  search-zeros bits e f = simp (sym e ∙ ne-eqb bits 0 f, and-false)
 
   -- None of these; the rules decide.
-  pub search-last : (b r : Bool) → subproblems ≤ slotsIn n (length agenda) → checks ≤ 496 * steps
-      → b ≡ zerosFrom (subproblems * (n + 2)) agenda → not b ≡ false
+  pub search-last : (bits : ℕ) (r : Bool) → subproblems ≤ slotsIn n (length agenda) → checks ≤ 496 * steps
+      → eqb bits 0 ≡ zerosFrom (subproblems * (n + 2)) agenda → bits ≡ 0
       → r ≡ allObey (problemOf n d domains tables) (stackOf n agenda subproblems)
       → cond r 0 6 ≡ refusalOfSearch (problemOf n d domains tables) agenda steps checks subproblems
   unfolding refusalOfSearch
-  search-last b r h k e y s =
-      simp (le-leb subproblems (slotsIn n (length agenda)) h, le-leb checks (496 * steps) k, sym e ∙ not-false b y, and-true, sym s)
+  search-last bits r h k e z s =
+      simp (le-leb subproblems (slotsIn n (length agenda)) h, le-leb checks (496 * steps) k, sym e ∙ eq-eqb bits 0 z, and-true, sym s)
 
 -- ---- what passing 1, 2 and 3 leaves
 
@@ -100,6 +100,15 @@ sizes-first r n d domains tables agenda b e f =
       | yes z ↦ else-rest r (refusalOfNumbers n d) (orElse lengths b) z (else-first r lengths b (rw z at e) f)
       | no g ↦ else-first r (refusalOfNumbers n d) (orElse lengths b) (rw (ne-eqb (refusalOfNumbers n d) 0 g) at e) f
     ]
+
+-- the list of requests is whole requests, or is not
+pub whole-list : (n words : ℕ) → words % (n + 3) ≡ 0 → refusalOfRequests n words ≡ 0
+unfolding refusalOfRequests
+whole-list n words e = simp (eq-eqb (words % (n + 3)) 0 e)
+
+pub unwhole-list : (n words : ℕ) → (words % (n + 3) ≡ 0 → ⊥) → 3 ≡ refusalOfRequests n words
+unfolding refusalOfRequests
+unwhole-list n words f = simp (ne-eqb (words % (n + 3)) 0 f)
 
 -- the sizes of the problem's words, then those of the agenda
 else-both : (a : ℕ) (x w : Bool) → orElse (orElse a (cond x 0 3)) (cond w 0 3) ≡ orElse a (cond (x && w) 0 3)

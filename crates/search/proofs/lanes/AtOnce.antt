@@ -24,7 +24,8 @@ use Rattle.problem.proofs.mask.Masks.{bit-le, bit-or, bit-single-same, member-s
 use Rattle.problem.proofs.Changed.{changed-more, changed-next}
 use Rattle.searches.specs.Promises.{Fewest}
 use Rattle.search.specs.Loops.Kept.{Regular}
-use Rattle.search.specs.Loops.Lanes.{keyOf, LeastKey, lost, outsideTo}
+use Rattle.search.specs.Loops.Lanes.{keyOf, LeastKey}
+use Rattle.splits.specs.AtOnce.{outsideTo}
 
 -- ---- turns of the loops
 
@@ -60,47 +61,6 @@ module _ (l : List ℕ) (set i best x y r s : ℕ) (few : i < 16) (so-far : Leas
     some = ⊎-elim (λ (q : s ≡ best). ⊎-elim (λ (z : best ≡ 2047). inl (q ∙ z)) (λ w. inr (w .0, w .1, q ∙ w .2)) (so-far .some))
         (⊎-elim (λ (q : s ≡ x). inr (i, omega arith, q ∙ first)) (λ (q : s ≡ y). inr (i + 16, omega arith, q ∙ second))) one-of;
   }
-
--- A mask that is empty loses nothing; another does if nothing is left of it.
-module _ (m mask : ℕ) where
-  pub loss-empty : m ≡ 0 → _≡_ {A = ℕ} 0 (cond (lost m mask) 1 0)
-  unfolding lost
-  loss-empty e = rw (eq-eqb m 0 e) refl
-
-  pub loss-all : (m ≡ 0 → ⊥) → common m mask ≡ 0 → _≡_ {A = ℕ} 1 (cond (lost m mask) 1 0)
-  unfolding lost
-  loss-all h e = rw (ne-eqb m 0 h, eq-eqb (common m mask) 0 e) refl
-
-  pub loss-none : (m ≡ 0 → ⊥) → (common m mask ≡ 0 → ⊥) → _≡_ {A = ℕ} 0 (cond (lost m mask) 1 0)
-  unfolding lost
-  loss-none h e = rw (ne-eqb m 0 h, ne-eqb (common m mask) 0 e) refl
-
--- A number joined with 1.
-or-one : (x : ℕ) → bitOr x 1 ≡ 0 → ⊥
-or-one x = member-some (bitOr x 1) 0 (rw (bit-or, bit-single-same 0) (omega (arith, bit-le x 0)))
-
--- One test more, joined as 1 or 0.
-pub some-turn : (f : ℕ → Bool) (i x m : ℕ) → not (eqb x 0) ≡ some i f → m ≡ cond (f i) 1 0 → not (eqb (bitOr x m) 0) ≡ some (i + 1) f
-unfolding some
-some-turn f i x m e h = rw (add-one, ← e, h) (go (f i))
-  where
-    go : (b : Bool) → not (eqb (bitOr x (cond b 1 0)) 0) ≡ (not (eqb x 0) || b)
-    go true = rw (ne-eqb (bitOr x 1) 0 (or-one x)) (sym (or-true (not (eqb x 0))))
-      where
-        or-true : (a : Bool) → (a || true) ≡ true
-        or-true true = refl
-        or-true false = refl
-    go false = rw (or-zero-r x) (or-false (not (eqb x 0)))
-      where
-        or-false : (a : Bool) → a ≡ (a || false)
-        or-false true = refl
-        or-false false = refl
-
--- One mask more left outside.
-pub outside-more : (l row m : List ℕ) (i x : ℕ) → m ≡ outsideTo l row i → x ≡ minus (getD m i 0) (getD row i 0) → set m i x ≡ outsideTo l row (i + 1)
-unfolding outsideTo
-outside-more l row m i x e f =
-    rw (f, e, add-one, changed-next i (λ j m. minus m (getD row j 0)) l) (changed-more i (λ j m. minus m (getD row j 0)) l)
 
 -- ---- what they tell of a subproblem
 

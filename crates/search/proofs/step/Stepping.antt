@@ -20,7 +20,7 @@ use Rattle.splits.specs.Subproblems.{domain}
 use Rattle.splits.specs.Requests.{kindOf, variableOf, valueOf}
 use Rattle.splits.specs.Splits.{forbids, pieces}
 use Rattle.splits.specs.Checks.{others, tried, valuesIn, checks}
-use Rattle.splits.specs.Calls.{readable}
+use Rattle.splits.specs.Calls.{readable, Checks-of}
 use Rattle.splits.specs.declared.subproblem.Subproblem.{Subproblem}
 use Rattle.splits.proofs.split.ByKind.{kind-any}
 use Rattle.splits.proofs.checks.Looking.{keep-append}
@@ -171,6 +171,10 @@ module _ (n d : ℕ) (t agenda : List ℕ) (P : Subproblem) (r : List ℕ) (s : 
     -- Its words fit, and its checks can be added.
     pub take-reads : readable n d t r ≡ true
     take-reads = accepted-reads n d P r (told .accepted) t (h .ready .fitting)
+
+    -- The checks that the code counts.
+    pub take-made : (made : ℕ) → Checks-of P n d t r made → made ≡ checks n (tableOf n d t) P r
+    take-made made e = e ∙ rw take-reads refl
 
     -- The checks fit a u64.
     pub take-counts : s .counts .checks .0 + checks n (tableOf n d t) P r < 2 ^ 64

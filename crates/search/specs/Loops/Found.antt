@@ -18,20 +18,24 @@ use Rattle.search.specs.Loops.Slots.{SlotIn}
 use Rattle.search.specs.Loops.Kept.{Regular}
 use Rattle.search.specs.Loops.Choices.{chosenFor}
 use Rattle.search.specs.Loops.Steps.{TakesOne, Replaced}
-use Rattle.search.specs.Loops.Lanes.{outsideTo, BeforeTo}
+use Rattle.splits.specs.AtOnce.{outsideTo}
+use Rattle.search.specs.Loops.Lanes.{BeforeTo}
 use Rattle.search.specs.declared.state.State.{State}
 use Rattle.search.specs.declared.step.Stop.{Stop}
 use Rattle.search.specs.declared.chooser.Choice.{Choice}
 use Rattle.search.specs.declared.chooser.Further.{Further}
 use Rattle.search.specs.declared.chooser.Left.{Left}
 
--- The variable and the value by the rule, how many values the variable has, the row of the value, and whether the precluded piece is empty.
+-- The value that the choice goes with: the lowest of its variable.
+abbrev pub valueIn : Subproblem → Choice → ℕ
+valueIn P c = lowest (domain P (c .variable))
+
+-- The variable by the rule, how many values the variable has, the row of the value, and whether the precluded piece is empty.
 pub record Found (n d : ℕ) (tables : List ℕ) (P : Subproblem) (c : Choice) : Type 0 where
   pub variable : c .variable ≡ fewest n P
-  pub value : c .value ≡ lowest (domain P (c .variable))
   pub values : c .values ≡ size (domain P (c .variable))
-  pub row : RowOf n (tableOf n d tables) (c .variable) (c .value) (c .row)
-  pub lost : c .lost ≡ empty n (precluded n (tableOf n d tables) P (c .variable) (c .value))
+  pub row : RowOf n (tableOf n d tables) (c .variable) (valueIn P c) (c .row)
+  pub lost : c .lost ≡ empty n (precluded n (tableOf n d tables) P (c .variable) (valueIn P c))
 
 -- The piece that is left, or none: where the precluded piece is empty V without its value, else the precluded piece.
 unfoldable pub leftBy : Subproblem → Choice → List Subproblem
@@ -43,8 +47,8 @@ unfoldable pub several : Choice → Bool
 several c = cond (c .lost) false (cond (eqb (c .values) 1) false true)
 
 -- A request of a kind for the variable and the value.
-abbrev pub requestBy : Choice → ℕ → List ℕ
-requestBy c kind = request kind (c .variable) (c .value)
+abbrev pub requestBy : Subproblem → Choice → ℕ → List ℕ
+requestBy P c kind = request kind (c .variable) (valueIn P c)
 
 -- A top P that runs stands in a slot, with what is found of it.
 pub record AtTop (n d : ℕ) (tables : List ℕ) (P : Subproblem) (c : Choice) (below words : ℕ) : Type 0 where
@@ -56,7 +60,7 @@ pub record AtTop (n d : ℕ) (tables : List ℕ) (P : Subproblem) (c : Choice) (
 
 -- The slots from there on hold the pieces of a kind.
 abbrev pub RoomFor : ℕ → ℕ → List ℕ → Subproblem → Choice → ℕ → ℕ → ℕ → Type 0
-RoomFor n d tables P c kind below words = (below + length (pieces n (tableOf n d tables) P (requestBy c kind))) * (n + 2) ≤ words
+RoomFor n d tables P c kind below words = (below + length (pieces n (tableOf n d tables) P (requestBy P c kind))) * (n + 2) ≤ words
 
 -- What kind 3's further pieces are made of: V without its value, the row with all values for V, and what each domain has outside its mask of that.
 pub record FurtherOf (P : Subproblem) (c : Choice) (f : Further) : Type 0 where

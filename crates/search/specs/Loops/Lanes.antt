@@ -45,18 +45,6 @@ pub record LeastKey (masks : List ℕ) (set i r : ℕ) : Type 0 where
   pub high : (j : ℕ) → j < i → r ≤ keyOf (getD masks (j + 16) 0) set (j + 16)
   pub some : (r ≡ 2047) ⊎ ((j : ℕ) × (j < 32) × (r ≡ keyOf (getD masks j 0) set j))
 
--- A mask loses all its values if it is cut.
-unfoldable pub lost : ℕ → ℕ → Bool
-lost m mask = not (eqb m 0) && eqb (common m mask) 0
-
--- One of 32 masks does, each cut to its own.
-unfoldable pub loses : List ℕ → List ℕ → Bool
-loses masks row = some 32 (λ i. lost (getD masks i 0) (getD row i 0))
-
--- What is left of the first i masks outside their own of a row.
-unfoldable pub outsideTo : List ℕ → List ℕ → ℕ → List ℕ
-outsideTo masks row i = changed i (λ j m. minus m (getD row j 0)) masks
-
 -- Of 64 lanes the first 32 have no bits, those from there up to i all.
 pub record Sides (i : ℕ) (lanes : List ℕ) : Type 0 where
   pub long : length lanes ≡ 64
@@ -71,10 +59,6 @@ Widened mask lane r = (lane ≡ 0 → r ≡ mask) × (lane ≡ 65535 → (m : �
 pub record BeforeTo (row : List ℕ) (j i : ℕ) (masks : List ℕ) : Type 0 where
   pub long : length masks ≡ 32
   pub each : (k : ℕ) → k < i → (m : ℕ) → m < 65536 → common m (getD masks k 0) ≡ cond (ltb k j) (common m (getD row k 0)) m
-
--- How many of the first i masks have values.
-unfoldable pub filled : List ℕ → ℕ → ℕ
-filled masks i = total i (λ j. cond (eqb (getD masks j 0) 0) 0 1)
 
 -- A row kept for a variable: that of one of its values, or one that has nothing for the variable yet.
 abbrev pub RowOrNone : ℕ → ℕ → List ℕ → ℕ → List ℕ → Type 0

@@ -39,14 +39,14 @@ returns-2 c =
     runs-long (c .before .before .before .before .before .before .before .before .before .before .before .pre) (λ i. omega (arith, c .before .before .before .before .before .before .before .before .slice-known .given i)) (c .refused2 .ensures)
     (λ w. room-false _ _ _ _ _ (c .before .before .room-for .ensures) (c .before .if2 .taken) w (front-fits (c .before .before .before .front-of .ensures)))
 
-slice-relend-prefix-run-front : tie.Need-slice-relend-prefix-run-front
-slice-relend-prefix-run-front c = c .before .before .front-of .ensures .reach .inside
+slice-relend-prefix-run-words : tie.Need-slice-relend-prefix-run-words
+slice-relend-prefix-run-words c = c .before .before .front-of .ensures .reach .inside
 
-slice-aggregate-run-front : tie.Need-slice-aggregate-run-front
-slice-aggregate-run-front c = sym (length-take-le _ _ (c .before .before .before .front-of .ensures .reach .inside))
+slice-aggregate-run-words : tie.Need-slice-aggregate-run-words
+slice-aggregate-run-words c = sym (length-take-le _ _ (c .before .before .before .front-of .ensures .reach .inside))
 
-run-front-requires : tie.Need-run-front-requires
-run-front-requires c κs = (
+run-words-requires : tie.Need-run-words-requires
+run-words-requires c κs = (
   front-room (c .before .before .before .front-of .ensures) (room-then _ (c .before .before .room-for .ensures) (c .before .if2 .left)),
   (listed-then _ _ _ (c .before .before .before .before .before .before .whole-list .ensures) (c .before .before .before .before .before .if1 .left), c .before .before .before .before .before .before .before .before .before .before .before .pre),
 )
@@ -62,8 +62,8 @@ returns-3 c =
     let listed = listed-then _ _ _ (test .before .before .before .before .before .whole-list .ensures) (test .before .before .before .before .if1 .left) in
     let fits = room-then _ (test .before .room-for .ensures) (test .if2 .left) in (
       runs-turned (front-whole-problem front fits) (listed-even _ _ listed)
-          (front-runs front listed (ran .run-front .kept .1 .1 .1 .1 .0) (ran .run-front .ensures .0)),
-      ran .run-front .ensures .1,
+          (front-runs front listed (ran .run-words .kept .1 .1 .1 .1 .0) (ran .run-words .ensures .0)),
+      ran .run-words .ensures .1,
     )
 
 pub run-spec : {M : Type 1} → statement M
@@ -78,8 +78,8 @@ run-spec =
     refused-requires-2
     same-length
     returns-2
-    slice-relend-prefix-run-front
-    slice-aggregate-run-front
-    run-front-requires
+    slice-relend-prefix-run-words
+    slice-aggregate-run-words
+    run-words-requires
     same-length-2
     returns-3)

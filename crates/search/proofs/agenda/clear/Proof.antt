@@ -18,11 +18,11 @@ abbrev μ-loop : tie.MeasureT-loop
 loop-holds : tie.Need-loop-holds Inv-loop μ-loop
 loop-holds c = (omega arith, (refl, refl))
 
-mul-agenda : tie.Need-mul-agenda Inv-loop μ-loop
-mul-agenda c = omega arith
+mul-memory : tie.Need-mul-memory Inv-loop μ-loop
+mul-memory c = omega arith
 
-slice-write-agenda : tie.Need-slice-write-agenda Inv-loop μ-loop
-slice-write-agenda c = omega arith
+slice-write-memory : tie.Need-slice-write-memory Inv-loop μ-loop
+slice-write-memory c = omega arith
 
 add-k : tie.Need-add-k Inv-loop μ-loop
 add-k c = omega arith
@@ -38,7 +38,7 @@ same-length c = omega arith
 
 returns : tie.Need-returns Inv-loop μ-loop
 returns c =
-    let end : c .before .loop .k ≡ length (c .before .before .args .agenda .now) = omega arith in
+    let end : c .before .loop .k ≡ length (c .before .before .args .memory .now) = omega arith in
     zeros-end _ _ _ (c .before .loop .inv .1 .1) end
 
 pub clear-spec : {M : Type 1} → statement M
@@ -48,8 +48,8 @@ clear-spec =
     Inv-loop
     μ-loop
     loop-holds
-    mul-agenda
-    slice-write-agenda
+    mul-memory
+    slice-write-memory
     add-k
     loop-less
     loop-again

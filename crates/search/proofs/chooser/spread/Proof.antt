@@ -10,12 +10,13 @@ use Rattle.search.proofs.step.Gathering.{Gathered}
 use Rattle.search.proofs.chooser.Settling.{put-variable}
 use Rattle.search.proofs.chooser.Spreading.{spread-drop, spread-slot, spread-keep, spread-none, spread-last, spread-end}
 use borrow.Author.Needs.{needs}
+use Rattle.search.specs.Loops.Found.{valueIn}
 use Rattle.search.proofs.chooser.spread.Statement.{statement}
 use Rattle.search.proofs.chooser.spread.Tie as tie
 
 abbrev Inv-loop : tie.InvT-loop
 Inv-loop top n d tables agenda₀ choice further below out sides at₀ j₀ agenda at j =
-    (j ≤ n) × Gathered n d tables top (request 3 (choice .variable) (choice .value)) agenda₀ below agenda at (j + 1)
+    (j ≤ n) × Gathered n d tables top (request 3 (choice .variable) (valueIn top choice)) agenda₀ below agenda at (j + 1)
 
 abbrev μ-loop : tie.MeasureT-loop
 μ-loop top n d tables agenda₀ choice further below out sides at₀ j₀ agenda at j = j

@@ -1,8 +1,10 @@
 -- `search::step::take` meets its contract.
 -- Assumes nothing.
+use mathlib.Core.Path.{refl}
+use native.Mathlib.Omega.{arith}
 use borrow.Author.Needs.{needs}
 use Rattle.problem.proofs.Copies.{splice-twice}
-use Rattle.search.proofs.step.Stepping.{below-slots, take-refused, take-reads, take-counts, take-steps, take-room, take-slot, take-taken}
+use Rattle.search.proofs.step.Stepping.{below-slots, take-refused, take-reads, take-made, take-counts, take-steps, take-room, take-slot, take-taken}
 use Rattle.search.proofs.step.take.Statement.{statement}
 use Rattle.search.proofs.step.take.Tie as tie
 
@@ -32,62 +34,61 @@ returns c =
     (take-refused _ _ _ _ _ _ _ (c .before .before .before .before .before .before .before .pre .0) _ (c .before .before .refusal-of .ensures)
     (c .before .if1 .taken))
 
-with-checks-requires : tie.Need-with-checks-requires
-with-checks-requires c κs =
-    let a = c .before .before .before .before .before .before .args in (
-      take-reads _ _ _ (a .agenda .now) (a .top) _ (a .state) (c .before .before .before .before .before .before .pre .0) _
-          (c .before .refusal-of .ensures) (c .if1 .left),
-      take-counts _ _ _ (a .agenda .now) (a .top) _ (a .state) (c .before .before .before .before .before .before .pre .0) _
-          (c .before .refusal-of .ensures) (c .if1 .left),
-    )
+checks-requires : tie.Need-checks-requires
+checks-requires c κs = search needs
+
+add-checks : tie.Need-add-checks
+add-checks c =
+    let a = c .before .before .before .before .before .before .before .before .args in
+    let told = take-made _ _ _ (a .agenda .now) (a .top) _ (a .state) (c .before .before .before .before .before .before .before .before .pre .0) _
+    (c .before .before .before .refusal-of .ensures) (c .before .before .if1 .left) _ (c .before .checks .ensures) in
+    let few = take-counts _ _ _ (a .agenda .now) (a .top) _ (a .state) (c .before .before .before .before .before .before .before .before .pre .0) _
+    (c .before .before .before .refusal-of .ensures) (c .before .before .if1 .left) in
+    record { fits = omega arith }
 
 clear-slot-requires : tie.Need-clear-slot-requires
 clear-slot-requires c κs =
-    let a = c .before .before .before .before .before .before .before .before .args in
+    let a = c .before .before .before .before .before .before .before .before .before .args in
     record {
-      few = c .before .before .before .before .before .before .before .before .pre .0 .ready .fitting .few;
-      within = take-slot _ _ _ (a .agenda .now) (a .top) _ (a .state) (c .before .before .before .before .before .before .before .before .pre .0) _
-          (c .before .before .before .refusal-of .ensures) (c .before .before .if1 .left);
+      few = c .before .before .before .before .before .before .before .before .before .pre .0 .ready .fitting .few;
+      within = take-slot _ _ _ (a .agenda .now) (a .top) _ (a .state) (c .before .before .before .before .before .before .before .before .before .pre .0) _
+    (c .before .before .before .before .refusal-of .ensures) (c .before .before .before .if1 .left);
     }
 
 place-requires : tie.Need-place-requires
 place-requires c κs =
-    let a = c .before .before .before .before .before .before .before .before .before .before .before .before .args in
-    let room = take-room _ _ _ (a .agenda .now) (a .top) _ (a .state)
-    (c .before .before .before .before .before .before .before .before .before .before .before .before .pre .0) _
-    (c .before .before .before .before .before .before .before .refusal-of .ensures) (c .before .before .before .before .before .before .if1 .left) in
+    let a = c .before .before .before .before .before .before .before .before .before .before .before .before .before .args in
+    let room = take-room _ _ _ (a .agenda .now) (a .top) _ (a .state) (c .before .before .before .before .before .before .before .before .before .before .before .before .before .pre .0) _
+    (c .before .before .before .before .before .before .before .before .refusal-of .ensures) (c .before .before .before .before .before .before .before .if1 .left) in
     record {
-      reads = take-reads _ _ _ (a .agenda .now) (a .top) _ (a .state)
-          (c .before .before .before .before .before .before .before .before .before .before .before .before .pre .0) _
-          (c .before .before .before .before .before .before .before .refusal-of .ensures) (c .before .before .before .before .before .before .if1 .left);
-      whole = c .before .before .before .before .before .before .before .before .before .before .before .before .pre .1;
+      reads = take-reads _ _ _ (a .agenda .now) (a .top) _ (a .state) (c .before .before .before .before .before .before .before .before .before .before .before .before .before .pre .0) _
+    (c .before .before .before .before .before .before .before .before .refusal-of .ensures) (c .before .before .before .before .before .before .before .if1 .left);
+      whole = c .before .before .before .before .before .before .before .before .before .before .before .before .before .pre .1;
       room = search needs;
     }
 
 taken-requires : tie.Need-taken-requires
 taken-requires c κs =
-    let a = c .before .before .before .before .before .before .before .before .before .before .before .before .before .before .before .args in
-    take-steps _ _ _ (a .agenda .now) (a .top) _ (a .state)
-    (c .before .before .before .before .before .before .before .before .before .before .before .before .before .before .before .pre .0) _
-    (c .before .before .before .before .before .before .before .before .before .before .refusal-of .ensures)
-    (c .before .before .before .before .before .before .before .before .before .if1 .left)
+    let a = c .before .before .before .before .before .before .before .before .before .before .before .before .before .before .before .before .args in
+    take-steps _ _ _ (a .agenda .now) (a .top) _ (a .state) (c .before .before .before .before .before .before .before .before .before .before .before .before .before .before .before .before .pre .0) _
+    (c .before .before .before .before .before .before .before .before .before .before .before .refusal-of .ensures) (c .before .before .before .before .before .before .before .before .before .before .if1 .left)
 
 same-length : tie.Need-same-length
 same-length c = search needs
 
 returns-2 : tie.Need-returns-2
 returns-2 c =
+    let a = c .before .before .before .before .before .before .before .before .before .before .before .before .before .before .before .before .before .args in
+    let made = take-made _ _ _ (a .agenda .now) (a .top) _ (a .state) (c .before .before .before .before .before .before .before .before .before .before .before .before .before .before .before .before .before .pre .0) _
+    (c .before .before .before .before .before .before .before .before .before .before .before .before .refusal-of .ensures) (c .before .before .before .before .before .before .before .before .before .before .before .if1 .left) _ (c .before .before .before .before .before .before .before .before .before .before .checks .ensures) in
     rw (c .taken .ensures)
-    (take-taken _ _ _ _ _ _ _
-    (c .before .before .before .before .before .before .before .before .before .before .before .before .before .before .before .before .pre .0) _
-    (c .before .before .before .before .before .before .before .before .before .before .before .refusal-of .ensures)
-    (c .before .before .before .before .before .before .before .before .before .before .if1 .left) _ _ _
+    (take-taken _ _ _ _ _ _ _ (c .before .before .before .before .before .before .before .before .before .before .before .before .before .before .before .before .before .pre .0) _
+    (c .before .before .before .before .before .before .before .before .before .before .before .before .refusal-of .ensures) (c .before .before .before .before .before .before .before .before .before .before .before .if1 .left) _ _ _
     (record {
       count = c .before .before .before .place .ensures .count;
-      words = splice-twice _ _ _ _ _ _ (c .before .before .before .place .ensures .words)
-          (c .before .before .before .before .before .before .before .clear-slot .ensures);
+      words = splice-twice _ _ _ _ _ _ (c .before .before .before .place .ensures .words) (c .before .before .before .before .before .before .before .clear-slot .ensures);
     })
-    (c .before .before .before .before .before .before .before .before .before .with-checks .ensures))
+    (rw made refl))
 
 pub take-spec : {M : Type 1} → statement M
 take-spec =
@@ -100,7 +101,8 @@ take-spec =
     refusal-of-requires
     stopped-requires
     returns
-    with-checks-requires
+    checks-requires
+    add-checks
     clear-slot-requires
     place-requires
     taken-requires
