@@ -8,7 +8,7 @@ use lib.Dec.{eqb}
 use Rattle.problem.specs.Masks.{bit, single, common, minus, lowest, smallerHalf}
 use Rattle.problem.specs.Problem.{Table}
 use Rattle.splits.specs.Subproblems.{domain, empty}
-use Rattle.problem.specs.Lists.{some, keep, below, changed}
+use Rattle.problem.specs.Lists.{some, changed, keep, below}
 use Rattle.splits.specs.Requests.{kindOf, variableOf, valueOf, targetOf}
 use Rattle.splits.specs.declared.subproblem.Subproblem.{Subproblem}
 

@@ -18,7 +18,7 @@ use Rattle.search.specs.Agenda.{stackOf, slotsIn, slotAt, subproblemOf}
 use Rattle.problem.specs.Tests.FirstChecks.{refusalOfNumbers, refusalOfProblem, orElse}
 use Rattle.search.specs.Tests.FirstChecks.{wholeSlots, refusalOfLengths, obeys, allObey, zerosFrom, refusalOfSearch, sizesRefusal, openRefusal}
 use Rattle.problem.specs.Ranges.{Fitting}
-use Rattle.problem.proofs.first_checks.Parts.{else-rest, and-turn, numbers-pass, given-if, else-pass, else-first}
+use Rattle.problem.proofs.first_checks.Parts.{else-first, and-turn, numbers-pass, given-if, else-rest, else-pass}
 
 -- ---- symmetry
 

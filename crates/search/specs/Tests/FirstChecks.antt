@@ -10,7 +10,7 @@ use Rattle.splits.specs.Subproblems.{domain}
 use Rattle.problem.specs.Lists.{every}
 use Rattle.splits.specs.declared.subproblem.Subproblem.{Subproblem}
 use Rattle.search.specs.Agenda.{stackOf, slotsIn}
-use Rattle.problem.specs.Tests.FirstChecks.{refusalOfProblem, refusalOfNumbers, orElse}
+use Rattle.problem.specs.Tests.FirstChecks.{refusalOfProblem, orElse, refusalOfNumbers}
 
 -- 3, of the numbers of words lent as domains, tables and agenda.
 unfoldable pub wholeSlots : ℕ → ℕ → Bool
