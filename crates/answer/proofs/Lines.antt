@@ -16,8 +16,7 @@ use Rattle.search.specs.Agenda.{holding, subproblemOf, slotAt, stackOf}
 use Rattle.searches.specs.Verdicts.{numberOf, verdictOf}
 use Rattle.searches.specs.declared.verdict.Verdict.{Verdict}
 use Rattle.blocks.specs.Lists.{each}
-use Rattle.blocks.proofs.Lists.{each-more, each-none}
-use Rattle.blocks.proofs.Lists.{each-same}
+use Rattle.blocks.proofs.Lists.{each-more, each-none, each-same}
 use Rattle.answer.specs.Text.{planLine, planOf, planLines}
 use Rattle.answer.specs.Work.Writing.{valueLines}
 

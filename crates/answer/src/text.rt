@@ -1,9 +1,9 @@
 // The text of an answer, written from the front.
-use searches::verdict::Verdict;
 use problem::mask;
+use searches::verdict::Verdict;
 ghost use mathlib.Core.Path.{_≡_};
 ghost use mathlib.Core.List.{[], _∷_};
-ghost use Prim.Native.Nat.{_+_, _-_, _<_, _≤_};
+ghost use Prim.Native.Nat.{_+_, _<_, _≤_};
 ghost use lib.ListN.{length};
 ghost use Rattle.problem.specs.Masks.{lowest};
 ghost use Rattle.answer.specs.Text.{decimal, verdictLine, countsLine, planLine, refusedLine};

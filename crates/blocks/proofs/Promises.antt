@@ -1,6 +1,6 @@
 -- The promises of blocks, proved.
 -- Assumes nothing.
-use mathlib.Core.Path.{_≡_, refl, sym, _∙_}
+use mathlib.Core.Path.{refl, sym, _∙_}
 use native.Mathlib.Omega.{arith}
 use Rattle.problem.proofs.Answers.{one}
 use Rattle.blocks.specs.Blocks.{carried, onesSum, checkOf, fileOf}

@@ -1,7 +1,7 @@
 -- What blocks promise. Stated here, proved in proofs/Promises.antt.
 use mathlib.Core.Path.{_≡_}
 use mathlib.Core.Logic.{_↔_}
-use mathlib.Core.List.{List, [], _∷_, _++_}
+use mathlib.Core.List.{List, [], _∷_}
 use Prim.Native.Nat.{ℕ, _+_, _*_, _/_, _%_, _≤_, _<_}
 use lib.ListN.{length, getD}
 use Rattle.problem.specs.Lists.{sum}

@@ -8,7 +8,7 @@ ghost use mathlib.Core.Path.{_≡_};
 ghost use Prim.Native.Nat.{_+_, _*_, _/_, _≤_, _<_};
 ghost use lib.ListN.{length};
 ghost use Rattle.problem.specs.Lists.{every};
-ghost use Rattle.blocks.specs.Reading.{contentWord, contentFrom};
+ghost use Rattle.blocks.specs.Reading.{contentWord};
 ghost use Rattle.blocks.specs.Tests.Whole.{goodBlock};
 ghost use Rattle.blocks.specs.Calls.{Refusal-of-file, Put-content};
 ghost use Rattle.blocks.specs.Loops.Read.{goodIn, contentPart};

@@ -173,13 +173,12 @@ fn sizes() {
     opens(b"d 0", 1, 0, &domains[..1], &tables[..0], 3);
 }
 
-// Kind 2 on the ring, opened in an agenda.
-fn ring_run(text: &[u8], agenda: &mut [u16]) {
+// Requests on the ring, opened in an agenda.
+fn ring_run(text: &[u8], agenda: &mut [u16], requests: &[u16]) {
     let opened = search::open(4, 3, &SEVENS, &RING, agenda);
-    let request = [2u16, 0, 0, 0, 0, 0, 0];
     ran_line(
         text,
-        search::run(4, 3, &SEVENS, &RING, agenda, &request, opened.state),
+        search::run(4, 3, &SEVENS, &RING, agenda, requests, opened.state),
     );
 }
 
@@ -195,12 +194,71 @@ fn ring_choice(text: &[u8], agenda: &mut [u16]) {
 // The ring in a single slot, in which kind 2 finds no room, and in two.
 fn ring() {
     let mut one = [0u16; 6];
-    ring_run(b"ring, one slot, kind 2", &mut one);
+    ring_run(b"ring, one slot, kind 2", &mut one, &[2, 0, 0, 0, 0, 0, 0]);
     ring_choice(b"ring, one slot, chooser", &mut one);
     let mut two = [0u16; 12];
-    ring_run(b"ring, two slots, kind 2", &mut two);
+    ring_run(b"ring, two slots, kind 2", &mut two, &[2, 0, 0, 0, 0, 0, 0]);
     let mut many = [0u16; 3072];
     ring_choice(b"ring, chooser", &mut many);
+    looked_at(&mut many);
+}
+
+// Kind 1 on 1 with 0 and 2 instantiated to 0: it looks at 0 alone where that forbids, at both where neither does.
+fn looked_at(agenda: &mut [u16]) {
+    ring_run(
+        b"ring, kind 1, the first of two forbids",
+        agenda,
+        &[
+            1,
+            0,
+            0,
+            0,
+            0,
+            0,
+            0,
+            1,
+            2,
+            0,
+            0,
+            0,
+            0,
+            0,
+            1,
+            1,
+            0,
+            0,
+            0,
+            0,
+            0,
+        ],
+    );
+    ring_run(
+        b"ring, kind 1, neither of two forbids",
+        agenda,
+        &[
+            1,
+            0,
+            0,
+            0,
+            0,
+            0,
+            0,
+            1,
+            2,
+            0,
+            0,
+            0,
+            0,
+            0,
+            1,
+            1,
+            1,
+            0,
+            0,
+            0,
+            0,
+        ],
+    );
 }
 
 // Refusals of opening.

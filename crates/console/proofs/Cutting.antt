@@ -2,7 +2,7 @@
 -- Assumes nothing.
 use mathlib.Core.Path.{_≡_, sym, ap, ap₂, subst, _∙_}
 use mathlib.Core.List.{List, _++_}
-use Prim.Native.Nat.{ℕ, _+_, _-_, _*_, _/_, _%_, _≤_, _<_}
+use Prim.Native.Nat.{ℕ, _+_, _-_, _*_, _≤_}
 use native.Mathlib.Omega.{arith}
 use native.Mathlib.Nat.{mul-le-mul-right, add-mul, lt-of-not-le}
 use native.Mathlib.Decide.{decLt}
@@ -20,7 +20,7 @@ use Rattle.files.proofs.Promises.{cut-any, cut-choose as cut-choose-any}
 use Rattle.bytes.specs.Bytes.{Whole, wordsOf, bytesOf}
 use Rattle.bytes.proofs.Words.{words-length, words-append, words-past, words-again, said-whole}
 use Rattle.console.specs.Calls.{WholeProblem}
-use Rattle.console.specs.Searches.{Held, Outcome, Way, by-requests, by-chooser}
+use Rattle.console.specs.Searches.{Held, Way, by-requests, by-chooser}
 use Rattle.console.specs.Promises.{Cut, Ends-as-uncut, Cut-run, Cut-chooser}
 use Rattle.console.proofs.Going.{stateIn, listOf, firstOf, stoppedOf, Went, went, passes-so, requests-whole}
 use Rattle.console.proofs.Living.{state-out}

@@ -1,12 +1,12 @@
 -- A run or the chooser for C, in words: refused at its first checks it leaves every byte, and what its verdict says.
 -- Assumes nothing.
-use mathlib.Core.Path.{_≡_, refl, sym, ap, ap₂, subst, _∙_}
+use mathlib.Core.Path.{_≡_, refl, sym, ap, subst, _∙_}
 use mathlib.Core.Logic.{_⊎_, inl, inr, ⊎-elim}
-use mathlib.Core.List.{List, [], _∷_, _++_}
-use Prim.Native.Nat.{ℕ, zero, suc, _+_, _-_, _*_, _/_, _%_, _≤_, _<_}
+use mathlib.Core.List.{List, []}
+use Prim.Native.Nat.{ℕ, zero, suc, _+_, _-_, _*_, _%_, _≤_, _<_}
 use native.Mathlib.Omega.{arith}
 use native.Mathlib.Decide.{ℕ-discrete}
-use lib.ListN.{length, getD, take, drop, length-append}
+use lib.ListN.{length, getD, take, drop}
 use lib.Seq.{getD-take, getD-drop}
 use borrow.Author.Tests.{ne-eqb}
 use Rattle.problem.specs.Problem.{tableOf, problemOf}
@@ -20,7 +20,7 @@ use Rattle.searches.specs.Runs.{run, requestsIn}
 use Rattle.searches.specs.Chooser.{choose}
 use Rattle.search.specs.FirstChecks.{WholeRequests}
 use Rattle.search.specs.Tests.FirstChecks.{runRefusal, searchRefusal}
-use Rattle.search.specs.Calls.{searchOf, Ends, Runs, Chooses}
+use Rattle.search.specs.Calls.{searchOf, Ends}
 use Rattle.searches.specs.Promises.{Shown}
 use Rattle.search.specs.Promises.{Handed, Verdict-says}
 use Rattle.search.specs.declared.state.State.{State}
@@ -30,7 +30,7 @@ use Rattle.search.proofs.first_checks.FirstPassing.{run-is-passed}
 use Rattle.search.proofs.Promises.{run-exact, choose-exact, none-if-run, none-if-choose, run-says, chooser-says}
 use Rattle.blocks.proofs.Lists.{padded-at}
 use Rattle.bytes.specs.Bytes.{Bytes, Whole, wordsOf, bytesOf}
-use Rattle.bytes.proofs.Words.{words-again, bytes-again, words-small, bytes-length}
+use Rattle.bytes.proofs.Words.{words-again, bytes-again, words-small}
 use Rattle.console.specs.Calls.{stateOf, unwhole, WholeProblem, HandsOut}
 use Rattle.console.specs.Searches.{Held, Typed, Outcome, Way, by-requests, by-chooser, Goes-on, slotWord, Plan-in}
 use Rattle.console.proofs.OneOutcome.{whole-or-not}

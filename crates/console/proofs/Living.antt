@@ -8,17 +8,16 @@ use lib.ListN.{take}
 use Rattle.search.specs.Calls.{Opens}
 use Rattle.search.specs.declared.state.State.{State}
 use Rattle.search.specs.declared.state.Opened.{Opened}
-use Rattle.search.specs.declared.state.Ran.{Ran}
 use Rattle.files.specs.Promises as files
 use Rattle.files.specs.declared.saved.Loaded.{Loaded}
 use Rattle.files.specs.Calls.{Loads}
-use Rattle.bytes.specs.Bytes.{wordsOf, bytesOf}
+use Rattle.bytes.specs.Bytes.{wordsOf}
 use Rattle.bytes.proofs.Words.{words-again, said-whole}
-use Rattle.console.specs.Calls.{stateOf, WholeProblem, OpensForC, HandsOut, SavesForC, LoadsForC}
+use Rattle.console.specs.Calls.{stateOf, WholeProblem, OpensForC, SavesForC, LoadsForC}
 use Rattle.console.specs.Searches.{Held, Outcome, Way, by-requests, by-chooser, Goes-on, Lived-for-C, opened, went-on, loaded, moved}
 use Rattle.console.proofs.numbers.Unfit.{unwhole-not, unwhole-file-not}
 use Rattle.console.proofs.OneOutcome.{whole-or-not}
-use Rattle.console.proofs.Going.{stateIn, listOf, firstOf, stoppedOf, Went, went, whole-or-odd}
+use Rattle.console.proofs.Going.{stateIn, firstOf, stoppedOf, went, whole-or-odd}
 
 -- The state that a call handed out.
 pub state-out : {steps checks subproblems : ℕ} (s : State) → steps ≡ s .counts .steps .0 → checks ≡ s .counts .checks .0 → subproblems ≡ s .subproblems

@@ -1,6 +1,6 @@
 -- Opening, save and load that are refused leave every byte.
 -- Assumes nothing.
-use mathlib.Core.Path.{_≡_, ap, _∙_}
+use mathlib.Core.Path.{ap, _∙_}
 use borrow.Author.Tests.{ne-eqb}
 use Rattle.search.specs.declared.state.Opened.{Opened}
 use Rattle.files.specs.declared.saved.Saved.{Saved}

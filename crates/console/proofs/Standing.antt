@@ -1,8 +1,8 @@
 -- The requests that a run took, run alone.
 -- Assumes nothing.
-use mathlib.Core.Path.{_≡_, sym, ap, ap₂, _∙_}
-use mathlib.Core.List.{List, _++_}
-use Prim.Native.Nat.{ℕ, _+_, _-_, _*_, _/_, _%_, _≤_}
+use mathlib.Core.Path.{_≡_, sym, ap, _∙_}
+use mathlib.Core.List.{List}
+use Prim.Native.Nat.{ℕ, _+_, _-_, _*_, _/_, _≤_}
 use native.Mathlib.Omega.{arith}
 use native.Mathlib.Nat.{mul-le-mul-right, add-mul, mul-div-cancel}
 use lib.ListN.{length, take, drop, length-drop, take-append-drop}
@@ -21,9 +21,9 @@ use Rattle.searches.proofs.Promises.{taken, stops}
 use Rattle.files.proofs.Requests.{cut-length, requests-append}
 use Rattle.bytes.specs.Bytes.{Whole, wordsOf, bytesOf}
 use Rattle.bytes.proofs.Words.{words-length, words-front}
-use Rattle.console.specs.Searches.{Held, Typed, Outcome, by-requests, Goes-on}
+use Rattle.console.specs.Searches.{by-requests}
 use Rattle.console.specs.Promises.{Taken-stand}
-use Rattle.console.proofs.Going.{stateIn, listOf, firstOf, stoppedOf, outcome-is, Went, went, Passed, passes-so, requests-whole}
+use Rattle.console.proofs.Going.{stateIn, listOf, firstOf, stoppedOf, outcome-is, went, passes-so, requests-whole}
 
 -- How many requests whole requests are.
 pub requests-number : (n : ℕ) (words : List ℕ) (k : ℕ) → length words ≡ k * (n + 3) → length (requestsIn n words) ≡ k

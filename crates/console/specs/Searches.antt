@@ -2,7 +2,7 @@
 use mathlib.Core.Path.{_≡_}
 use mathlib.Core.List.{List}
 use Prim.Native.Nat.{ℕ, _+_, _*_, _≤_, _<_}
-use lib.ListN.{length, getD, take}
+use lib.ListN.{getD, take}
 use Rattle.problem.specs.Masks.{single, lowest}
 use Rattle.problem.specs.Problem.{Problem, Solution, tableOf, problemOf}
 use Rattle.search.specs.Agenda.{stackOf, slotsIn, agendaOf}

@@ -49,7 +49,7 @@ fn unwhole(n: usize, d: usize) -> u32
 pub(crate) fn unopened(n: usize, d: usize) -> Opened
     ensures { λ r. ⌜ r ≡ unopened n d ⌝ }
 {
-    let state = state_of(0, 0, 0);
+    let state = State::fresh(0);
     Opened {
         refusal: unwhole(n, d),
         state,

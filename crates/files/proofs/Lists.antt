@@ -2,14 +2,13 @@
 -- Assumes nothing.
 use mathlib.Core.Path.{_≡_, refl, sym, ap, _∙_}
 use mathlib.Core.List.{List, [], _∷_, _++_, map, map-append}
-use Prim.Native.Nat.{ℕ, zero, suc, _+_, _-_, _≤_, _<_}
+use Prim.Native.Nat.{ℕ, zero, suc, _+_, _-_, _<_}
 use native.Mathlib.Omega.{arith}
 use native.Mathlib.Decide.{decLt}
 use lib.Dec.{ltb}
 use borrow.Author.Tests.{lt-ltb, le-ltb}
 use Rattle.problem.specs.Lists.{below, keep}
 use Rattle.splits.proofs.checks.Looking.{keep-append}
-use Rattle.blocks.proofs.Lists.{below-length, each-more, each-none, each-same, padded-at}
 use Rattle.files.specs.Content.{after}
 
 -- The variables after i.

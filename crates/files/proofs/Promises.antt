@@ -3,10 +3,9 @@
 use mathlib.Core.Path.{_≡_, refl, _∙_}
 use native.Mathlib.Omega.{arith}
 use lib.ListN.{length}
-use Rattle.blocks.specs.Blocks.{blocksFor, carried, onesSum, checkOf}
+use Rattle.blocks.specs.Blocks.{blocksFor}
 use Rattle.files.specs.Content.{contentOf}
 use Rattle.files.specs.Promises.{Header-of-one, Load-after-save, Save-after-load, Loaded-passes, Load-leaves, Loads-back, Saves-back, Largest, Largest-met, Save-enough, Save-first, Save-13, Save-none, Load-14, Load-15, Load-3, Load-12, Load-none, Save-one, Load-one, Diagonal-open, Diagonal-run, Diagonal-choose, Diagonal-save, Lived, Lived-reached, Lived-solvable, Lived-steps, Lived-checks, Unsolvable-run, Unsolvable-choose, Solved-run, Solved-choose, Same-solutions, Cut-any, Cut-lived, Cut-choose}
-use Rattle.problem.proofs.Answers.{one}
 use Rattle.search.proofs.Encoding.{length-stack}
 use Rattle.search.proofs.first_checks.FirstPassing.{search-is-passed}
 use Rattle.search.proofs.Reaching.{reached-solvable, reached-steps, reached-checks}

@@ -7,7 +7,6 @@ use Prim.Native.Nat.{ℕ}
 use borrow.Author.Tests.{ne-eqb}
 use Rattle.problem.specs.Tests.FirstChecks.{orElse}
 use Rattle.problem.proofs.Decisions.{Refutes}
-use Rattle.blocks.proofs.Tests.{and-cases}
 
 -- A refusal k whose test fails exactly where it is deserved is given exactly there.
 pub given-exactly : (b : Bool) (k : ℕ) (D : Type 0) → (k ≡ 0 → ⊥) → Refutes b D → (cond b 0 k ≡ k) ↔ D

@@ -1,6 +1,6 @@
 -- The content of a saved search, in document 01's order.
 use mathlib.Core.List.{List, _∷_, _++_, map}
-use Prim.Native.Nat.{ℕ, _+_, _/_, _%_, _^_}
+use Prim.Native.Nat.{ℕ, _/_, _%_, _^_}
 use lib.ListN.{length}
 use lib.Dec.{ltb}
 use Rattle.problem.specs.Problem.{Table}

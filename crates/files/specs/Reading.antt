@@ -4,7 +4,7 @@ use mathlib.Core.Logic.{_⊎_}
 use mathlib.Core.Bool.{cond, _&&_}
 use mathlib.Core.List.{List, map}
 use Prim.Native.Nat.{ℕ, suc, _+_, _-_, _*_, _/_, _^_, _≤_, _<_}
-use lib.ListN.{length, getD}
+use lib.ListN.{getD}
 use lib.Dec.{eqb, leb, ltb}
 use Rattle.problem.specs.Masks.{bit}
 use Rattle.problem.specs.Problem.{Problem, Table}
@@ -16,7 +16,7 @@ use Rattle.search.specs.FirstChecks.{Deserves-6}
 use Rattle.problem.specs.Tests.FirstChecks.{refusalOfNumbers, refusalOfProblem}
 use Rattle.search.specs.Tests.FirstChecks.{refusalOfSearch}
 use Rattle.blocks.specs.Blocks.{blocksFor}
-use Rattle.blocks.specs.Reading.{blocksIn, contentWord, contentFrom, Deserves-14}
+use Rattle.blocks.specs.Reading.{blocksIn, contentWord, contentFrom}
 use Rattle.blocks.specs.Lists.{each}
 unfoldable pub use Rattle.blocks.specs.Tests.Whole.{refusalOfFile}
 

@@ -5,7 +5,7 @@ use crate::copying;
 use crate::said;
 use crate::saved::Header;
 ghost use mathlib.Core.Path.{_≡_};
-ghost use Prim.Native.Nat.{suc, _+_, _-_, _*_, _/_, _<_, _≤_};
+ghost use Prim.Native.Nat.{suc, _+_, _-_, _*_, _<_, _≤_};
 ghost use lib.ListN.{length, replicate};
 ghost use Rattle.problem.specs.Lists.{total, splice};
 ghost use Rattle.files.specs.Loops.Said.{Numbers, columnPart, rowPart, tablePart, partIn, slotsPart, Lent};

@@ -2,10 +2,7 @@
 use crate::saved::Header;
 use crate::saved::Loaded;
 use crate::saved::Saved;
-use search::state::Checks;
-use search::state::Counts;
 use search::state::State;
-use search::state::Steps;
 ghost use mathlib.Core.Path.{_≡_};
 ghost use lib.ListN.{replicate};
 ghost use Rattle.files.specs.Calls.{Saves, Loads};
@@ -55,13 +52,7 @@ fn refuse(refusal: u32) -> Loaded
         refusal,
         n: 0,
         d: 0,
-        state: State {
-            counts: Counts {
-                steps: Steps(0),
-                checks: Checks(0),
-            },
-            subproblems: 0,
-        },
+        state: State::fresh(0),
     }
 }
 

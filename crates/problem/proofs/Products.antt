@@ -8,7 +8,6 @@ use native.Mathlib.Omega.{arith}
 use native.Mathlib.Numerals.{add-one}
 use native.Mathlib.Nat.{eq-or-lt-of-le, le-of-suc-le-suc, le-refl, zero-mul, mul-zero, add-mul, mul-le-mul, mul-le-mul-left, mul-le-mul-right, mul-lt-mul-of-pos-left, mul-lt-mul-of-pos-right}
 use Rattle.problem.specs.Lists.{product, total}
-use native.Mathlib.Numerals.{add-one}
 
 -- A number below n + 1 is n or below n.
 pub last : {i n : ℕ} → i < suc n → (i ≡ n) ⊎ (i < n)

@@ -1,7 +1,6 @@
 // The row of a value: what is allowed beside it, for all variables at once.
 use crate::mask;
 use crate::tables;
-ghost use mathlib.Core.Path.{_≡_};
 ghost use Rattle.problem.specs.Problem.{tableOf};
 ghost use Rattle.problem.specs.Ranges.{Inside};
 ghost use Rattle.problem.specs.Beside.{RowOf};

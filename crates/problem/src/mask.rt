@@ -1,6 +1,6 @@
 // A mask: a set of values, bit v for value v.
 ghost use mathlib.Core.Path.{_≡_};
-ghost use Prim.Native.Nat.{_+_, _-_, _/_, _<_, _≤_};
+ghost use Prim.Native.Nat.{_+_, _/_, _<_, _≤_};
 ghost use Rattle.problem.specs.Masks.{size, smallest};
 ghost use Rattle.problem.specs.Calls.{Count, Lowest, Only, Has, Smaller-half};
 

@@ -1,8 +1,7 @@
 // The problem's tables: for each two variables and each value of the first, the values allowed beside it.
 ghost use mathlib.Core.Path.{_≡_};
 ghost use Prim.Native.Nat.{_+_, _*_, _<_};
-ghost use Rattle.problem.specs.Problem.{tableOf};
-ghost use Rattle.problem.specs.Ranges.{sized, inside};
+ghost use Rattle.problem.specs.Ranges.{sized};
 ghost use Rattle.problem.specs.Calls.{Within, Allowed};
 
 // Whether n, d and the tables fit each other.

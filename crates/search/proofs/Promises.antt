@@ -15,7 +15,7 @@ use Rattle.search.specs.Calls.{Ends}
 use Rattle.search.specs.declared.state.State.{State}
 use Rattle.search.specs.declared.state.Ran.{Ran}
 use Rattle.search.specs.Cases.{cases}
-use Rattle.search.specs.Promises.{Slots-lawful, Slots-full, Slots-refusals, Slots-chosen, Opening-places, Reached-opened, Open-one, Run-one, Choose-one, Open-leaves, Run-leaves, Chooser-leaves, Handed-passes, Run-says, Chooser-says, Ends-so, Marked-cases, None-if-run, None-if-choose, Run-exact, Choose-exact, Right-only, Not-only-refuses, Not-always-unsolvable, Not-idle, Not-solved-at-once, Not-invented, Open-refusals, Search-refusals, Run-refusals, Lengths-pass, Requests-pass, Search-pass, Open-apart, Search-apart, Run-apart, Sizes-refusal-one, Open-refusal-one, Search-refusal-one, Run-refusal-one}
+use Rattle.search.specs.Promises.{Slots-lawful, Slots-full, Slots-refusals, Slots-chosen, Opening-places, Reached-opened, Open-one, Run-one, Choose-one, Open-leaves, Run-leaves, Chooser-leaves, Handed-passes, Run-says, Chooser-says, Ends-so, Marked-cases, None-if-run, None-if-choose, Run-exact, Choose-exact, Right-only, Not-only-refuses, Not-always-unsolvable, Not-idle, Not-solved-at-once, Not-invented, Open-refusals, Search-refusals, Run-refusals, Lengths-pass, Requests-pass, Search-pass, Open-apart, Search-apart, Run-apart, Fresh-one, Sizes-refusal-one, Open-refusal-one, Search-refusal-one, Run-refusal-one}
 use Rattle.search.proofs.Slots
 use Rattle.search.proofs.Reaching
 use Rattle.search.proofs.Cases
@@ -136,6 +136,9 @@ pub run-apart : Run-apart
 run-apart = apart-run
 
 -- ---- one answer
+
+pub fresh-one : Fresh-one
+fresh-one subproblems = one _
 
 pub sizes-refusal-one : Sizes-refusal-one
 sizes-refusal-one n d domains tables agenda = one _

@@ -19,6 +19,13 @@ use Rattle.search.specs.declared.state.Opened.{Opened}
 use Rattle.search.specs.declared.state.Ran.{Ran}
 use Rattle.searches.specs.declared.verdict.Verdict.the-variants.{None}
 
+-- A state of no steps and no checks, with so many subproblems.
+abbrev pub fresh : ℕ → State
+fresh subproblems = record { counts = record { steps = record { 0 = 0 }; checks = record { 0 = 0 } }; subproblems = subproblems }
+
+abbrev pub Fresh : ℕ → State → Type 0
+Fresh subproblems r = r ≡ fresh subproblems
+
 -- What opening places: the problem with nothing instantiated, unless a domain is empty.
 unfoldable pub opening : ℕ → List ℕ → List Subproblem
 opening n domains = cond (some n (λ i. eqb (getD domains i 0) 0)) [] (holding n domains 0 ∷ [])

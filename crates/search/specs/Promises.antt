@@ -24,7 +24,7 @@ use Rattle.search.specs.Slots.{slots, Deserves-12, Search}
 use Rattle.search.specs.FirstChecks.{WholeRequests, Deserves-3, Deserves-3-run, Deserves-6}
 use Rattle.search.specs.Tests.FirstChecks.{searchRefusal, refusalOfLengths, refusalOfRequests, refusalOfSearch, sizesRefusal, openRefusal, runRefusal}
 use Rattle.problem.specs.FirstChecks.{Deserves-1, Deserves-2, Deserves-4, Deserves-5}
-use Rattle.search.specs.Calls.{opening, begun, searchOf, Opens, Runs, Chooses}
+use Rattle.search.specs.Calls.{opening, begun, searchOf, Opens, Runs, Chooses, fresh, Fresh}
 use Rattle.search.specs.declared.state.State.{State}
 use Rattle.search.specs.declared.state.Opened.{Opened}
 use Rattle.search.specs.Cases.{Case, problemIn, expected, cases}
@@ -194,7 +194,7 @@ Marked-cases = (c : Case) → List·Memᴰ c cases → Ends-so c
 abbrev pub Right : List ℕ → Ran → Type 0
 Right after r =
     Runs 2 2 (1 ∷ 3 ∷ []) (0 ∷ 0 ∷ 2 ∷ 1 ∷ 2 ∷ 1 ∷ 0 ∷ 0 ∷ []) (1 ∷ 3 ∷ 0 ∷ 0 ∷ 0 ∷ 0 ∷ 0 ∷ 0 ∷ []) after
-    (1 ∷ 0 ∷ 0 ∷ 0 ∷ 0 ∷ 3 ∷ 1 ∷ 0 ∷ 0 ∷ 0 ∷ []) (record { counts = record { steps = record { 0 = 0 }; checks = record { 0 = 0 } }; subproblems = 1 }) r
+    (1 ∷ 0 ∷ 0 ∷ 0 ∷ 0 ∷ 3 ∷ 1 ∷ 0 ∷ 0 ∷ 0 ∷ []) (fresh 1) r
 
 -- What is left and returned there, exactly: both requests are taken, and 1,2 with 0 marked is left, after 2 steps and 1 check.
 abbrev pub Right-only : Type 0
@@ -298,6 +298,10 @@ Run-apart =
     → runRefusal n d domains tables agenda requests steps checks subproblems ≡ runRefusal n d domains others agenda requests steps checks subproblems
 
 -- ---- one answer
+
+-- A state of no steps.
+abbrev pub Fresh-one : Type 0
+Fresh-one = (subproblems : ℕ) → One (Fresh subproblems)
 
 -- The numbers and how many words are lent.
 abbrev pub Sizes-refusal-one : Type 0

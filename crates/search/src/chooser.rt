@@ -124,7 +124,10 @@ fn further_piece(further: Further, sides: &[u16], j: usize) -> Subproblem
     ensures { λ r. ⌜ FurtherPiece further j r ⌝ }
 {
     let row = further.row;
-    further.rest.cut_each(lanes::before(row, sides, j)).without(j, row[j])
+    further
+        .rest
+        .cut_each(lanes::before(row, sides, j))
+        .without(j, row[j])
 }
 
 // Kind 3's pieces, the last named in the place of the top, the others above; the number of subproblems then. `d` and `tables` are for

@@ -2,16 +2,10 @@
 use crate::rules;
 use crate::state::State;
 ghost use mathlib.Core.Path.{_≡_};
-ghost use Prim.Native.Nat.{_-_, _^_, _≤_, _<_};
-ghost use lib.Dec.{ltb};
-ghost use lib.ListN.{length};
-ghost use Rattle.problem.specs.Problem.{tableOf, problemOf};
-ghost use Rattle.problem.specs.Lists.{every, rowIn, joined};
-ghost use Rattle.problem.specs.Ranges.{Sized, Fitting};
-ghost use Rattle.problem.specs.Tests.FirstChecks.{refusalOfNumbers, refusalOfProblem};
-ghost use Rattle.search.specs.Tests.FirstChecks.{wholeSlots, refusalOfLengths, refusalOfRequests, zerosFrom, refusalOfSearch, sizesRefusal, openRefusal, searchRefusal, runRefusal};
+ghost use Prim.Native.Nat.{_≤_, _<_};
+ghost use Rattle.problem.specs.Problem.{problemOf};
+ghost use Rattle.search.specs.Tests.FirstChecks.{wholeSlots, refusalOfSearch, sizesRefusal, openRefusal, searchRefusal, runRefusal};
 ghost use Rattle.search.specs.Loops.FirstTests.{Mirrored};
-ghost use Rattle.problem.specs.Loops.FirstTests.{spanBelow, rowBelow};
 
 // Whether so many words are 1 to 512 whole slots.
 fn whole_slots(n: usize, words: usize) -> bool

@@ -1,6 +1,5 @@
 // Rows that are kept: what is allowed beside a value of a variable, made once in its place.
 use problem::beside;
-ghost use mathlib.Core.Path.{_≡_};
 ghost use Rattle.problem.specs.Problem.{tableOf};
 ghost use Rattle.problem.specs.Ranges.{Inside};
 ghost use Rattle.problem.specs.Beside.{RowOf};

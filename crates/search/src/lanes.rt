@@ -2,12 +2,8 @@
 // A lane is the place of one mask, of one variable among 32 but in `sides`; `lanes` have all bits or none in each.
 use splits::at_once;
 ghost use mathlib.Core.Path.{_≡_};
-ghost use mathlib.Core.Bool.{cond};
 ghost use Prim.Native.Nat.{_+_, _*_, _<_, _≤_, min};
-ghost use lib.ListN.{getD};
-ghost use lib.Dec.{eqb};
-ghost use Rattle.problem.specs.Masks.{bit, minus, size};
-ghost use Rattle.problem.specs.Lists.{total};
+ghost use Rattle.problem.specs.Masks.{bit, size};
 ghost use Rattle.search.specs.Loops.Lanes.{Half, Beyond, Below, LeastKey, Sides, Widened, BeforeTo};
 
 fn least(a: u16, b: u16) -> u16
@@ -111,4 +107,3 @@ pub(crate) fn before(row: [u16; 32], sides: &[u16], j: usize) -> [u16; 32]
     }
     masks
 }
-

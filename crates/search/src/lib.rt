@@ -8,12 +8,9 @@ mod rules;
 pub mod state;
 mod step;
 
-use crate::state::Checks;
-use crate::state::Counts;
 use crate::state::Opened;
 use crate::state::Ran;
 use crate::state::State;
-use crate::state::Steps;
 use crate::step::Stop;
 use searches::verdict::Verdict;
 ghost use mathlib.Core.Path.{_≡_};
@@ -35,13 +32,13 @@ pub fn open(n: usize, d: usize, domains: &[u16], tables: &[u16], agenda: &mut [u
     if refusal != 0 {
         return Opened {
             refusal,
-            state: fresh(0),
+            state: State::fresh(0),
         };
     }
     let subproblems = place_problem(n, domains, agenda);
     Opened {
         refusal: 0,
-        state: fresh(subproblems),
+        state: State::fresh(subproblems),
     }
 }
 
@@ -57,19 +54,6 @@ fn place_problem(n: usize, domains: &[u16], agenda: &mut [u16]) -> usize
     }
     agenda::write_slot(n, agenda, 0, problem);
     1
-}
-
-// Counts of 0, and so many subproblems.
-fn fresh(subproblems: usize) -> State
-    ensures { λ r. ⌜ r ≡ record { counts = record { steps = record { 0 = 0 }; checks = record { 0 = 0 } }; subproblems = subproblems } ⌝ }
-{
-    State {
-        counts: Counts {
-            steps: Steps(0),
-            checks: Checks(0),
-        },
-        subproblems,
-    }
 }
 
 // Runs a list of requests.

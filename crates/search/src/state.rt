@@ -1,5 +1,6 @@
 // What a search is handed on with: two counters kept apart, the number of subproblems, and what a call returns.
 use searches::verdict::Verdict;
+ghost use Rattle.search.specs.Calls.{Fresh};
 
 // Steps taken.
 pub struct Steps(pub u32);
@@ -17,6 +18,21 @@ pub struct Counts {
 pub struct State {
     pub counts: Counts,
     pub subproblems: usize,
+}
+
+impl State {
+    // Counts of 0, and so many subproblems.
+    pub fn fresh(subproblems: usize) -> State
+        ensures { λ r. ⌜ Fresh subproblems r ⌝ }
+    {
+        State {
+            counts: Counts {
+                steps: Steps(0),
+                checks: Checks(0),
+            },
+            subproblems,
+        }
+    }
 }
 
 // What opening returns.

@@ -1,10 +1,10 @@
 // A step: the top subproblem gives way to the pieces of a request, in the lent agenda.
 use crate::agenda;
-use problem::tables;
 use crate::state::Checks;
 use crate::state::Counts;
 use crate::state::State;
 use crate::state::Steps;
+use problem::tables;
 use splits::at_once;
 use splits::checks;
 use splits::refusal;

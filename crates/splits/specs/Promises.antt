@@ -4,7 +4,6 @@ use mathlib.Core.Logic.{_↔_}
 use mathlib.Core.List.{List, map}
 use Prim.Native.Nat.{ℕ, _≤_, _<_}
 use lib.ListN.{length}
-use Rattle.problem.specs.Masks.{_∈_}
 use Rattle.problem.specs.Problem.{Table, Words, AgreeApart}
 use Rattle.splits.specs.Subproblems.{domain}
 use Rattle.splits.specs.Requests.{kindOf, variableOf, valueOf, targetOf}

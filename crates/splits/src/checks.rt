@@ -1,10 +1,10 @@
 // The constraint checks that a request counts.
-use problem::mask;
 use crate::subproblem::Subproblem;
-use problem::tables;
 use crate::words;
+use problem::mask;
+use problem::tables;
 ghost use mathlib.Core.Path.{_≡_};
-ghost use Prim.Native.Nat.{_+_, _<_, _≤_};
+ghost use Prim.Native.Nat.{_<_, _≤_};
 ghost use Rattle.problem.specs.Problem.{tableOf};
 ghost use Rattle.splits.specs.Splits.{forbids};
 ghost use Rattle.splits.specs.Checks.{valuesIn, others};

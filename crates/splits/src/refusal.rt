@@ -1,7 +1,7 @@
 // Which refusal a request deserves, of 7 to 10.
-use problem::mask;
 use crate::subproblem::Subproblem;
 use crate::words;
+use problem::mask;
 ghost use mathlib.Core.Path.{_≡_};
 ghost use mathlib.Core.Bool.{cond, _||_};
 ghost use Rattle.splits.specs.Requests.{kindOf, variableOf, valueOf};

@@ -1,10 +1,10 @@
 // The five splits: the pieces of a request, one by one.
 use crate::checks;
+use crate::subproblem::Subproblem;
+use crate::words;
 use problem::beside;
 use problem::mask;
-use crate::subproblem::Subproblem;
 use problem::tables;
-use crate::words;
 ghost use mathlib.Core.Path.{_≡_};
 ghost use Prim.Native.Nat.{_+_, _≤_, _<_};
 ghost use Rattle.problem.specs.Problem.{tableOf};

@@ -1,8 +1,8 @@
 // A subproblem: a domain for each variable, and the set of those that a split instantiated.
-use problem::mask;
 use crate::words;
+use problem::mask;
 ghost use mathlib.Core.Path.{_≡_};
-ghost use Prim.Native.Nat.{_+_, _<_, _≤_};
+ghost use Prim.Native.Nat.{_<_, _≤_};
 ghost use Rattle.splits.specs.Splits.{atTargets};
 ghost use Rattle.splits.specs.Calls.{Domain, Is-instantiated, All-instantiated, Is-empty, Instantiate, Without, Cut, Cut-each, Precluded};
 ghost use Rattle.splits.specs.Loops.Kinds.{cutBefore};

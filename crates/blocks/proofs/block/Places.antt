@@ -5,14 +5,13 @@ use mathlib.Core.List.{List, map}
 use Prim.Native.Nat.{ℕ, _+_, _-_, _*_, _/_, _%_, _≤_, _<_}
 use native.Mathlib.Omega.{arith}
 use native.Mathlib.Nat.{zero-add}
-use native.Mathlib.Decide.{decLt}
 use lib.ListN.{length, getD, take, drop, length-drop, List·getD-eq-default}
 use lib.Seq.{length-take-le}
 use Rattle.problem.specs.Lists.{total, below}
 use Rattle.blocks.specs.Blocks.{wordAt, checkOf}
-use Rattle.blocks.specs.Reading.{blockWord, headOf, contentWord, contentFrom}
+use Rattle.blocks.specs.Reading.{blockWord, headOf, contentWord}
 use Rattle.blocks.specs.Loops.Read.{valueAt, lowWord, blockOf}
-use Rattle.blocks.proofs.Lists.{map-length, map-at, total-same}
+use Rattle.blocks.proofs.Lists.{map-at, total-same}
 use Rattle.blocks.proofs.checksum.Sums.{total-is}
 use Rattle.blocks.proofs.Contents.{block-word-small}
 

@@ -1,18 +1,16 @@
 -- Words that are filled with the content of a file's blocks.
 -- Assumes nothing.
 use mathlib.Core.Path.{_≡_, refl, sym, ap, _∙_}
-use mathlib.Core.Bool.{cond}
 use mathlib.Core.List.{List, _++_}
 use Prim.Native.Nat.{ℕ, _+_, _-_, _*_, _/_, _%_, _≤_, _<_}
 use native.Mathlib.Omega.{arith}
 use native.Mathlib.Nat.{zero-add}
-use lib.ListN.{length, getD, drop, length-append, length-drop, List·getD-eq-default}
-use lib.Dec.{leb}
+use lib.ListN.{length, drop, length-append, length-drop, List·getD-eq-default}
 use borrow.Author.Tests.{le-leb, lt-leb}
 use borrow.Rule.Slice.PartMut.{putMid}
 use Rattle.problem.specs.Lists.{below}
 use Rattle.blocks.specs.Blocks.{wordAt}
-use Rattle.blocks.specs.Reading.{blocksIn, blockWord, contentWord, contentFrom}
+use Rattle.blocks.specs.Reading.{blockWord, contentWord, contentFrom}
 use Rattle.blocks.specs.Calls.{Put-content}
 use Rattle.blocks.specs.Loops.Read.{blockOf, contentPart}
 use Rattle.blocks.proofs.Lists.{map-same, seq, seq-join}

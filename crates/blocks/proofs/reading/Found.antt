@@ -1,16 +1,16 @@
 -- The test of 14, put together from what the loops of the code find.
 -- Assumes nothing.
 use mathlib.Core.Path.{_≡_, refl, sym, ap, ap₂, _∙_}
-use mathlib.Core.Bool.{Bool, true, false, not, and-false}
+use mathlib.Core.Bool.{Bool, true, false, and-false}
 use mathlib.Core.List.{List}
 use Prim.Native.Nat.{ℕ, _+_, _-_, _*_, _/_, _≤_, _<_}
 use native.Mathlib.Omega.{arith}
 use lib.ListN.{length, getD, take, drop}
 use lib.Seq.{getD-take, getD-drop}
-use lib.Dec.{eqb, leb}
+use lib.Dec.{eqb}
 use borrow.Author.Tests.{le-leb, lt-leb, eq-eqb, ne-eqb}
 use Rattle.problem.specs.Lists.{every}
-use Rattle.blocks.specs.Blocks.{wordAt, checkOf, blocksFor}
+use Rattle.blocks.specs.Blocks.{wordAt, checkOf}
 use Rattle.blocks.specs.Reading.{blockWord, headOf}
 use Rattle.blocks.specs.Tests.Whole.{goodBlock, refusalOfFile}
 use Rattle.blocks.specs.Loops.Read.{goodIn, blockOf}

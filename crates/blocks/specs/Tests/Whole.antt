@@ -1,7 +1,7 @@
 -- Whether a file deserves 14, worked out: Refused-14 and Refused-none of Promises say exactly what it gives.
 use mathlib.Core.Bool.{Bool, cond, _&&_}
 use mathlib.Core.List.{List}
-use Prim.Native.Nat.{ℕ, _+_, _*_, _/_}
+use Prim.Native.Nat.{ℕ, _+_, _*_}
 use lib.ListN.{length}
 use lib.Dec.{eqb, leb}
 use Rattle.problem.specs.Lists.{every}

@@ -1,33 +1,28 @@
 -- The words that save writes, by their places: those of the content, of a block, of the blocks.
 -- Assumes nothing.
 use mathlib.Core.Path.{_≡_, refl, sym, ap, _∙_}
-use mathlib.Core.List.{List, [], _∷_, _++_, append-assoc, append-nil}
+use mathlib.Core.List.{List, _++_}
 use mir.Syntax.{w64}
 use mir.Val.{Fits}
-use Prim.Native.Nat.{ℕ, zero, suc, _+_, _-_, _*_, _/_, _%_, _^_, _≤_, _<_}
+use Prim.Native.Nat.{ℕ, _+_, _-_, _*_, _^_, _≤_, _<_}
 use native.Mathlib.Omega.{arith}
 use native.Mathlib.Nat.{mul-le-mul, mul-le-mul-right, mul-assoc, add-mul}
 use native.Mathlib.Numerals.{add-one}
-use lib.ListN.{length, getD, take, drop, set, replicate, length-append, length-drop, List·getD-append}
-use lib.Seq.{length-take-le, take-suc, drop-cons, append-snoc, set-at, take-all, take-at, drop-length, ext-getD}
-use borrow.Rule.Slice.PartMut.{putMid}
+use lib.ListN.{length, getD, take, drop, replicate, length-append}
+use lib.Seq.{length-take-le}
 use Rattle.problem.specs.Lists.{total, below, splice}
 use Rattle.problem.specs.Problem.{tableOf}
 use Rattle.search.specs.declared.state.State.{State}
 use Rattle.problem.proofs.Copies.{splice-splice}
 use Rattle.search.proofs.Encoding.{stack-of-words, length-stackOf}
-use Rattle.blocks.specs.Blocks.{fileBytes, wordAt, checkOf, contentOfBlock, headedBlock, blockWords, firstBlocks}
 use Rattle.blocks.specs.Lists.{each}
 use Rattle.files.specs.Content.{triangle, contentOf}
-use Rattle.blocks.specs.Reading.{blockWord, headOf}
 use Rattle.files.specs.Reading.{triangleWords, wordCount}
 use Rattle.files.specs.Loops.Said.{Numbers, partIn}
 use Rattle.files.specs.Calls.{handedContent}
 use Rattle.files.specs.Loops.Saved.{Savable, header}
-use Rattle.blocks.proofs.Lists.{map-is, each-length, total-below, seq, seq-is, padded-at}
-use Rattle.blocks.proofs.Words.{bytes-length, bytes-append, word-read}
+use Rattle.blocks.proofs.Lists.{each-length, total-below, seq, seq-is}
 use Rattle.files.proofs.Triangle.{rest, rest-total, total-mul, row, row-length, row-words, triangle-rows, triangle-length}
-use Rattle.blocks.proofs.Blocks.{content-length, content-at, headed-length, block-length, block-headed, block-check, blocks-length}
 use Rattle.files.proofs.filling.Mirrors.{triangle-few, slots-few, part-at, part-long}
 use Rattle.files.proofs.filling.Filled.{zeros-long, front-of-zeros, Passed, passed-more, tables-few}
 

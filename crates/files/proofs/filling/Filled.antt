@@ -1,16 +1,16 @@
 -- Memory that load and save fill from the front: the words of the content, columns, rows, copies with zeros after them.
 -- Assumes nothing.
 use mathlib.Core.Path.{_≡_, refl, sym, ap, ap₂, _∙_}
-use mathlib.Core.List.{List, [], _∷_, _++_, map, map-append, append-assoc, append-nil}
+use mathlib.Core.List.{List, [], _∷_, _++_, map, append-assoc, append-nil}
 use mir.Syntax.{w64}
 use mir.Val.{Fits}
-use Prim.Native.Nat.{ℕ, suc, _+_, _-_, _*_, _/_, _%_, _≤_, _<_}
+use Prim.Native.Nat.{ℕ, suc, _+_, _-_, _*_, _≤_, _<_}
 use native.Mathlib.Omega.{arith}
 use native.Mathlib.Nat.{mul-assoc, mul-le-mul, mul-le-mul-right, zero-add, add-mul}
 use native.Mathlib.Numerals.{add-one}
 use native.Mathlib.Decide.{decLt}
-use lib.ListN.{length, getD, take, drop, set, replicate, length-set, length-append, length-drop, length-replicate, replicate-append-replicate, take-append-drop, List·getD-eq-default}
-use lib.Seq.{getD-take, getD-drop, drop-cons, append-snoc, set-at, take-all, drop-drop, drop-length, length-take-le}
+use lib.ListN.{length, getD, take, drop, set, replicate, length-set, length-append, length-replicate, replicate-append-replicate, List·getD-eq-default}
+use lib.Seq.{drop-cons, set-at, take-all, drop-length, length-take-le}
 use borrow.Author.Tests.{le-leb}
 use Rattle.problem.specs.Lists.{total, below, splice}
 use Rattle.problem.proofs.Copies.{zeros-at, drop-zeros, splice-splice, splice-none}
@@ -19,7 +19,7 @@ use Rattle.blocks.specs.Reading.{blocksIn, contentWord, contentFrom}
 use Rattle.blocks.specs.Calls.{Put-content}
 use Rattle.files.specs.Reading.{trianglePlace}
 use Rattle.files.specs.Loops.Said.{Numbers, allowedIn, columnPart, pairPart, rowPart, afterPart, tablePart, partIn}
-use Rattle.blocks.proofs.Lists.{map-length, map-at, map-is, map-same, each-more, each-same, each-split, each-one, each-length, total-const, seq, seq-is, seq-each, seq-join}
+use Rattle.blocks.proofs.Lists.{map-length, map-at, map-is, each-more, each-same, each-split, each-one, each-length, total-const, seq, seq-is, seq-each}
 use Rattle.blocks.proofs.Contents.{content-from, length-from}
 use Rattle.blocks.proofs.reading.Filled.{from-join, content-past}
 use Rattle.files.proofs.filling.Mirrors.{after-within, part-at, pair-turned, pair-zeros, mask-at}

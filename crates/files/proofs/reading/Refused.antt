@@ -3,15 +3,14 @@
 use mathlib.Core.Path.{_≡_, refl, sym, ap, _∙_}
 use mathlib.Core.Bool.{Bool, true, false, not, cond, _&&_}
 use mathlib.Core.List.{List}
-use Prim.Native.Nat.{ℕ, _+_, _-_, _*_, _/_, _^_, _≤_, _<_}
+use Prim.Native.Nat.{ℕ, _+_, _-_, _*_, _/_, _≤_, _<_}
 use native.Mathlib.Omega.{arith}
-use native.Mathlib.Decide.{ℕ-discrete}
 use lib.Dec.{eqb, leb, ltb}
 use borrow.Author.Tests.{eqb-true, lt-ltb, le-ltb, leb-true, not-true, not-false}
 use Rattle.problem.specs.Lists.{every}
 use Rattle.problem.proofs.Tests.{and-left, and-right}
 use Rattle.search.specs.Agenda.{slotsIn}
-use Rattle.problem.specs.Tests.FirstChecks.{orElse, refusalOfNumbers, refusalOfProblem}
+use Rattle.problem.specs.Tests.FirstChecks.{refusalOfNumbers, refusalOfProblem}
 use Rattle.search.specs.Tests.FirstChecks.{refusalOfSearch, refusalOfLengths, sizesRefusal}
 use Rattle.problem.proofs.first_checks.Parts.{given-if, numbers-pass, else-first, else-rest}
 use Rattle.blocks.specs.Blocks.{blocksFor}

@@ -1,6 +1,6 @@
 -- `save` meets its contract: refused, nothing is changed; else the blocks are written.
 -- Assumes nothing.
-use mathlib.Core.Path.{refl, sym, _∙_}
+use mathlib.Core.Path.{refl, _∙_}
 use native.Mathlib.Omega.{arith}
 use borrow.Author.Needs.{needs}
 use Rattle.files.proofs.SaveOutcomes.{save-passed, save-refused, save-short, save-written, save-part}

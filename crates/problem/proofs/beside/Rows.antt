@@ -64,4 +64,3 @@ row-same n allowed V′ v r s h k = ext-getD 0 r s (h .long ∙ sym (k .long)) a
 
 pub one-row : Row-one
 one-row n d t V′ v r s h k = either (inside n d t V′ v) (λ e. row-same _ _ _ _ r s (h .within e) (k .within e)) (λ e. h .outside e ∙ sym (k .outside e))
-

@@ -24,8 +24,7 @@ use Rattle.splits.proofs.subproblem.Subproblems.{empty-at, precluded-empty}
 use Rattle.problem.proofs.Lists.{each-of}
 use Rattle.searches.specs.Chooser.{request}
 use Rattle.search.specs.Loops.Kept.{Regular}
-use Rattle.splits.specs.AtOnce.{lost}
-use Rattle.splits.specs.AtOnce.{loses}
+use Rattle.splits.specs.AtOnce.{lost, loses}
 
 -- A list of which nothing passes.
 keep-none : {A : Type 0} (f : A → Bool) (l : List A) → ((x : A) → List·Memᴰ x l → f x ≡ false) → keep f l ≡ []

@@ -28,8 +28,7 @@ use Rattle.search.specs.Agenda.{slotWords}
 use Rattle.searches.specs.Chooser.{request}
 use Rattle.search.specs.Loops.Slots.{SlotIn}
 use Rattle.search.specs.Loops.Steps.{Replaced}
-use Rattle.splits.specs.AtOnce.{outsideTo}
-use Rattle.splits.specs.AtOnce.{filled}
+use Rattle.splits.specs.AtOnce.{outsideTo, filled}
 use Rattle.search.specs.Loops.Lanes.{BeforeTo}
 use Rattle.search.specs.Loops.Found.{AtTop, RoomFor, FurtherOf, FurtherPiece, several, valueIn}
 use Rattle.search.specs.declared.chooser.Choice.{Choice}
@@ -279,7 +278,7 @@ module _ (n d : ℕ) (t : List ℕ) (P : Subproblem) (c : Choice) (below words :
         pub made-domains : length (Q .domains) ≡ 32
         unfolding without cutEach
         made-domains =
-            ap (λ (R : Subproblem). length (R .domains)) (q .2) 
+            ap (λ (R : Subproblem). length (R .domains)) (q .2)
             ∙ length-set (cutEach (f .rest) masks .domains) (j - 1) (minus (domain (cutEach (f .rest) masks) (j - 1)) (getD (f .row) (j - 1) 0))
             ∙ ap (λ (l : List ℕ). length (changed 32 (λ i m. common m (getD masks i 0)) l)) rest-domains ∙ made-long
 

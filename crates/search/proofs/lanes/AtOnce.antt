@@ -1,31 +1,26 @@
 -- The loops over all 32 masks, a turn at a time, and what they tell of a subproblem.
 -- Assumes nothing.
-use mathlib.Core.Path.{_≡_, refl, sym, ap, _∙_, subst}
+use mathlib.Core.Path.{_≡_, refl, ap, _∙_, subst}
 use mathlib.Core.Logic.{_⊎_, inl, inr, ⊎-elim}
-use mathlib.Core.Bool.{Bool, true, false, not, cond, _||_}
+use mathlib.Core.Bool.{cond}
 use mathlib.Core.List.{List}
 use Prim.Native.Nat.{ℕ, zero, suc, _+_, _-_, _*_, _^_, _≤_, _<_, min}
 use native.Mathlib.Omega.{arith}
-use native.Mathlib.Numerals.{add-one}
 use native.Mathlib.Nat.{lt-of-lt-of-le, add-zero}
 use native.Mathlib.Decide.{decLt, ℕ-discrete}
 use lib.ListN.{getD, set}
-use lib.Bits.{bitOr, or-zero-r}
 use lib.Count.{ones-le}
 use lib.Pow.{pow-mono}
-use lib.Dec.{eqb}
 use borrow.Author.Tests.{eq-eqb, ne-eqb}
-use Rattle.problem.specs.Masks.{bit, common, minus, size}
+use Rattle.problem.specs.Masks.{bit, size}
 use Rattle.problem.specs.Lists.{total, some}
 use Rattle.splits.specs.Subproblems.{domain}
 use Rattle.splits.specs.Checks.{valuesIn, others}
 use Rattle.splits.specs.declared.subproblem.Subproblem.{Subproblem}
-use Rattle.problem.proofs.mask.Masks.{bit-le, bit-or, bit-single-same, member-some, size-of-none, bit-outside}
-use Rattle.problem.proofs.Changed.{changed-more, changed-next}
+use Rattle.problem.proofs.mask.Masks.{size-of-none, bit-outside}
 use Rattle.searches.specs.Promises.{Fewest}
 use Rattle.search.specs.Loops.Kept.{Regular}
 use Rattle.search.specs.Loops.Lanes.{keyOf, LeastKey}
-use Rattle.splits.specs.AtOnce.{outsideTo}
 
 -- ---- turns of the loops
 

@@ -11,7 +11,7 @@ use lib.Seq.{length-take-le, getD-set-same, getD-set-other, getD-take, getD-appe
 use lib.Bits.{bitOr, or-zero-r}
 use lib.Pow.{pow-mono, pow-pos}
 use lib.Dec.{eqb, ltb, leb}
-use borrow.Author.Tests.{eq-eqb, ne-eqb, lt-ltb, le-ltb, eqb-true, le-leb, lt-leb}
+use borrow.Author.Tests.{lt-ltb, le-ltb, eqb-true, le-leb, lt-leb}
 use Rattle.problem.specs.Masks.{bit, common, size}
 use Rattle.problem.specs.Lists.{every}
 use Rattle.problem.proofs.mask.Masks.{bit-le, bit-ext, bit-above, bit-common, bit-or, all-set, all-common, common-none, shifted}

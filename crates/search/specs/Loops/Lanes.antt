@@ -1,14 +1,14 @@
 -- What the loops over all 32 masks at once find and make, and what is allowed beside a value of a variable, mask by mask.
 use mathlib.Core.Path.{_≡_}
 use mathlib.Core.Logic.{_⊎_}
-use mathlib.Core.Bool.{Bool, not, cond, _&&_}
+use mathlib.Core.Bool.{cond}
 use mathlib.Core.List.{List, []}
 use Prim.Native.Nat.{ℕ, _+_, _*_, _/_, _≤_, _<_}
 use lib.ListN.{length, getD}
-use lib.Dec.{eqb, ltb}
-use Rattle.problem.specs.Masks.{bit, common, minus, size}
+use lib.Dec.{ltb}
+use Rattle.problem.specs.Masks.{bit, common, size}
 use Rattle.problem.specs.Problem.{tableOf}
-use Rattle.problem.specs.Lists.{total, some, changed}
+use Rattle.problem.specs.Lists.{some}
 use Rattle.problem.specs.Beside.{RowOf}
 
 -- Sixteen variables of a set, from one on.

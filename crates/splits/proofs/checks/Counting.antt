@@ -17,8 +17,7 @@ use Rattle.splits.specs.Splits.{forbids, forbidden, instantiatedOther}
 use Rattle.splits.specs.Checks.{valuesIn, others, tried}
 use Rattle.splits.specs.Loops.Kinds.{LookedAt}
 use Rattle.splits.specs.declared.subproblem.Subproblem.{Subproblem}
-use Rattle.problem.proofs.mask.Masks.{bit-le, bit-none}
-use Rattle.problem.proofs.tables.Ranges.{word-none}
+use Rattle.problem.proofs.mask.Masks.{bit-le}
 use Rattle.problem.proofs.Tests.{some-more, some-at}
 use Rattle.splits.proofs.checks.Looking.{counted-more, counted-same, looked-all, looked-stop}
 

@@ -113,10 +113,17 @@ module _ (n : ℕ) (allowed : Table) (V′ v : ℕ) (row : List ℕ) (few : n �
         → getD (set (changed 32 whole (P .domains)) V′ (getD row V′ 0)) i 0 ≡ getD (set (changed n besides (P .domains)) V′ (single v)) i 0
     unfolding besides whole
     at i l = elim (ℕ-discrete i V′) [
-      | yes s ↦ rw (s, its .own, getD-set-same (changed 32 whole (P .domains)) V′ (single v) 0 (omega (arith, whole-long)),
-          getD-set-same (changed n besides (P .domains)) V′ (single v) 0 (omega (arith, cut-long))) refl
-      | no s ↦ rw (getD-set-other (changed 32 whole (P .domains)) V′ i (getD row V′ 0) 0 s, getD-set-other (changed n besides (P .domains)) V′ i (single v) 0 s,
-          changed-before 32 whole (P .domains) i l (omega (arith, long))) (elim (decLt i n) [
+      | yes s ↦ rw (
+        s,
+        its .own,
+        getD-set-same (changed 32 whole (P .domains)) V′ (single v) 0 (omega (arith, whole-long)),
+        getD-set-same (changed n besides (P .domains)) V′ (single v) 0 (omega (arith, cut-long)),
+      ) refl
+      | no s ↦ rw (
+        getD-set-other (changed 32 whole (P .domains)) V′ i (getD row V′ 0) 0 s,
+        getD-set-other (changed n besides (P .domains)) V′ i (single v) 0 s,
+        changed-before 32 whole (P .domains) i l (omega (arith, long)),
+      ) (elim (decLt i n) [
         | yes k ↦ rw (its .other i k s, changed-before n besides (P .domains) i k (omega (arith, long)), ne-eqb i V′ s) refl
         | no k ↦ rw (changed-after n besides (P .domains) i (omega arith), its .past i (omega arith) l) (all-common 16 (domain P i) (small i l))
       ])

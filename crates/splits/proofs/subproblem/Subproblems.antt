@@ -7,18 +7,16 @@ use Prim.Native.Nat.{ℕ, zero, suc, _+_, _-_, _*_, _%_, _^_, _≤_, _<_}
 use native.Mathlib.Nat.{one-mul, mod-eq-of-lt, le-trans, le-refl, mod-one, mod-lt, lt-irrefl}
 use native.Mathlib.Decide.{ℕ-discrete}
 use lib.ListN.{length, getD, set, List·getD-eq-default}
-use lib.Seq.{set-out, set-getD, getD-set-same, getD-set-other}
+use lib.Seq.{set-out, getD-set-same, getD-set-other}
 use lib.Bits.{bitAnd, bitOr}
 use lib.Dec.{ltb, eqb}
 use borrow.Author.Tests.{lt-ltb, eq-eqb, ne-eqb, eqb-true}
 use Rattle.problem.specs.Masks.{bit, single, minus, common}
 use Rattle.splits.specs.Subproblems.{domain, empty, allInstantiated}
 use Rattle.problem.specs.Lists.{some, every, changed}
-use Rattle.problem.specs.Problem.{Table, tableOf}
+use Rattle.problem.specs.Problem.{Table}
 use Rattle.splits.specs.Requests.{targetOf}
-use Rattle.problem.specs.Ranges.{inside}
 use Rattle.problem.proofs.Tests.{some-at, some-more, same-test, and-left, and-right, every-not, some-same}
-use Rattle.problem.proofs.tables.Ranges.{inside-true}
 use Rattle.splits.specs.Splits.{instantiate, without, cut, cutBeside, atTargets, precluded}
 use Rattle.splits.specs.declared.subproblem.Subproblem.{Subproblem}
 use native.Mathlib.Numerals.{add-one, one-add}
@@ -26,7 +24,7 @@ use native.Mathlib.Omega.{arith}
 use lib.Pow.{mod-pow-add, pow-pos}
 use Rattle.problem.proofs.mask.Masks.{not-minus, single-lt, bit-le, bit-above, shifted}
 use Rattle.splits.proofs.subproblem.Domains.{length-changed, changed-before}
-use Rattle.problem.proofs.Changed.{changed-more, changed-next}
+use Rattle.problem.proofs.Changed.{changed-more}
 
 pub domain-out : (P : Subproblem) (i : ℕ) → length (P .domains) ≡ 32 → 32 ≤ i → 0 ≡ domain P i
 domain-out P i e h = sym (List·getD-eq-default (P .domains) 0 (rw e h))

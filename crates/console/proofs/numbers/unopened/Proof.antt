@@ -8,15 +8,15 @@ use borrow.Author.Needs.{needs}
 use Rattle.console.proofs.numbers.unopened.Statement.{statement}
 use Rattle.console.proofs.numbers.unopened.Tie as tie
 
-state-of-requires : tie.Need-state-of-requires
-state-of-requires c κs = search needs
+fresh-requires : tie.Need-fresh-requires
+fresh-requires c κs = search needs
 
 unwhole-requires : tie.Need-unwhole-requires
 unwhole-requires c κs = search needs
 
 returns : tie.Need-returns
 returns c =
-    ap₂ {C = Opened} (λ (x : ℕ) (s : State). record { refusal = x; state = s }) (c .unwhole .ensures) (c .before .state-of .ensures .0)
+    ap₂ {C = Opened} (λ (x : ℕ) (s : State). record { refusal = x; state = s }) (c .unwhole .ensures) (c .before .fresh .ensures)
 
 pub unopened-spec : {M : Type 1} → statement M
-unopened-spec = tie.close (tie.spec state-of-requires unwhole-requires returns)
+unopened-spec = tie.close (tie.spec fresh-requires unwhole-requires returns)

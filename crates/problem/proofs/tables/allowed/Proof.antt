@@ -20,37 +20,37 @@ returns-3 : tie.Need-returns-3
 returns-3 c = given-same _ _ _ _ _ _ _ (c .before .before .before .if1 .left) (c .before .before .within .ensures) (c .before .if2 .left) (c .if3 .taken)
 
 mul-result : tie.Need-mul-result
-mul-result c = 
+mul-result c =
     let k = c .before .before .before .if1 .left in let e = c .before .before .within .ensures in let f = c .before .if2 .left in
     let fits = given-inside _ _ _ _ _ _ _ k e f in
     omega (arith, in-table _ _ _ _ _ _ (fits .fit) (given-place _ _ _ _ _ _ _ k e f), fits .fit .small, fits .a-value)
 
 add-result : tie.Need-add-result
-add-result c = 
+add-result c =
     let k = c .before .before .before .if1 .left in let e = c .before .before .within .ensures in let f = c .before .if2 .left in
     let fits = given-inside _ _ _ _ _ _ _ k e f in
     omega (arith, in-table _ _ _ _ _ _ (fits .fit) (given-place _ _ _ _ _ _ _ k e f), fits .fit .small, fits .a-value)
 
 mul-result-2 : tie.Need-mul-result-2
-mul-result-2 c = 
+mul-result-2 c =
     let k = c .before .before .before .if1 .left in let e = c .before .before .within .ensures in let f = c .before .if2 .left in
     let fits = given-inside _ _ _ _ _ _ _ k e f in
     omega (arith, in-table _ _ _ _ _ _ (fits .fit) (given-place _ _ _ _ _ _ _ k e f), fits .fit .small, fits .a-value)
 
 add-result-2 : tie.Need-add-result-2
-add-result-2 c = 
+add-result-2 c =
     let k = c .before .before .before .if1 .left in let e = c .before .before .within .ensures in let f = c .before .if2 .left in
     let fits = given-inside _ _ _ _ _ _ _ k e f in
     omega (arith, in-table _ _ _ _ _ _ (fits .fit) (given-place _ _ _ _ _ _ _ k e f), fits .fit .small, fits .a-value)
 
 mul-result-3 : tie.Need-mul-result-3
-mul-result-3 c = 
+mul-result-3 c =
     let k = c .before .before .before .if1 .left in let e = c .before .before .within .ensures in let f = c .before .if2 .left in
     let fits = given-inside _ _ _ _ _ _ _ k e f in
     omega (arith, in-table _ _ _ _ _ _ (fits .fit) (given-place _ _ _ _ _ _ _ k e f), fits .fit .small, fits .a-value)
 
 shared-slice-read-result : tie.Need-shared-slice-read-result
-shared-slice-read-result c = 
+shared-slice-read-result c =
     let k = c .before .before .before .before .if1 .left in let e = c .before .before .before .within .ensures in let f = c .before .before .if2 .left in
     in-table _ _ _ _ _ _ (given-inside _ _ _ _ _ _ _ k e f .fit) (given-place _ _ _ _ _ _ _ k e f) .word
 

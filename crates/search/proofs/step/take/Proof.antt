@@ -52,7 +52,7 @@ clear-slot-requires c κs =
     record {
       few = c .before .before .before .before .before .before .before .before .before .pre .0 .ready .fitting .few;
       within = take-slot _ _ _ (a .agenda .now) (a .top) _ (a .state) (c .before .before .before .before .before .before .before .before .before .pre .0) _
-    (c .before .before .before .before .refusal-of .ensures) (c .before .before .before .if1 .left);
+          (c .before .before .before .before .refusal-of .ensures) (c .before .before .before .if1 .left);
     }
 
 place-requires : tie.Need-place-requires
@@ -62,7 +62,7 @@ place-requires c κs =
     (c .before .before .before .before .before .before .before .before .refusal-of .ensures) (c .before .before .before .before .before .before .before .if1 .left) in
     record {
       reads = take-reads _ _ _ (a .agenda .now) (a .top) _ (a .state) (c .before .before .before .before .before .before .before .before .before .before .before .before .before .pre .0) _
-    (c .before .before .before .before .before .before .before .before .refusal-of .ensures) (c .before .before .before .before .before .before .before .if1 .left);
+          (c .before .before .before .before .before .before .before .before .refusal-of .ensures) (c .before .before .before .before .before .before .before .if1 .left);
       whole = c .before .before .before .before .before .before .before .before .before .before .before .before .before .pre .1;
       room = search needs;
     }
