@@ -37,8 +37,8 @@ use Rattle.files.proofs.Accepted.{words-accept}
 use Rattle.files.proofs.Promises.{load-leaves}
 use Rattle.answer.specs.Text.{refusedLine, textOf, textFrom}
 use Rattle.answer.specs.Calls.{refusalOfLoad, loadedProblem, ranOf, answer, Answers}
-use Rattle.answer.specs.Work.Writing.{Holds, Shows}
-use Rattle.answer.specs.Work.Lending.{Lends}
+use Rattle.answer.specs.Loops.Writing.{Holds, Shows}
+use Rattle.answer.specs.Loops.Lending.{Lends}
 use Rattle.answer.specs.declared.text.Text.{Text}
 
 -- What load refuses is the same for the lengths that are lent and those that the file asks for.

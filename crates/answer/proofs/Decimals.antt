@@ -9,7 +9,7 @@ use lib.ListN.{length, length-append}
 use lib.Dec.{ltb}
 use borrow.Author.Tests.{lt-ltb, le-ltb}
 use Rattle.answer.specs.Text.{decimalOf, decimal}
-use Rattle.answer.specs.Work.Writing.{Adds}
+use Rattle.answer.specs.Loops.Writing.{Adds}
 use Rattle.answer.specs.declared.text.Text.{Text}
 use Rattle.answer.proofs.Writing.{adds-both, adds-same}
 

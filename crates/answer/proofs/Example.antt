@@ -6,7 +6,7 @@ use mathlib.Core.List.{List}
 use Prim.Native.Nat.{ℕ, suc, _<_}
 use borrow.Author.Tests.{eq-eqb}
 use lib.Count.{ones, onesIn, trailingZeros}
-use Rattle.problem.specs.Masks.{bit, minus, smallest, smallerHalf}
+use Rattle.problem.specs.Masks.{bit, minus, smallestOf, smallerHalfOf}
 use Rattle.problem.specs.Problem.{tableOf, problemOf}
 use Rattle.problem.specs.Lists.{total, some, every, below, keep, changed}
 use Rattle.splits.specs.Subproblems.{empty, allInstantiated}
@@ -43,7 +43,7 @@ run-text : (more : ℕ)
 unfolding textOf wholeText verdictLine countsLine planLines planLine decimal decimalOf ascii wordOf verdictOf finished chooseFrom chosen chosenOf fewestOf opening holding
     refusalOfRequest refusalOfTop refusalOf refused-7 refused-8 refused-9 refused-10 bad someBad allSame step checksOfTop splitTop pieces filled named keep below
     forwardChecking idc instantiate without cutBeside forbids instantiatedOther forbidden precluded disjunct changed empty some every allInstantiated
-    smallest smallerHalf minus bit ones onesIn trailingZeros checks lookedAt others tried valuesIn total tableOf each
+    smallestOf smallerHalfOf minus bit ones onesIn trailingZeros checks lookedAt others tried valuesIn total tableOf each
 run-text more = refl
 
 -- A file that says it.

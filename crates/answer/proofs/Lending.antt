@@ -8,7 +8,7 @@ use Prim.Native.Nat.{ℕ, _+_, _*_, _≤_}
 use lib.ListN.{length, take}
 use lib.Seq.{length-take-le}
 use Rattle.files.specs.Reading.{saidN, saidD}
-use Rattle.answer.specs.Work.Lending.{Lends}
+use Rattle.answer.specs.Loops.Lending.{Lends}
 
 -- The largest numbers of masks.
 pub pairs-few : (n : ℕ) → n ≤ 32 → n * n ≤ 1024

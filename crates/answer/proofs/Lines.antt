@@ -18,7 +18,7 @@ use Rattle.searches.specs.declared.verdict.Verdict.{Verdict}
 use Rattle.blocks.specs.Lists.{each}
 use Rattle.blocks.proofs.Lists.{each-more, each-none, each-same}
 use Rattle.answer.specs.Text.{planLine, planOf, planLines}
-use Rattle.answer.specs.Work.Writing.{valueLines}
+use Rattle.answer.specs.Loops.Writing.{valueLines}
 
 -- The lines of masks, as lines of numbers.
 lines-each : (n : ℕ) (masks : List ℕ) → valueLines n masks ≡ each (λ i. planLine i (lowest (getD masks i 0))) (below n)

@@ -10,7 +10,7 @@ use Rattle.search.specs.Agenda.{stackOf}
 use Rattle.searches.specs.declared.verdict.Verdict.{Verdict}
 use Rattle.search.specs.declared.state.Ran.{Ran}
 use Rattle.answer.specs.Text.{verdictLine, countsLine, planLines, refusedLine, wholeText, textFrom}
-use Rattle.answer.specs.Work.Writing.{Holds, Adds}
+use Rattle.answer.specs.Loops.Writing.{Holds, Adds}
 use Rattle.answer.specs.declared.text.Text.{Text}
 use Rattle.answer.proofs.Writing.{adds-both}
 use Rattle.answer.proofs.Short.{both-short, verdict-short}

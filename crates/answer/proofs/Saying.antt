@@ -42,7 +42,7 @@ use Rattle.files.proofs.Promises.{load-14, load-15, load-none, load-leaves, loa
 use Rattle.answer.specs.Text.{decimal, decimalOf, verdictLine, countsLine, planOf, planLines, refusedLine, wholeText, textOf, textFrom}
 use Rattle.answer.specs.Calls.{refusalOfLoad, ranOf, answer}
 use Rattle.answer.specs.Promises.{Calls, Of-the-calls, Says-no-plan}
-use Rattle.answer.specs.Work.Lending.{Lends}
+use Rattle.answer.specs.Loops.Lending.{Lends}
 use Rattle.answer.proofs.Answering.{same-refusal, chosen-text, chosen-steps, chosen-checks, solved-taken}
 
 -- ---- load's refusals

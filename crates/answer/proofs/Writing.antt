@@ -8,7 +8,7 @@ use lib.ListN.{length, replicate, set, getD, take, length-append}
 use lib.Seq.{set-at, append-snoc, take-suc, take-length}
 use Rattle.problem.specs.Masks.{lowest}
 use Rattle.answer.specs.Text.{planLine}
-use Rattle.answer.specs.Work.Writing.{Holds, Adds, valueLines}
+use Rattle.answer.specs.Loops.Writing.{Holds, Adds, valueLines}
 use Rattle.answer.specs.declared.text.Text.{Text}
 
 -- Parts added one after the other are added together.

@@ -14,8 +14,8 @@ ghost use Rattle.search.specs.Agenda.{subproblemOf, slotAt};
 ghost use Rattle.searches.specs.Verdicts.{numberOf};
 ghost use Rattle.answer.specs.Text.{planOf, textFrom};
 ghost use Rattle.answer.specs.Calls.{Answers};
-ghost use Rattle.answer.specs.Work.Writing.{Holds, Adds, Shows};
-ghost use Rattle.answer.specs.Work.Lending.{Lends};
+ghost use Rattle.answer.specs.Loops.Writing.{Holds, Adds, Shows};
+ghost use Rattle.answer.specs.Loops.Lending.{Lends};
 
 // A number that is at most so much, else 0.
 fn at_most(number: usize, most: usize) -> usize

@@ -7,7 +7,7 @@ ghost use Prim.Native.Nat.{_+_, _<_, _≤_};
 ghost use lib.ListN.{length};
 ghost use Rattle.problem.specs.Masks.{lowest};
 ghost use Rattle.answer.specs.Text.{decimal, verdictLine, countsLine, planLine, refusedLine};
-ghost use Rattle.answer.specs.Work.Writing.{Holds, Adds, valueLines};
+ghost use Rattle.answer.specs.Loops.Writing.{Holds, Adds, valueLines};
 
 // So many bytes of text, zeros after it.
 pub struct Text {

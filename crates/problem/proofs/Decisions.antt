@@ -1,8 +1,8 @@
 -- Tests that decide a proposition or its contrary.
 -- Assumes nothing.
 use mathlib.Core.Path.{_≡_, refl, sym, _∙_}
-use mathlib.Core.Logic.{_⊎_, inl, inr, ⊎-elim}
-use mathlib.Core.Bool.{Bool, true, false, _&&_, _||_}
+use mathlib.Core.Logic.{_⊎_, inl, inr, ⊎-elim, _↔_}
+use mathlib.Core.Bool.{Bool, true, false, not, _&&_, _||_}
 use Prim.Native.Nat.{ℕ, zero, suc, _≤_, _<_}
 use native.Mathlib.Omega.{arith}
 use lib.Dec.{eqb, leb, ltb}
@@ -79,3 +79,18 @@ refutes-every f D n s = record {
   holds = λ e. let r = every-fails f n e in (r .0, r .1, s (r .0) (r .1) .holds (r .2));
   fails = λ e d. s (d .0) (d .1) .fails (every-at f n (d .0) (d .1) e) (d .2);
 }
+
+-- A test that gives its number where it passes, and one that does where it fails.
+pub decided : {b : Bool} {D : Type 0} → Decides b D → (b ≡ true) ↔ D
+decided {b} {D} s = go b s
+  where
+    go : (c : Bool) → Decides c D → (c ≡ true) ↔ D
+    go true s = (λ e. s .holds refl, λ x. refl)
+    go false s = (λ e. absurd (true-false (sym e)), λ x. absurd (s .fails refl x))
+
+pub refuted : {b : Bool} {D : Type 0} → Refutes b D → (not b ≡ true) ↔ D
+refuted {b} {D} s = go b s
+  where
+    go : (c : Bool) → Refutes c D → (not c ≡ true) ↔ D
+    go true s = (λ e. absurd (true-false (sym e)), λ x. absurd (s .fails refl x))
+    go false s = (λ e. s .holds refl, λ x. refl)

@@ -3,21 +3,22 @@
 use mathlib.Core.Path.{ap, _∙_}
 use Prim.Native.Nat.{ℕ}
 use Rattle.problem.specs.Masks.{bit}
-use Rattle.problem.specs.Promises.{No-constraint, Lowest-value, Smaller-half-of, Count-one, Lowest-one, Has-one, Smaller-half-one, Numbers-pass, Problem-pass, Turned-one, Only-one, Within-one, Allowed-one, Row-one, Bits-of-one, Refusal-of-numbers-one, Sizes-refusal-one, Refusal-one}
-use Rattle.problem.proofs.mask.Masks.{all-set, lowest-member, lowest-least, half-part, half-size, half-below}
+use Rattle.problem.specs.Promises.{No-constraint, Lowest-value, Smaller-half-of, Count-one, Lowest-one, Has-one, Smaller-half-one, Sizes-refusals, Problem-refusals, Numbers-pass, Problem-pass, Turned-one, Only-one, Within-one, Allowed-one, Row-one, Bits-of-one, Refusal-of-numbers-one, Sizes-refusal-one, Refusal-one}
+use Rattle.problem.proofs.mask.Masks.{all-set, trailing-member, trailing-least, half-part, half-size, half-below}
 use Rattle.problem.proofs.Answers.{one}
 use Rattle.problem.proofs.matrix.Turning
 use Rattle.problem.proofs.beside.Rows.{one-row}
+use Rattle.problem.proofs.first_checks.Order.{sizes-first, problem-first}
 use Rattle.problem.proofs.first_checks.Passing.{numbers-none, problem-none}
 
 pub no-constraint : No-constraint
 no-constraint p i j all a b k l = ap (λ (m : ℕ). bit m b) (all a k) ∙ all-set (p .d) b l
 
 pub lowest-value : Lowest-value
-lowest-value m h e = record { member = lowest-member m h e; least = λ v. lowest-least m v h }
+lowest-value w m h e = record { member = trailing-member w m h e; least = λ v. trailing-least w m v }
 
 pub smaller-half-of : Smaller-half-of
-smaller-half-of m h = (half-part m h, half-size m h, λ u v. half-below m u v h)
+smaller-half-of w m h = (half-part w m h, half-size w m h, λ u v. half-below w m u v h)
 
 pub count-one : Count-one
 count-one mask = one _
@@ -30,6 +31,12 @@ has-one mask value = one _
 
 pub smaller-half-one : Smaller-half-one
 smaller-half-one mask = one _
+
+pub sizes-refusals : Sizes-refusals
+sizes-refusals = sizes-first
+
+pub problem-refusals : Problem-refusals
+problem-refusals = problem-first
 
 pub numbers-pass : Numbers-pass
 numbers-pass = numbers-none

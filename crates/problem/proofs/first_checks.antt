@@ -1,4 +1,5 @@
 pub mod Deserved
 pub mod Joining
+pub mod Order
 pub mod Parts
 pub mod Passing

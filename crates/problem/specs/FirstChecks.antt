@@ -1,7 +1,7 @@
 -- The first checks of a problem: which numbers and words deserve refusals 1 to 5.
 use mathlib.Core.Path.{_≡_}
 use mathlib.Core.Logic.{_⊎_}
-use Prim.Native.Nat.{ℕ, _≤_, _<_}
+use Prim.Native.Nat.{ℕ, _≤_, _<_, _*_}
 use Rattle.problem.specs.Masks.{_∈_}
 use Rattle.problem.specs.Problem.{Problem}
 
@@ -12,6 +12,10 @@ Deserves-1 n = (n < 1) ⊎ (32 < n)
 -- 2: d not 1 to 16.
 abbrev pub Deserves-2 : ℕ → Type 0
 Deserves-2 d = (d < 1) ⊎ (16 < d)
+
+-- 3, of a problem alone: so many words are not its n domains, or not its n × n × d masks.
+abbrev pub Deserves-3-problem : ℕ → ℕ → ℕ → ℕ → Type 0
+Deserves-3-problem n d domains tables = (domains ≡ n → ⊥) ⊎ (tables ≡ n * n * d → ⊥)
 
 -- A mask has a bit at d or above.
 abbrev pub Over : ℕ → ℕ → Type 0

@@ -40,9 +40,12 @@ allBut d a = minus (allValues d) (single a)
 abbrev pub size : ℕ → ℕ
 size m = ones m
 
--- The lowest value of a mask that is not empty; 16, the width of a mask's word, of the empty one.
+-- The lowest value of a mask of w bits that is not empty, w of the empty one; masks have 16 bits.
+abbrev pub lowestOf : ℕ → ℕ → ℕ
+lowestOf w m = trailingZeros w m
+
 abbrev pub lowest : ℕ → ℕ
-lowest m = trailingZeros 16 m
+lowest m = lowestOf 16 m
 
 -- v is the lowest value of m.
 pub record LowestIn (m v : ℕ) : Type 0 where
@@ -50,10 +53,13 @@ pub record LowestIn (m v : ℕ) : Type 0 where
   pub least : (u : ℕ) → u ∈ m → v ≤ u
 
 -- The k smallest values of m, as long as it has k: the lowest, then the lowest of the rest, and so on.
-unfoldable pub smallest : ℕ → ℕ → ℕ
-smallest zero m = 0
-smallest (suc k) m = smallest k m + single (lowest (m - smallest k m))
+unfoldable pub smallestOf : ℕ → ℕ → ℕ → ℕ
+smallestOf w zero m = 0
+smallestOf w (suc k) m = smallestOf w k m + single (lowestOf w (m - smallestOf w k m))
 
 -- The smaller half: of k values the ⌈k / 2⌉ smallest.
-unfoldable pub smallerHalf : ℕ → ℕ
-smallerHalf m = smallest ((size m + 1) / 2) m
+unfoldable pub smallerHalfOf : ℕ → ℕ → ℕ
+smallerHalfOf w m = smallestOf w ((size m + 1) / 2) m
+
+abbrev pub smallerHalf : ℕ → ℕ
+smallerHalf m = smallerHalfOf 16 m

@@ -1,15 +1,17 @@
 -- What masks, tables and the first checks of a problem promise.
 use mathlib.Core.Path.{_≡_}
 use Prim.Native.Nat.{ℕ, _+_, _/_, _^_, _<_}
-use Rattle.problem.specs.Masks.{_∈_, Part, size, lowest, smallerHalf, LowestIn, allValues}
-use Rattle.problem.specs.Problem.{Problem}
+use Rattle.problem.specs.Masks.{_∈_, Part, size, lowestOf, smallerHalfOf, LowestIn, allValues}
+use Rattle.problem.specs.Problem.{Problem, problemOf}
 use Rattle.problem.specs.Calls.{Count, Lowest, Only, Has, Smaller-half, Within, Allowed, Row, Bits-of, Refusal-of-numbers, Sizes-refusal, Refusal}
 use Rattle.problem.specs.Answers.{One}
 use mathlib.Core.Logic.{_↔_}
-use mathlib.Core.List.{List}
+use mathlib.Core.List.{List, [], _∷_}
+use lib.ListN.{length}
 use Rattle.problem.specs.Matrix.{Turned}
-use Rattle.problem.specs.FirstChecks.{Deserves-1, Deserves-2, Deserves-4, Deserves-5}
-use Rattle.problem.specs.Tests.FirstChecks.{refusalOfNumbers, refusalOfProblem}
+use Rattle.problem.specs.FirstChecks.{Deserves-1, Deserves-2, Deserves-3-problem, Deserves-4, Deserves-5}
+use Rattle.problem.specs.Refusing.{Refusals, First-of}
+use Rattle.problem.specs.Tests.FirstChecks.{refusalOfNumbers, refusalOfProblem, problemSizes, problemRefusal}
 
 -- Where every mask has all d bits set, all values are allowed.
 abbrev pub No-constraint : Type 0
@@ -19,14 +21,14 @@ No-constraint =
 
 -- The lowest value of a mask that is not empty is a member, and no member is below it.
 abbrev pub Lowest-value : Type 0
-Lowest-value = (m : ℕ) → m < 2 ^ 16 → (m ≡ 0 → ⊥) → LowestIn m (lowest m)
+Lowest-value = (w m : ℕ) → m < 2 ^ w → (m ≡ 0 → ⊥) → LowestIn m (lowestOf w m)
 
 -- The smaller half of k values is ⌈k / 2⌉ of them, each smaller than each of the rest.
 abbrev pub Smaller-half-of : Type 0
 Smaller-half-of =
-    (m : ℕ) → m < 2 ^ 16
-    → Part (smallerHalf m) m × (size (smallerHalf m) ≡ (size m + 1) / 2)
-    × ((u v : ℕ) → u ∈ smallerHalf m → v ∈ m → (v ∈ smallerHalf m → ⊥) → u < v)
+    (w m : ℕ) → m < 2 ^ w
+    → Part (smallerHalfOf w m) m × (size (smallerHalfOf w m) ≡ (size m + 1) / 2)
+    × ((u v : ℕ) → u ∈ smallerHalfOf w m → v ∈ m → (v ∈ smallerHalfOf w m → ⊥) → u < v)
 
 -- The count of values in a mask.
 abbrev pub Count-one : Type 0
@@ -43,6 +45,22 @@ Has-one = (mask value : ℕ) → One (Has mask value)
 -- The smallest ⌈k/2⌉ values of a mask with k values.
 abbrev pub Smaller-half-one : Type 0
 Smaller-half-one = (mask : ℕ) → One (Smaller-half mask)
+
+-- ---- the first checks of a problem, in the order 1 to 5
+
+abbrev pub sizesTable : ℕ → ℕ → ℕ → ℕ → Refusals
+sizesTable n d domains tables = (1, Deserves-1 n) ∷ (2, Deserves-2 d) ∷ (3, Deserves-3-problem n d domains tables) ∷ []
+
+abbrev pub Sizes-refusals : Type 0
+Sizes-refusals = (n d domains tables : ℕ) → First-of (sizesTable n d domains tables) (problemSizes n d domains tables)
+
+abbrev pub problemTable : ℕ → ℕ → List ℕ → List ℕ → Refusals
+problemTable n d domains tables =
+    (1, Deserves-1 n) ∷ (2, Deserves-2 d) ∷ (3, Deserves-3-problem n d (length domains) (length tables))
+    ∷ (4, Deserves-4 (problemOf n d domains tables)) ∷ (5, Deserves-5 (problemOf n d domains tables)) ∷ []
+
+abbrev pub Problem-refusals : Type 0
+Problem-refusals = (n d : ℕ) (domains tables : List ℕ) → First-of (problemTable n d domains tables) (problemRefusal n d domains tables)
 
 -- The numbers pass exactly when neither 1 nor 2 is deserved.
 abbrev pub Numbers-pass : Type 0

@@ -1,7 +1,7 @@
 // A mask: a set of values, bit v for value v.
 ghost use mathlib.Core.Path.{_≡_};
 ghost use Prim.Native.Nat.{_+_, _/_, _<_, _≤_};
-ghost use Rattle.problem.specs.Masks.{size, smallest};
+ghost use Rattle.problem.specs.Masks.{size, smallestOf};
 ghost use Rattle.problem.specs.Calls.{Count, Lowest, Only, Has, Smaller-half};
 
 // The number of values in a mask.
@@ -49,7 +49,7 @@ pub fn smaller_half(mask: u16) -> u16
 // The `k` smallest values of a mask, which has so many.
 fn smallest_of(mask: u16, k: usize) -> u16
     requires { ⌜ k ≤ size mask ⌝ }
-    ensures { λ r. ⌜ r ≡ smallest k mask ⌝ }
+    ensures { λ r. ⌜ r ≡ smallestOf 16 k mask ⌝ }
 {
     let mut half: u16 = 0;
     let mut i = 0;

@@ -3,7 +3,7 @@
 use mathlib.Core.Path.{refl}
 use mathlib.Core.List.{List, List·Memᴰ, [], _∷_}
 use lib.Count.{ones, onesIn, trailingZeros}
-use Rattle.problem.specs.Masks.{bit, minus, smallest, smallerHalf}
+use Rattle.problem.specs.Masks.{bit, minus, smallestOf, smallerHalfOf}
 use Rattle.problem.specs.Problem.{possibilities}
 use Rattle.problem.specs.Lists.{product, total, some, every, below, keep, changed}
 use Rattle.splits.specs.Subproblems.{empty, allInstantiated}
@@ -34,7 +34,7 @@ pub computed : All Ends-so cases
 unfolding cases joins opening holding runFrom finished refusalOfRequest refusalOfTop refusalOf refused-7 refused-8 refused-9 refused-10 bad someBad
     allSame step checksOfTop splitTop pieces named keep below backtracking forwardChecking idc halving extraction instantiate without cut cutBeside atTargets
     forbids
-    instantiatedOther forbidden precluded disjunct extract changed empty some every allInstantiated smallest smallerHalf minus bit ones onesIn
+    instantiatedOther forbidden precluded disjunct extract changed empty some every allInstantiated smallestOf smallerHalfOf minus bit ones onesIn
     trailingZeros checks lookedAt others tried valuesIn total possibilities product verdictOf
 computed = (
   record { stops = refl; verdict = refl; sizes = refl },

@@ -4,7 +4,7 @@ use mathlib.Core.Path.{_≡_}
 use mathlib.Core.List.{List, [], _∷_}
 use Prim.Native.Nat.{ℕ}
 use lib.Count.{ones, onesIn, trailingZeros}
-use Rattle.problem.specs.Masks.{bit, minus, smallest, smallerHalf}
+use Rattle.problem.specs.Masks.{bit, minus, smallestOf, smallerHalfOf}
 use Rattle.problem.specs.Problem.{tableOf}
 use Rattle.problem.specs.Lists.{total, some, every, below, keep, changed}
 use Rattle.splits.specs.Subproblems.{empty, allInstantiated}
@@ -38,7 +38,7 @@ unfolding runRefusal refusalOfNumbers refusalOfLengths wholeSlots refusalOfReque
     domainObeys valuesAgree zerosFrom tableOf stackOf subproblemOf slotAt agendaOf stackWords slotWords requestsIn cutInto
     holding runFrom finished refusalOfRequest refusalOfTop refusalOf refused-7 refused-8 refused-9 refused-10 bad someBad allSame
     step checksOfTop splitTop pieces named keep below backtracking forwardChecking idc halving extraction instantiate without cut cutBeside atTargets forbids
-    instantiatedOther forbidden precluded disjunct extract changed empty some every allInstantiated smallest smallerHalf minus bit ones onesIn
+    instantiatedOther forbidden precluded disjunct extract changed empty some every allInstantiated smallestOf smallerHalfOf minus bit ones onesIn
     trailingZeros
     checks lookedAt others tried valuesIn total verdictOf
 says after r h =

@@ -43,7 +43,7 @@ module _ {p : Problem} {P : Subproblem} {x : ℕ} (held : Held p P) (at : Divisi
   half-sizes =
       let word = domain-lt held x (at .below) in
       let upper : size (common (domain P x) half) ≡ (size (domain P x) + 1) / 2 =
-      rw (part-common half (domain P x) (half-part (domain P x) word)) (half-size (domain P x) word) in
+      rw (part-common half (domain P x) (half-part 16 (domain P x) word)) (half-size 16 (domain P x) word) in
       omega (arith, at .several, size-split (domain P x) half, size-some (domain P x) (held .rules .filled x (at .below)))
 
   -- P with a smaller domain of V is a piece.

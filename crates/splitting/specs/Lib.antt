@@ -1,3 +1,4 @@
+-- What a split keeps, to be read in this order.
 pub mod Measure
 pub mod Promises
 pub mod Shortcuts

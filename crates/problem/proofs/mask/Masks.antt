@@ -13,7 +13,7 @@ use lib.Count.{ones, ones-step, trailingZeros, under}
 use lib.Pow.{pow-mono, pow-lt, pow-pos, shr-shr}
 use borrow.Author.Tests.{lt-ltb}
 use Rattle.problem.specs.Calls.{Only}
-use Rattle.problem.specs.Masks.{bit, _∈_, Part, single, common, minus, allValues, size, lowest, smallest, smallerHalf}
+use Rattle.problem.specs.Masks.{bit, _∈_, Part, single, common, minus, allValues, size, lowest, lowestOf, smallestOf, smallerHalfOf}
 
 -- ---- a mask by its digits
 
@@ -339,46 +339,46 @@ kept-more k m s v q h least = record {
     old : (u : ℕ) → (u ≡ v → ⊥) → u ∈ s + single v → u ∈ s
     old u f hu = omega (arith, bit-add s (single v) u apart, bit-single-other v u f)
 
-kept : (k m : ℕ) → m < 2 ^ 16 → k ≤ size m → Kept k m (smallest k m)
-unfolding smallest
-kept zero m l h = record {
+kept : (w k m : ℕ) → m < 2 ^ w → k ≤ size m → Kept k m (smallestOf w k m)
+unfolding smallestOf
+kept w zero m l h = record {
   part = λ v k. absurd (member-some 0 v k refl);
   count = size-of-none;
   below = λ u v k. absurd (member-some 0 u k refl);
 }
-kept (suc k) m l h =
-    let s : ℕ = smallest k m in
-    let q : Kept k m s = kept k m l (omega arith) in
+kept w (suc k) m l h =
+    let s : ℕ = smallestOf w k m in
+    let q : Kept k m s = kept w k m l (omega arith) in
     let more : 1 ≤ size (minus m s) = omega (arith, rw (part-common s m (q .part)) at (size-split m s), q .count) in
     let some : minus m s ≡ 0 → ⊥ = λ e. omega (arith, size-of-none, rw e at more) in
-    let fits : minus m s < 2 ^ 16 = part-lt 16 (minus m s) m (minus-part m s) l in
+    let fits : minus m s < 2 ^ w = part-lt w (minus m s) m (minus-part m s) l in
     rw (part-rest s m (q .part))
-    (kept-more k m s (lowest (minus m s)) q (lowest-member (minus m s) fits some) (λ u. lowest-least (minus m s) u fits))
+    (kept-more k m s (lowestOf w (minus m s)) q (trailing-member w (minus m s) fits some) (λ u. trailing-least w (minus m s) u))
 
-pub smallest-part : (k m : ℕ) → m < 2 ^ 16 → k ≤ size m → Part (smallest k m) m
-smallest-part k m l h = kept k m l h .part
+pub smallest-part : (w k m : ℕ) → m < 2 ^ w → k ≤ size m → Part (smallestOf w k m) m
+smallest-part w k m l h = kept w k m l h .part
 
-pub smallest-size : (k m : ℕ) → m < 2 ^ 16 → k ≤ size m → size (smallest k m) ≡ k
-smallest-size k m l h = kept k m l h .count
+pub smallest-size : (w k m : ℕ) → m < 2 ^ w → k ≤ size m → size (smallestOf w k m) ≡ k
+smallest-size w k m l h = kept w k m l h .count
 
 -- Every value kept is smaller than every value left.
-pub smallest-below : (k m u v : ℕ) → m < 2 ^ 16 → k ≤ size m → u ∈ smallest k m → v ∈ m → (v ∈ smallest k m → ⊥) → u < v
-smallest-below k m u v l h = kept k m l h .below u v
+pub smallest-below : (w k m u v : ℕ) → m < 2 ^ w → k ≤ size m → u ∈ smallestOf w k m → v ∈ m → (v ∈ smallestOf w k m → ⊥) → u < v
+smallest-below w k m u v l h = kept w k m l h .below u v
 
-pub smallest-rest : (k m : ℕ) → m < 2 ^ 16 → k ≤ size m → m - smallest k m ≡ minus m (smallest k m)
-smallest-rest k m l h = part-rest (smallest k m) m (smallest-part k m l h)
+pub smallest-rest : (w k m : ℕ) → m < 2 ^ w → k ≤ size m → m - smallestOf w k m ≡ minus m (smallestOf w k m)
+smallest-rest w k m l h = part-rest (smallestOf w k m) m (smallest-part w k m l h)
 
-pub half-part : (m : ℕ) → m < 2 ^ 16 → Part (smallerHalf m) m
-unfolding smallerHalf
-half-part m l = smallest-part ((size m + 1) / 2) m l (omega arith)
+pub half-part : (w m : ℕ) → m < 2 ^ w → Part (smallerHalfOf w m) m
+unfolding smallerHalfOf
+half-part w m l = smallest-part w ((size m + 1) / 2) m l (omega arith)
 
-pub half-size : (m : ℕ) → m < 2 ^ 16 → size (smallerHalf m) ≡ (size m + 1) / 2
-unfolding smallerHalf
-half-size m l = smallest-size ((size m + 1) / 2) m l (omega arith)
+pub half-size : (w m : ℕ) → m < 2 ^ w → size (smallerHalfOf w m) ≡ (size m + 1) / 2
+unfolding smallerHalfOf
+half-size w m l = smallest-size w ((size m + 1) / 2) m l (omega arith)
 
-pub half-below : (m u v : ℕ) → m < 2 ^ 16 → u ∈ smallerHalf m → v ∈ m → (v ∈ smallerHalf m → ⊥) → u < v
-unfolding smallerHalf
-half-below m u v l = smallest-below ((size m + 1) / 2) m u v l (omega arith)
+pub half-below : (w m u v : ℕ) → m < 2 ^ w → u ∈ smallerHalfOf w m → v ∈ m → (v ∈ smallerHalfOf w m → ⊥) → u < v
+unfolding smallerHalfOf
+half-below w m u v l = smallest-below w ((size m + 1) / 2) m u v l (omega arith)
 
 -- the bit that the code shifts up
 pub shifted : (n : ℕ) → n ≤ 32 → 1 * 2 ^ n % 2 ^ 64 ≡ 2 ^ n

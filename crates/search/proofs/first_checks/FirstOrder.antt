@@ -1,7 +1,6 @@
 -- The first checks of the three calls: the number they give is the first that is deserved.
 -- Assumes nothing.
 use mathlib.Core.Path.{_≡_, refl, sym, subst}
-use mathlib.Core.Logic.{_↔_}
 use mathlib.Core.Bool.{Bool, true, false, not, cond, _&&_, _||_}
 use mathlib.Core.List.{List, [], _∷_}
 use Prim.Native.Nat.{ℕ, _+_, _*_, _%_}
@@ -10,33 +9,15 @@ use lib.Dec.{eqb, leb, ltb}
 use Rattle.problem.specs.Problem.{Problem, problemOf}
 use Rattle.problem.specs.Refusing.{First-of}
 use Rattle.problem.proofs.Refusing.{first-by}
-use Rattle.problem.proofs.Tests.{true-false}
 use Rattle.search.specs.Agenda.{stackOf, slotsIn}
 use Rattle.search.specs.FirstChecks.{WholeRequests, Deserves-3}
 use Rattle.problem.specs.Tests.FirstChecks.{refusalOfNumbers, masksBelow, symmetric, refusalOfProblem, orElse}
 use Rattle.search.specs.Tests.FirstChecks.{wholeSlots, refusalOfLengths, refusalOfRequests, allObey, zerosFrom, refusalOfSearch, openRefusal, searchRefusal, runRefusal}
 use Rattle.search.specs.Promises.{openTable, searchTable, runTable}
-use Rattle.problem.proofs.Decisions.{Decides, Refutes, refutes-and}
+use Rattle.problem.proofs.Decisions.{decided, refuted, refutes-and}
 use Rattle.problem.proofs.first_checks.Deserved.{decides-1, decides-2, refutes-4, refutes-5}
 use Rattle.search.proofs.first_checks.Deserved.{refutes-3, refutes-requests, refutes-6}
 use Rattle.problem.proofs.first_checks.Passing.{proper-where}
-
--- ---- tests in a chain
-
--- A test that gives its number where it passes, and one that does where it fails.
-decided : {b : Bool} {D : Type 0} → Decides b D → (b ≡ true) ↔ D
-decided {b} {D} s = go b s
-  where
-    go : (c : Bool) → Decides c D → (c ≡ true) ↔ D
-    go true s = (λ e. s .holds refl, λ x. refl)
-    go false s = (λ e. absurd (true-false (sym e)), λ x. absurd (s .fails refl x))
-
-refuted : {b : Bool} {D : Type 0} → Refutes b D → (not b ≡ true) ↔ D
-refuted {b} {D} s = go b s
-  where
-    go : (c : Bool) → Refutes c D → (not c ≡ true) ↔ D
-    go true s = (λ e. absurd (true-false (sym e)), λ x. absurd (s .fails refl x))
-    go false s = (λ e. s .holds refl, λ x. refl)
 
 -- Opening's five tests, one after the other: each gives its number where those before it passed.
 abbrev open-tests : Bool → Bool → Bool → Bool → Bool → ℕ

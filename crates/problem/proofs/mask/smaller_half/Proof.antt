@@ -1,6 +1,6 @@
 -- `splits::mask::smaller_half` meets its contract.
 -- Assumes nothing.
-use Rattle.problem.specs.Masks.{smallerHalf, smallest}
+use Rattle.problem.specs.Masks.{smallerHalfOf, smallestOf}
 use lib.Count.{ones-le}
 use Prim.Native.Nat.{ℕ, _+_, _/_}
 use mathlib.Core.Path.{_∙_, ap}
@@ -19,8 +19,8 @@ smallest-of-requires : tie.Need-smallest-of-requires
 smallest-of-requires c κs = omega (arith, c .count .ensures)
 
 returns : tie.Need-returns
-unfolding smallerHalf
-returns c = c .smallest-of .ensures ∙ ap (λ (x : ℕ). smallest ((x + 1) / 2) (c .before .before .args .mask)) (c .before .count .ensures)
+unfolding smallerHalfOf
+returns c = c .smallest-of .ensures ∙ ap (λ (x : ℕ). smallestOf 16 ((x + 1) / 2) (c .before .before .args .mask)) (c .before .count .ensures)
 
 pub smaller-half-spec : {M : Type 1} → statement M
 smaller-half-spec =

@@ -4,7 +4,7 @@ use native.Mathlib.Omega.{arith}
 use mathlib.Core.Path.{_≡_, refl, ap}
 use Prim.Native.Nat.{_≤_, _-_}
 use lib.ListN.{length}
-use Rattle.answer.specs.Work.Writing.{Adds, valueLines}
+use Rattle.answer.specs.Loops.Writing.{Adds, valueLines}
 use Rattle.answer.proofs.Writing.{adds-none, adds-line, adds-same}
 use borrow.Author.Needs.{needs}
 use Rattle.answer.proofs.text.Text.with_plan.Statement.{statement}

@@ -4,7 +4,7 @@ use mathlib.Core.Path.{_≡_, refl}
 use native.Mathlib.Omega.{arith}
 use Prim.Native.Nat.{_≤_, _-_}
 use lib.ListN.{length, take}
-use Rattle.answer.specs.Work.Writing.{Adds}
+use Rattle.answer.specs.Loops.Writing.{Adds}
 use Rattle.answer.proofs.Writing.{adds-none, adds-next, adds-word}
 use borrow.Author.Needs.{needs}
 use Rattle.answer.proofs.text.Text.with_word.Statement.{statement}
