@@ -1,1 +1,6 @@
+mod Tables
+mod Calling
+mod Standing
+mod Saying
+mod Cutting
 pub mod Promises
