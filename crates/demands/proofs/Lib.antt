@@ -3,4 +3,5 @@ mod Calling
 mod Standing
 mod Saying
 mod Cutting
+mod Refusing
 pub mod Promises
