@@ -4,4 +4,5 @@ mod Standing
 mod Saying
 mod Cutting
 mod Refusing
+mod Wording
 pub mod Promises
