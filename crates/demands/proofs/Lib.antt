@@ -5,4 +5,5 @@ mod Saying
 mod Cutting
 mod Refusing
 mod Wording
+mod ForC
 pub mod Promises

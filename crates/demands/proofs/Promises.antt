@@ -6,11 +6,12 @@ use Prim.Native.Nat.{ℕ}
 use Rattle.searches.specs.Promises.{Has-solution}
 use Rattle.files.proofs.Promises.{unsolvable-run, unsolvable-choose, lived-solvable, lived-steps}
 use Rattle.console.specs.Searches.{Outcome, Way, by-requests, by-chooser}
-use Rattle.demands.specs.Promises.{Lent, Calls, rattle, stateIn, problem, Demands}
+use Rattle.demands.specs.Promises.{Lent, Calls, rattle, stateIn, problem, Demands, Held-by-both}
 use Rattle.demands.proofs.Calling.{passed}
 use Rattle.demands.proofs.Saying.{said}
 use Rattle.demands.proofs.Refusing.{opening-so, saving-so, loading-so}
 use Rattle.demands.proofs.Cutting.{journey-ends}
+use Rattle.demands.proofs.ForC.{for-C-holds}
 
 no-plan-so : (opened : List ℕ) (m : Lent) (way : Way) (o : Outcome) → rattle .Begun opened m → rattle .Going-on m way o → o .verdict ≡ 3
     → Has-solution (problem rattle (record { n = m .n; d = m .d; domains = m .domains; tables = opened; held = m .held })) → ⊥
@@ -32,3 +33,6 @@ in-rattle = record {
   solvable = λ opened m life. lived-solvable (m .n) (m .d) (m .domains) opened (m .tables) (m .held .agenda) (stateIn (m .held)) life;
   limit = λ opened m life. lived-steps (m .n) (m .d) (m .domains) opened (m .tables) (m .held .agenda) (stateIn (m .held)) life .2;
 }
+
+pub held-by-both : Held-by-both
+held-by-both = (in-rattle, for-C-holds)
