@@ -1,0 +1,38 @@
+-- The three demands, proved.
+-- Assumes nothing.
+use mathlib.Core.Path.{_≡_, sym, _∙_}
+use mathlib.Core.List.{List}
+use Prim.Native.Nat.{ℕ}
+use Rattle.searches.specs.Promises.{Has-solution}
+use Rattle.files.proofs.Promises.{unsolvable-run, unsolvable-choose, lived-solvable, lived-steps}
+use Rattle.console.specs.Searches.{Outcome, Way, by-requests, by-chooser}
+use Rattle.demands.specs.Promises.{Lent, Calls, rattle, stateIn, problem, Demands, Held-by-both}
+use Rattle.demands.proofs.Calling.{passed}
+use Rattle.demands.proofs.Saying.{said}
+use Rattle.demands.proofs.Refusing.{opening-so, saving-so, loading-so}
+use Rattle.demands.proofs.Cutting.{journey-ends}
+use Rattle.demands.proofs.ForC.{for-C-holds}
+
+no-plan-so : (opened : List ℕ) (m : Lent) (way : Way) (o : Outcome) → rattle .Begun opened m → rattle .Going-on m way o → o .verdict ≡ 3
+    → Has-solution (problem rattle (record { n = m .n; d = m .d; domains = m .domains; tables = opened; held = m .held })) → ⊥
+no-plan-so opened m (by-requests l) o life g e =
+    unsolvable-run (m .n) (m .d) (m .domains) opened (m .tables) (m .held .agenda) (o .held .agenda) l (stateIn (m .held)) (g .0) life (g .2)
+    (sym (g .1 .its-verdict) ∙ e)
+no-plan-so opened m (by-chooser k) o life g e =
+    unsolvable-choose (m .n) (m .d) (m .domains) opened (m .tables) (m .held .agenda) (o .held .agenda) k (stateIn (m .held)) (g .0) life (g .2)
+    (sym (g .1 .its-verdict) ∙ e)
+
+in-rattle : Demands rattle
+in-rattle = record {
+  opening = opening-so;
+  saving = λ m file after blocks k h. saving-so m file after blocks k h;
+  loading = λ file m x k h. loading-so file m x k h;
+  going-on = said;
+  no-plan = no-plan-so;
+  cuts = λ m way refused taken whole end g some j. journey-ends m way refused taken whole end g (passed m way whole g some) j;
+  solvable = λ opened m life. lived-solvable (m .n) (m .d) (m .domains) opened (m .tables) (m .held .agenda) (stateIn (m .held)) life;
+  limit = λ opened m life. lived-steps (m .n) (m .d) (m .domains) opened (m .tables) (m .held .agenda) (stateIn (m .held)) life .2;
+}
+
+pub held-by-both : Held-by-both
+held-by-both = (in-rattle, for-C-holds)

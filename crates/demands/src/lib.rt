@@ -1,0 +1,1 @@
+// The three demands on one page: theory alone, no function.
