@@ -4,7 +4,7 @@ use mathlib.Core.Path.{_≡_, refl, sym, ap, ap₂, subst, _∙_}
 use mathlib.Core.Logic.{_⊎_, inl, inr, ⊎-elim, _↔_}
 use mathlib.Core.Bool.{Bool, true, false, cond}
 use mathlib.Core.List.{List, [], _∷_, _++_}
-use Prim.Native.Nat.{ℕ, _+_, _-_, _*_, _≤_, _<_, min}
+use Prim.Native.Nat.{ℕ, _+_, _-_, _*_, _/_, _≤_, _<_, min}
 use native.Mathlib.Omega.{arith}
 use native.Mathlib.Decide.{ℕ-discrete}
 use lib.ListN.{length, getD, take, drop}
@@ -30,7 +30,11 @@ use Rattle.search.proofs.Promises.{slots-lawful, none-if-run, none-if-choose, r
 use Rattle.console.specs.Searches.{Held, Outcome, Way, by-requests, by-chooser}
 use Rattle.console.proofs.Going.{alone, outcome-is}
 use Rattle.console.proofs.Living.{state-out}
-use Rattle.demands.specs.Promises.{Lent, Calls, rattle, stateIn, Goes, problem, search, room, asked, front}
+use Rattle.demands.specs.Promises.{Lent, Calls, rattle, stateIn, Goes, problem, search, asked, front}
+
+-- The slots that are lent.
+abbrev pub room : Lent → ℕ
+room m = length (m .held .agenda) / (m .n + 2)
 
 -- Its first checks, and where it stops.
 unfoldable pub firstOf : Lent → Way → ℕ
@@ -40,8 +44,8 @@ firstOf m (by-chooser k) =
     searchRefusal (m .n) (m .d) (m .domains) (m .tables) (m .held .agenda) (m .held .steps) (m .held .checks) (m .held .subproblems)
 
 unfoldable pub stoppedOf : Lent → Way → Stopped
-stoppedOf m (by-requests l) = run (problem rattle m) (slots (room rattle m)) (requestsIn (m .n) l) (search rattle m (m .held))
-stoppedOf m (by-chooser k) = choose (problem rattle m) (slots (room rattle m)) k (search rattle m (m .held))
+stoppedOf m (by-requests l) = run (problem rattle m (m .tables)) (slots (room m)) (requestsIn (m .n) l) (search rattle m (m .held))
+stoppedOf m (by-chooser k) = choose (problem rattle m (m .tables)) (slots (room m)) k (search rattle m (m .held))
 
 abbrev pub EndsSo : Lent → Way → List ℕ → Ran → Type 0
 EndsSo m way after r = Ends (firstOf m way) (m .n) (m .held .agenda) after (stateIn (m .held)) (stoppedOf m way) r
@@ -57,10 +61,10 @@ ends-goes m (by-requests l) after r g = g
 ends-goes m (by-chooser k) after r g = g
 
 -- It is a run of what is asked for.
-pub stopped-is : (m : Lent) (way : Way) → stoppedOf m way ≡ run (problem rattle m) (slots (room rattle m)) (asked rattle m way) (search rattle m (m .held))
+pub stopped-is : (m : Lent) (way : Way) → stoppedOf m way ≡ run (problem rattle m (m .tables)) (slots (room m)) (asked rattle m way) (search rattle m (m .held))
 unfolding stoppedOf
 stopped-is m (by-requests l) = refl
-stopped-is m (by-chooser k) = picks-so (problem rattle m) (slots (room rattle m)) k (search rattle m (m .held))
+stopped-is m (by-chooser k) = picks-so (problem rattle m (m .tables)) (slots (room m)) k (search rattle m (m .held))
 
 -- What is returned and left by a call, whatever it is handed.
 pub some-call : (m : Lent) (way : Way) → (after : List ℕ) × (r : Ran) × Goes m way after r
@@ -191,18 +195,18 @@ passes-first m (by-chooser k) h w = h .passes
 pub left-so : (m : Lent) (way : Way) → Passing m → Whole-way (m .n) way → (after : List ℕ) (r : Ran) → Goes m way after r
     → Leaves (m .n) (m .d) (m .domains) (m .tables) (m .held .agenda) after (r .state) (stoppedOf m way .search)
     × Verdict-says (m .n) (m .d) (m .domains) (m .tables) after r
-    × Passes (problem rattle m) (slots (room rattle m)) (stoppedOf m way .search)
+    × Passes (problem rattle m (m .tables)) (slots (room m)) (stoppedOf m way .search)
 unfolding stoppedOf
 left-so m (by-requests l) h w after r g = (
   run-leaves (m .n) (m .d) (m .domains) (m .tables) (m .held .agenda) after l (stateIn (m .held)) r h g .0 w,
   run-says (m .n) (m .d) (m .domains) (m .tables) (m .held .agenda) after l (stateIn (m .held)) r h w g,
-  run-passes (problem rattle m) (slots (room rattle m)) (slots-lawful (room rattle m)) (requestsIn (m .n) l) (search rattle m (m .held))
+  run-passes (problem rattle m (m .tables)) (slots (room m)) (slots-lawful (room m)) (requestsIn (m .n) l) (search rattle m (m .held))
       (handed-passes (m .n) (m .d) (m .domains) (m .tables) (m .held .agenda) (stateIn (m .held)) h),
 )
 left-so m (by-chooser k) h w after r g = (
   chooser-leaves (m .n) (m .d) (m .domains) (m .tables) (m .held .agenda) after k (stateIn (m .held)) r h g,
   chooser-says (m .n) (m .d) (m .domains) (m .tables) (m .held .agenda) after k (stateIn (m .held)) r h g,
-  chooser-passes (problem rattle m) (slots (room rattle m)) (slots-lawful (room rattle m)) k (search rattle m (m .held))
+  chooser-passes (problem rattle m (m .tables)) (slots (room m)) (slots-lawful (room m)) k (search rattle m (m .held))
       (handed-passes (m .n) (m .d) (m .domains) (m .tables) (m .held .agenda) (stateIn (m .held)) h),
 )
 
@@ -217,7 +221,7 @@ module _ (m : Lent) (way : Way) (o : Outcome) (g : rattle .Going-on m way o) (z 
   pub search-left : search rattle m (o .held) ≡ stoppedOf m way .search
   search-left = ap (searchOf (m .n) (o .held .agenda)) (sym state-is) ∙ left-so m way (both .0) (both .1) (o .held .agenda) (g .0) (g .2) .0 .search
 
-  pub passes-left : Passes (problem rattle m) (slots (room rattle m)) (stoppedOf m way .search)
+  pub passes-left : Passes (problem rattle m (m .tables)) (slots (room m)) (stoppedOf m way .search)
   passes-left = left-so m way (both .0) (both .1) (o .held .agenda) (g .0) (g .2) .2
 
   pub says-so : Verdict-says (m .n) (m .d) (m .domains) (m .tables) (o .held .agenda) (g .0)

@@ -41,7 +41,7 @@ pub opening-so : (m : Lent) (x : Held) (k : ℕ) → rattle .Opening m x k
 opening-so m x k h =
     let first = openRefusal (m .n) (m .d) (m .domains) (m .tables) (m .held .agenda) in (
       subst (First-of (checks rattle m [] [])) (sym (h .refusal))
-          (in-third 1 2 3 _ _ _ _ ((4, Deserves-4 (problem rattle m)) ∷ (5, Deserves-5 (problem rattle m)) ∷ []) _ (lengths-there (m .n) (m .d) m) (lengths-back (m .n) (m .d) m) refl
+          (in-third 1 2 3 _ _ _ _ ((4, Deserves-4 (problem rattle m (m .tables))) ∷ (5, Deserves-5 (problem rattle m (m .tables))) ∷ []) _ (lengths-there (m .n) (m .d) m) (lengths-back (m .n) (m .d) m) refl
           (open-refusals (m .n) (m .d) (m .domains) (m .tables) (m .held .agenda))),
       (λ f.
       let test = ne-eqb first 0 (λ e. f (h .refusal ∙ e)) in
@@ -95,14 +95,14 @@ module _ (m : Lent) (file : List ℕ) where
       same-first last)
 
   pub saving-so : (after : List ℕ) (blocks k : ℕ) → rattle .Saving m (m .held) file after blocks k
-      → First-of (checks rattle m [] ((6, Deserves-6 (problem rattle m) (m .held .agenda) (m .held .steps) (m .held .checks) (m .held .subproblems)) ∷ (13, Short) ∷ [])) k
+      → First-of (checks rattle m [] ((6, Deserves-6 (problem rattle m (m .tables)) (m .held .agenda) (m .held .steps) (m .held .checks) (m .held .subproblems)) ∷ (13, Short) ∷ [])) k
       × ((k ≡ 0 → ⊥) → (after ≡ file) × (blocks ≡ 0))
   unfolding number
   saving-so after blocks k h = (
-    subst (First-of (checks rattle m [] ((6, Deserves-6 (problem rattle m) (m .held .agenda) (m .held .steps) (m .held .checks) (m .held .subproblems)) ∷ (13, Short) ∷ [])))
+    subst (First-of (checks rattle m [] ((6, Deserves-6 (problem rattle m (m .tables)) (m .held .agenda) (m .held .steps) (m .held .checks) (m .held .subproblems)) ∷ (13, Short) ∷ [])))
         (sym (h .refusal))
         (in-third 1 2 3 _ _ _ _
-        ((4, Deserves-4 (problem rattle m)) ∷ (5, Deserves-5 (problem rattle m)) ∷ (6, Deserves-6 (problem rattle m) (m .held .agenda) (m .held .steps) (m .held .checks) (m .held .subproblems)) ∷ (13, Short) ∷ [])
+        ((4, Deserves-4 (problem rattle m (m .tables))) ∷ (5, Deserves-5 (problem rattle m (m .tables))) ∷ (6, Deserves-6 (problem rattle m (m .tables)) (m .held .agenda) (m .held .steps) (m .held .checks) (m .held .subproblems)) ∷ (13, Short) ∷ [])
         _ (lengths-there (m .n) (m .d) m) (lengths-back (m .n) (m .d) m) refl save-table),
     (λ f.
     let test = ne-eqb number 0 (λ e. f (h .refusal ∙ e)) in

@@ -20,8 +20,8 @@ use Rattle.search.specs.Slots.{slots}
 use Rattle.files.proofs.Requests.{requests-append}
 use Rattle.console.specs.Searches.{Way, by-requests, by-chooser}
 use Rattle.console.proofs.Standing.{requests-number}
-use Rattle.demands.specs.Promises.{Lent, rattle, problem, search, room, front}
-use Rattle.demands.proofs.Calling.{stoppedOf, Whole-way}
+use Rattle.demands.specs.Promises.{Lent, rattle, problem, search, front}
+use Rattle.demands.proofs.Calling.{room, stoppedOf, Whole-way}
 
 module _ (p : Problem) (M : Machine) where
   -- A run that took none left the search, one that took one took a step.
@@ -68,12 +68,12 @@ alone-stops m (by-requests l) (j, e) =
     let n : ℕ = m .n in
     let rs = requestsIn n l in
     let s = search rattle m (m .held) in
-    let t : ℕ = run (problem rattle m) (slots (room rattle m)) rs s .taken in
-    let few : t ≤ j = omega (arith, stops (problem rattle m) (slots (room rattle m)) rs s .0, requests-number n l j e) in
+    let t : ℕ = run (problem rattle m (m .tables)) (slots (room m)) rs s .taken in
+    let few : t ≤ j = omega (arith, stops (problem rattle m (m .tables)) (slots (room m)) rs s .0, requests-number n l j e) in
     let (long, front, rest) = front-requests n l j t e few in
-    rw (one-mul (t * (n + 3))) ((t, long), ap (λ (qs : List (List ℕ)). run (problem rattle m) (slots (room rattle m)) qs s) front ∙ taken-alone (problem rattle m) (slots (room rattle m)) rs s)
+    rw (one-mul (t * (n + 3))) ((t, long), ap (λ (qs : List (List ℕ)). run (problem rattle m (m .tables)) (slots (room m)) qs s) front ∙ taken-alone (problem rattle m (m .tables)) (slots (room m)) rs s)
 alone-stops m (by-chooser k) w =
     let s = search rattle m (m .held) in
-    let t : ℕ = choose (problem rattle m) (slots (room rattle m)) k s .taken in
-    let least : min t k ≡ t = omega (arith, choose-stops (problem rattle m) (slots (room rattle m)) k s .0) in
-    (tt, ap (λ (i : ℕ). choose (problem rattle m) (slots (room rattle m)) i s) least ∙ chosen-alone (problem rattle m) (slots (room rattle m)) k s)
+    let t : ℕ = choose (problem rattle m (m .tables)) (slots (room m)) k s .taken in
+    let least : min t k ≡ t = omega (arith, choose-stops (problem rattle m (m .tables)) (slots (room m)) k s .0) in
+    (tt, ap (λ (i : ℕ). choose (problem rattle m (m .tables)) (slots (room m)) i s) least ∙ chosen-alone (problem rattle m (m .tables)) (slots (room m)) k s)
