@@ -83,16 +83,19 @@ some-call m way =
         subproblems = cond (eqb first 0) (length (x .search .memory)) (m .held .subproblems);
       };
     } in
-    let after : List ℕ = cond (eqb first 0) (agendaOf (m .n) (length (m .held .agenda)) (x .search .memory)) (m .held .agenda) in
-    (after, r, ends-goes m way after r (record {
-      verdict = refl;
-      refusal = refl;
-      taken = refl;
-      steps = refl;
-      checks = refl;
-      subproblems = refl;
-      agenda = refl;
-    }))
+    let after : List ℕ = cond (eqb first 0) (agendaOf (m .n) (length (m .held .agenda)) (x .search .memory)) (m .held .agenda) in (
+      after,
+      r,
+      ends-goes m way after r (record {
+        verdict = refl;
+        refusal = refl;
+        taken = refl;
+        steps = refl;
+        checks = refl;
+        subproblems = refl;
+        agenda = refl;
+      }),
+    )
 
 -- What goes out of a call that returns r and leaves an agenda.
 abbrev pub outOf : List ℕ → Ran → Outcome

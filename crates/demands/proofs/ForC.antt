@@ -210,8 +210,8 @@ opening-for-C m x k (h, bytes) = (
         (unwhole-found (m .n) (m .d) (Deserves-3 for-C (m .n) (m .d) m []) (from-4 m []) (inr f)))
   ],
   (λ f.
-  let (a, b, c, e) = open-refused (m .n) (m .d) (m .domains) (m .tables) (m .held .agenda) (x .agenda) (x .steps) (x .checks) (x .subproblems) k bytes h f in
-  (λ i. record { agenda = a i; steps = b i; checks = c i; subproblems = e i })),
+      let (a, b, c, e) = open-refused (m .n) (m .d) (m .domains) (m .tables) (m .held .agenda) (x .agenda) (x .steps) (x .checks) (x .subproblems) k bytes h f in
+      (λ i. record { agenda = a i; steps = b i; checks = c i; subproblems = e i })),
 )
 
 abbrev thirteen : Lent → List ℕ → Refusals
@@ -274,16 +274,16 @@ loading-for-C file m x k (h, bytes) = (
         (unwhole-file-found file (Deserves-3 for-C (saidN file) (saidD file) m []) ((12, Deserves-12-load file (wordsOf (m .held .agenda))) ∷ []) (inr f)))
   ],
   (λ f.
-  let (a, b, c, n, d, steps, checks, count) =
-  load-refused file (m .domains) (x .domains) (m .tables) (x .tables) (m .held .agenda) (x .held .agenda) (x .n) (x .d) (x .held .steps) (x .held .checks)
-  (x .held .subproblems) k (bytes .0) (bytes .1) (bytes .2) h f in
-  (λ i. record {
-    n = n i;
-    d = d i;
-    domains = a i;
-    tables = b i;
-    held = record { agenda = c i; steps = steps i; checks = checks i; subproblems = count i };
-  })),
+      let (a, b, c, n, d, steps, checks, count) =
+      load-refused file (m .domains) (x .domains) (m .tables) (x .tables) (m .held .agenda) (x .held .agenda) (x .n) (x .d) (x .held .steps) (x .held .checks)
+      (x .held .subproblems) k (bytes .0) (bytes .1) (bytes .2) h f in
+      (λ i. record {
+        n = n i;
+        d = d i;
+        domains = a i;
+        tables = b i;
+        held = record { agenda = c i; steps = steps i; checks = checks i; subproblems = count i };
+      })),
 )
 
 pub for-C-holds : Demands for-C

@@ -26,20 +26,19 @@ use Rattle.bytes.specs.Bytes.{Bytes, wordsOf}
 use Rattle.console.specs.Calls.{stateOf, HandsOut, OpensForC, SavesForC, LoadsForC}
 use Rattle.console.specs.Searches.{Held, Typed, Outcome, Way, by-requests, by-chooser, Goes-on, Lived-for-C}
 
--- Lent is what a call is lent: n, d, domains, tables and a search, Held as its agenda, steps, checks and number of subproblems. A Way on is a list of requests or
--- a number of steps of the house chooser. An Outcome is what is then held, the verdict (0 none, 1 running, 2 solved, 3 unsolvable), the requests or steps taken,
--- and the refusal. Calls have places for a word in a list, words that a list says, each call at values of its types, and what an opening of tables began.
-abbrev pub Lent : Type 0
+-- Held is a search: agenda, steps, checks, number of subproblems. A Way on from it: a list of requests, or a number of steps of the house chooser.
+-- An Outcome: what is held then, the verdict (0 none, 1 running, 2 solved, 3 unsolvable), how many requests or steps were taken, the refusal.
+abbrev pub Lent : Type 0  -- What a call is lent.
 Lent = record { n : ℕ; d : ℕ; domains : List ℕ; tables : List ℕ; held : Held }
 
 pub record Calls : Type 1 where
-  pub wide : ℕ
-  pub words : List ℕ → List ℕ
+  pub wide : ℕ  -- The places that a word takes in a list.
+  pub words : List ℕ → List ℕ  -- The words that a list says.
   pub Opening : (m : Lent) (left : Held) (refusal : ℕ) → Type 0
   pub Going-on : (m : Lent) (way : Way) (o : Outcome) → Type 0
   pub Saving : (m : Lent) (h : Held) (file after : List ℕ) (blocks refusal : ℕ) → Type 0
   pub Loading : (file : List ℕ) (m left : Lent) (refusal : ℕ) → Type 0
-  pub Begun : (opened : List ℕ) (m : Lent) → Type 0
+  pub Begun : (opened : List ℕ) (m : Lent) → Type 0  -- An opening of these tables began it; those in memory may differ at a variable with itself.
 
 abbrev pub stateIn : Held → State
 stateIn h = stateOf (h .steps) (h .checks) (h .subproblems)
@@ -129,14 +128,13 @@ module _ (c : Calls) where
     pub kept : Of-calls λ m way o. o .verdict ≡ 0 → (o .refusal ≡ 0 → ⊥) × (o ≡ record { held = m .held; verdict = 0; taken = 0; refusal = o .refusal })
     -- D1.2: the number later, by 11, 7, 8, 9, 10, 12: that of the first request q not taken, P on top of S being the search left, which runs; else none.
     pub next : Of-calls λ m way o. (P : Subproblem) (S : List Subproblem) → o .verdict ≡ 1 → o .taken < length (asked m way)
-        → search m (o .held) .memory ≡ P ∷ S → let q : List ℕ = getD (asked m way) (o .taken) [] in First-of (refusalsOfRequest (problem m (m .tables)) (o .held .steps) P q
-        (Deserves-12 (problem m (m .tables)) (length (c .words (m .held .agenda)) / (m .n + 2)) P S q)) (o .refusal)
+        → search m (o .held) .memory ≡ P ∷ S → let q : List ℕ = getD (asked m way) (o .taken) [] in First-of (refusalsOfRequest (problem m (m .tables))
+        (o .held .steps) P q (Deserves-12 (problem m (m .tables)) (length (c .words (m .held .agenda)) / (m .n + 2)) P S q)) (o .refusal)
     pub none : Of-calls λ m way o. (o .verdict ≡ 0 → ⊥) → (o .verdict ≡ 1 → o .taken < length (asked m way) → ⊥) → o .refusal ≡ 0
     pub stands : Of-calls λ m way o. (o .verdict ≡ 0 → ⊥) → (q : Outcome) → c .Going-on m (front (m .n) (o .taken) way) q
         → q ≡ record { held = o .held; verdict = o .verdict; taken = o .taken; refusal = 0 }  -- D1.4: what was taken, alone, leaves the same, unrefused.
-    -- Demand 2. D2.1: one step puts the pieces of P, by the request asked for, above what lay below P.
     pub step : Of-calls λ m way o. o .taken ≡ 1 → (P : Subproblem) (S : List Subproblem) → search m (m .held) .memory ≡ P ∷ S
-        → search m (o .held) .memory ≡ pieces (m .n) (problem m (m .tables) .allowed) P (getD (asked m way) 0 []) ++ S
+        → search m (o .held) .memory ≡ pieces (m .n) (problem m (m .tables) .allowed) P (getD (asked m way) 0 []) ++ S  -- Demand 2. D2.1: its pieces.
     pub solved : Of-calls λ m way o. o .verdict ≡ 2 → Shown (problem m (m .tables)) (search m (o .held) .memory)  -- D2.2: the top shows a plan.
     pub unsolvable : Of-calls λ m way o. (o .verdict ≡ 0 → ⊥) → (o .verdict ≡ 3) ↔ (o .held .subproblems ≡ 0)  -- D2.3, and D2.5: the first checks pass.
     pub no-plan : Of-calls λ m way o. (opened : List ℕ) → c .Begun opened m → o .verdict ≡ 3 → Has-solution (problem m opened) → ⊥  -- D2.4, D2.6: as opened.
