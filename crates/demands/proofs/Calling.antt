@@ -1,16 +1,15 @@
 -- A call of Rattle that goes on with a search: where its first checks refuse it, and where they pass.
 -- Assumes nothing.
-use mathlib.Core.Path.{_≡_, refl, sym, ap, ap₂, subst, _∙_}
-use mathlib.Core.Logic.{_⊎_, inl, inr, ⊎-elim, _↔_}
-use mathlib.Core.Bool.{Bool, true, false, cond}
-use mathlib.Core.List.{List, [], _∷_, _++_}
-use Prim.Native.Nat.{ℕ, _+_, _-_, _*_, _/_, _≤_, _<_, min}
-use native.Mathlib.Omega.{arith}
+use mathlib.Core.Path.{_≡_, refl, sym, ap, _∙_}
+use mathlib.Core.Logic.{_↔_}
+use mathlib.Core.Bool.{cond}
+use mathlib.Core.List.{List}
+use Prim.Native.Nat.{ℕ, _+_, _/_, _≤_}
 use native.Mathlib.Decide.{ℕ-discrete}
-use lib.ListN.{length, getD, take, drop}
+use lib.ListN.{length}
 use lib.Dec.{eqb}
 use borrow.Author.Tests.{ne-eqb}
-use Rattle.problem.specs.Problem.{Problem, Words}
+use Rattle.problem.specs.Problem.{Words}
 use Rattle.searches.specs.Verdicts.{numberOf, verdictOf}
 use Rattle.searches.specs.declared.verdict.Verdict.the-variants.{None}
 use Rattle.searches.specs.Runs.{run, requestsIn}
@@ -18,19 +17,18 @@ use Rattle.searches.specs.Chooser.{choose}
 use Rattle.searches.specs.Reached.{Passes}
 use Rattle.searches.proofs.Promises.{picks as picks-so, run-passes, chooser-passes}
 use Rattle.search.specs.Agenda.{agendaOf}
-use Rattle.search.specs.Slots.{slots, Search, Stopped}
+use Rattle.search.specs.Slots.{slots, Stopped}
 use Rattle.search.specs.FirstChecks.{WholeRequests}
 use Rattle.search.specs.Tests.FirstChecks.{runRefusal, searchRefusal}
 use Rattle.search.specs.Calls.{searchOf, Ends}
 use Rattle.search.specs.Promises.{Handed, Leaves, Verdict-says}
-use Rattle.search.specs.declared.state.State.{State}
 use Rattle.search.specs.declared.state.Ran.{Ran}
 use Rattle.search.proofs.first_checks.FirstPassing.{run-is-passed, search-is-passed}
 use Rattle.search.proofs.Promises.{slots-lawful, none-if-run, none-if-choose, run-leaves, chooser-leaves, run-says, chooser-says, handed-passes}
-use Rattle.console.specs.Searches.{Held, Outcome, Way, by-requests, by-chooser}
+use Rattle.console.specs.Searches.{Outcome, Way, by-requests, by-chooser}
 use Rattle.console.proofs.Going.{alone, outcome-is}
 use Rattle.console.proofs.Living.{state-out}
-use Rattle.demands.specs.Promises.{Lent, Calls, rattle, stateIn, Goes, problem, search, asked, front}
+use Rattle.demands.specs.Promises.{Lent, rattle, stateIn, Goes, problem, search, asked}
 
 -- The slots that are lent.
 abbrev pub room : Lent → ℕ

@@ -1,7 +1,7 @@
 -- A way cut at any number of places, saved and loaded at each, ends as uncut: the calls of Rattle.
 -- Assumes nothing.
 use mathlib.Core.Path.{_≡_, refl, sym, ap, ap₂, subst, _∙_}
-use mathlib.Core.Logic.{_⊎_, inl, inr}
+use mathlib.Core.Logic.{inl, inr}
 use mathlib.Core.List.{List, [], _++_}
 use Prim.Native.Nat.{ℕ, _+_, _-_, _*_, _≤_, _<_, min}
 use native.Mathlib.Omega.{arith}
@@ -18,9 +18,8 @@ use Rattle.search.specs.declared.state.Ran.{Ran}
 use Rattle.files.specs.Calls.{Deserves-13}
 use Rattle.files.specs.Promises.{Two-ways, Same-end}
 use Rattle.files.proofs.Promises.{cut-any, cut-choose}
-use Rattle.console.specs.Searches.{Held, Outcome, Way, by-requests, by-chooser}
-use Rattle.console.proofs.Going.{outcome-is}
-use Rattle.demands.specs.Promises.{Lent, Calls, rattle, stateIn, Goes, problem, search, front, Deserves-3, Journey, uncut, cut}
+use Rattle.console.specs.Searches.{Outcome, Way, by-requests, by-chooser}
+use Rattle.demands.specs.Promises.{Lent, rattle, stateIn, Goes, problem, search, front, Deserves-3, Journey, uncut, cut}
 use Rattle.demands.proofs.Calling.{room, firstOf, stoppedOf, Fitting, outOf, some-call, going, none-if, passed, passing, handed, passes-first, Passing, Whole-way, left-so}
 use Rattle.demands.proofs.Standing.{front-requests}
 use Rattle.demands.proofs.Saying.{said}

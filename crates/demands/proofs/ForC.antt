@@ -1,16 +1,16 @@
 -- The demands of the calls for C: those of Rattle at the words that the bytes say, and the refusals of lists that are not whole words.
 -- Assumes nothing.
 use mathlib.Core.Path.{_≡_, refl, sym, ap, subst, _∙_}
-use mathlib.Core.Logic.{_⊎_, inl, inr, ⊎-elim, _↔_}
+use mathlib.Core.Logic.{_⊎_, inl, inr, ⊎-elim}
 use mathlib.Core.List.{List, [], _∷_}
-use Prim.Native.Nat.{ℕ, _+_, _*_, _%_, _≤_, _<_}
+use Prim.Native.Nat.{ℕ, _+_, _%_}
 use native.Mathlib.Omega.{arith}
 use native.Mathlib.Decide.{ℕ-discrete}
-use lib.ListN.{length, take}
+use lib.ListN.{length}
 use Rattle.problem.specs.FirstChecks.{Deserves-1, Deserves-2, Deserves-4, Deserves-5}
 use Rattle.problem.specs.Refusing.{Refusals, First-of}
 use Rattle.problem.proofs.Refusing.{Found, first-of}
-use Rattle.search.specs.FirstChecks.{Deserves-3-run, Deserves-6}
+use Rattle.search.specs.FirstChecks.{Deserves-6}
 use Rattle.search.specs.declared.state.Opened.{Opened}
 use Rattle.blocks.specs.Reading.{Deserves-14}
 use Rattle.files.specs.Reading.{saidN, saidD, Deserves-15}
@@ -19,11 +19,11 @@ use Rattle.files.specs.declared.saved.Saved.{Saved}
 use Rattle.files.specs.declared.saved.Loaded.{Loaded}
 use Rattle.bytes.specs.Bytes.{Whole, wordsOf, bytesOf}
 use Rattle.bytes.proofs.Words.{bytes-again}
-use Rattle.console.specs.Calls.{WholeProblem, unwhole, unwholeFile}
+use Rattle.console.specs.Calls.{unwhole, unwholeFile}
 use Rattle.console.specs.Searches.{Held, Outcome, Way, by-requests, by-chooser}
-use Rattle.console.proofs.Promises.{unwhole-1, unwhole-2, unwhole-3, unwhole-14, unwhole-15, unwhole-file-3, open-refused, save-refused, load-refused, load-in-words, unsolvable-no-plan, solvable-held, steps-limited}
+use Rattle.console.proofs.Promises.{unwhole-1, unwhole-2, unwhole-3, unwhole-14, unwhole-15, unwhole-file-3, open-refused, save-refused, load-refused, unsolvable-no-plan, solvable-held, steps-limited}
 use Rattle.console.proofs.Going as Going
-use Rattle.demands.specs.Promises.{Lent, Calls, rattle, for-C, stateIn, problem, search, asked, front, checks, Deserves-3, Journey, Demands}
+use Rattle.demands.specs.Promises.{Lent, rattle, for-C, stateIn, problem, front, checks, Deserves-3, Journey, Demands}
 use Rattle.demands.proofs.Tables.{in-third}
 use Rattle.demands.proofs.Calling.{passed}
 use Rattle.demands.proofs.Saying.{Said, listed, said}

@@ -6,7 +6,7 @@ use Prim.Native.Nat.{ℕ}
 use Rattle.searches.specs.Promises.{Has-solution}
 use Rattle.files.proofs.Promises.{unsolvable-run, unsolvable-choose, lived-solvable, lived-steps}
 use Rattle.console.specs.Searches.{Outcome, Way, by-requests, by-chooser}
-use Rattle.demands.specs.Promises.{Lent, Calls, rattle, stateIn, problem, Demands, Held-by-both}
+use Rattle.demands.specs.Promises.{Lent, rattle, stateIn, problem, Demands, Held-by-both}
 use Rattle.demands.proofs.Calling.{passed}
 use Rattle.demands.proofs.Saying.{said}
 use Rattle.demands.proofs.Refusing.{opening-so, saving-so, loading-so}

@@ -1,17 +1,17 @@
 -- The refusals of opening, save and load of Rattle by their tables, and what is left.
 -- Assumes nothing.
-use mathlib.Core.Path.{_≡_, refl, sym, ap, subst, _∙_}
-use mathlib.Core.Logic.{_⊎_, inl, inr, ⊎-elim, _↔_}
+use mathlib.Core.Path.{_≡_, refl, sym, subst, _∙_}
+use mathlib.Core.Logic.{inl, inr, ⊎-elim}
 use mathlib.Core.List.{List, [], _∷_}
-use Prim.Native.Nat.{ℕ, _≤_, _<_}
+use Prim.Native.Nat.{ℕ, _≤_}
 use native.Mathlib.Omega.{arith}
 use native.Mathlib.Decide.{ℕ-discrete}
 use lib.ListN.{length}
 use borrow.Author.Tests.{ne-eqb}
-use Rattle.problem.specs.FirstChecks.{Deserves-1, Deserves-2, Deserves-4, Deserves-5}
+use Rattle.problem.specs.FirstChecks.{Deserves-4, Deserves-5}
 use Rattle.problem.specs.Refusing.{Refusals, First-of}
 use Rattle.problem.proofs.Refusing.{found-of, first-of, Found}
-use Rattle.search.specs.FirstChecks.{Deserves-3-run, Deserves-3, Deserves-6}
+use Rattle.search.specs.FirstChecks.{Deserves-3, Deserves-6}
 use Rattle.search.specs.Promises.{searchTable}
 use Rattle.search.specs.Tests.FirstChecks.{openRefusal, searchRefusal}
 use Rattle.search.proofs.Promises.{open-refusals, search-refusals}
@@ -21,7 +21,7 @@ use Rattle.files.specs.Reading.{saidN, saidD, Deserves-15}
 use Rattle.files.specs.Calls.{Deserves-13, Deserves-12-load, saveRefusal, loadRefusal}
 use Rattle.files.proofs.Promises.{save-first, save-13, save-none, load-14, load-15, load-3, load-12, load-none}
 use Rattle.console.specs.Searches.{Held}
-use Rattle.demands.specs.Promises.{Lent, Calls, rattle, stateIn, problem, checks, Deserves-3 as Deserves-three}
+use Rattle.demands.specs.Promises.{Lent, rattle, stateIn, problem, checks, Deserves-3 as Deserves-three}
 use Rattle.demands.proofs.Tables.{in-third, further, found-further}
 use Rattle.demands.proofs.Saying.{no-odd}
 

@@ -1,20 +1,18 @@
 -- What demands 1 and 2 say of a call of Rattle that goes on with a search.
 -- Assumes nothing.
 use mathlib.Core.Path.{_≡_, refl, sym, ap, subst, _∙_}
-use mathlib.Core.Logic.{_⊎_, inl, inr, ⊎-elim, _↔_}
-use mathlib.Core.Bool.{true}
+use mathlib.Core.Logic.{inl, ⊎-elim, _↔_}
 use mathlib.Core.List.{List, [], _∷_, _++_}
 use Prim.Native.Nat.{ℕ, _%_, _/_, _+_, _≤_, _<_}
 use native.Mathlib.Omega.{arith}
 use native.Mathlib.Decide.{ℕ-discrete}
 use lib.ListN.{length, getD}
-use Rattle.problem.specs.Problem.{Problem}
 use Rattle.problem.specs.FirstChecks.{Deserves-4, Deserves-5}
 use Rattle.problem.specs.Refusing.{Refusals, First-of}
 use Rattle.splits.specs.Splits.{pieces}
 use Rattle.splits.specs.declared.subproblem.Subproblem.{Subproblem}
-use Rattle.searches.specs.Machines.{Machine, splitTop}
-use Rattle.searches.specs.Steps.{stop, step, refusalsOfRequest}
+use Rattle.searches.specs.Machines.{splitTop}
+use Rattle.searches.specs.Steps.{step, refusalsOfRequest}
 use Rattle.searches.specs.Verdicts.{numberOf, verdictOf}
 use Rattle.searches.specs.Runs.{run}
 use Rattle.searches.specs.Tests.Refusal.{refusalOfRequest}
@@ -22,11 +20,11 @@ use Rattle.searches.specs.Promises.{Shown}
 use Rattle.searches.proofs.Runs.{stops}
 use Rattle.search.specs.Agenda.{stackOf}
 use Rattle.search.specs.Slots.{slots, Search, Stopped, Deserves-12}
-use Rattle.search.specs.FirstChecks.{Deserves-3-run, Deserves-6}
+use Rattle.search.specs.FirstChecks.{Deserves-6}
 use Rattle.search.proofs.Promises.{search-refusals, run-refusals, slots-refusals}
-use Rattle.console.specs.Searches.{Held, Outcome, Way, by-requests, by-chooser}
-use Rattle.console.proofs.Going.{alone, outcome-is}
-use Rattle.demands.specs.Promises.{Lent, Calls, rattle, stateIn, problem, search, asked, front, checks}
+use Rattle.console.specs.Searches.{Outcome, Way, by-requests, by-chooser}
+use Rattle.console.proofs.Going.{alone}
+use Rattle.demands.specs.Promises.{Lent, Calls, rattle, problem, search, asked, front, checks}
 use Rattle.demands.proofs.Tables.{in-third}
 use Rattle.demands.proofs.Calling.{room, firstOf, stoppedOf, stopped-is, none-if, passed, refused-so, passing, handed, passes-first, outcomeAt, search-left, passes-left, says-so}
 use Rattle.demands.proofs.Standing.{few-taken, alone-stops}
@@ -77,12 +75,6 @@ first-of-table m (by-chooser k) =
     (search-refusals (m .n) (m .d) (m .domains) (m .tables) (m .held .agenda) (m .held .steps) (m .held .checks) (m .held .subproblems))
 
 module _ (m : Lent) (way : Way) (o : Outcome) (g : rattle .Going-on m way o) where
-  p : Problem
-  p = problem rattle m (m .tables)
-
-  M : Machine
-  M = slots (room m)
-
   first-number : (k : ℕ) → (o .verdict ≡ 0 → k ≡ o .refusal) → ((o .verdict ≡ 0 → ⊥) → k ≡ 0) → k ≡ firstOf m way
   first-number k some none = elim (ℕ-discrete (firstOf m way) 0) [
     | yes z ↦ none (λ v. none-if m way o g .0 v z) ∙ sym z

@@ -1,8 +1,8 @@
 -- The requests or steps that a call took, alone; and a single one of them.
 -- Assumes nothing.
-use mathlib.Core.Path.{_≡_, refl, sym, ap, subst, _∙_}
-use mathlib.Core.List.{List, [], _∷_}
-use Prim.Native.Nat.{ℕ, _+_, _-_, _*_, _/_, _≤_, min}
+use mathlib.Core.Path.{_≡_, refl, sym, ap, _∙_}
+use mathlib.Core.List.{List, []}
+use Prim.Native.Nat.{ℕ, _+_, _-_, _*_, _≤_, min}
 use native.Mathlib.Omega.{arith}
 use native.Mathlib.Nat.{mul-le-mul-right, add-mul, one-mul}
 use native.Mathlib.Numerals.{one-add}
@@ -10,12 +10,11 @@ use lib.ListN.{length, getD, take, drop, length-drop, take-append-drop}
 use lib.Seq.{length-take-le, take-at}
 use Rattle.problem.specs.Problem.{Problem}
 use Rattle.searches.specs.Machines.{Machine}
-use Rattle.searches.specs.Steps.{Search, Stopped, stop, step}
-use Rattle.searches.specs.Runs.{runFrom, run, requestsIn}
+use Rattle.searches.specs.Steps.{Search, stop, step}
+use Rattle.searches.specs.Runs.{run, requestsIn}
 use Rattle.searches.specs.Chooser.{chooseFrom, choose}
 use Rattle.searches.proofs.Runs.{after, run-ind, taken-alone, stops}
 use Rattle.searches.proofs.Picking.{choose-ind, choose-taken, choose-stops}
-use Rattle.search.specs.FirstChecks.{WholeRequests}
 use Rattle.search.specs.Slots.{slots}
 use Rattle.files.proofs.Requests.{requests-append}
 use Rattle.console.specs.Searches.{Way, by-requests, by-chooser}

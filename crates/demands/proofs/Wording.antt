@@ -1,24 +1,21 @@
 -- A call for C that goes on with a search, and a way cut at any number of places, in words: they are those of Rattle.
 -- Assumes nothing.
 use mathlib.Core.Path.{_≡_, refl, sym, ap, subst, _∙_}
-use mathlib.Core.Logic.{_⊎_, inl, inr}
+use mathlib.Core.Logic.{inl, inr}
 use mathlib.Core.List.{List, []}
 use native.Mathlib.Decide.{ℕ-discrete}
-use Prim.Native.Nat.{ℕ, _+_, _-_, _*_, _/_, _%_, _≤_, min}
+use Prim.Native.Nat.{ℕ, _+_, _-_, _*_, _/_, _%_, min}
 use native.Mathlib.Omega.{arith}
 use native.Mathlib.Nat.{one-mul}
 use lib.ListN.{length, take, drop, length-take, length-drop}
-use Rattle.search.specs.declared.state.State.{State}
-use Rattle.files.specs.Calls.{Deserves-13, Saves, Loads}
-use Rattle.files.specs.declared.saved.Saved.{Saved}
-use Rattle.files.specs.declared.saved.Loaded.{Loaded}
-use Rattle.bytes.specs.Bytes.{Bytes, Whole, wordsOf, bytesOf}
+use Rattle.files.specs.Calls.{Saves, Loads}
+use Rattle.bytes.specs.Bytes.{Whole, wordsOf, bytesOf}
 use Rattle.bytes.proofs.Words.{words-length, words-small, words-past, words-front, said-whole}
 use Rattle.console.specs.Calls.{WholeProblem}
-use Rattle.console.specs.Searches.{Held, Outcome, Way, by-requests, by-chooser, Goes-on}
+use Rattle.console.specs.Searches.{Held, Outcome, Way, by-requests, by-chooser}
 use Rattle.console.proofs.Promises.{load-in-words}
 use Rattle.console.proofs.Going as Going
-use Rattle.demands.specs.Promises.{Lent, Calls, rattle, for-C, stateIn, front, Deserves-3, Journey, uncut, cut}
+use Rattle.demands.specs.Promises.{Lent, rattle, for-C, stateIn, front, Deserves-3, Journey, uncut, cut}
 use Rattle.demands.proofs.Saying.{no-odd, listed}
 use Rattle.demands.proofs.Cutting.{rest}
 
