@@ -1,16 +1,15 @@
 -- A call of Rattle that goes on with a search: where its first checks refuse it, and where they pass.
 -- Assumes nothing.
-use mathlib.Core.Path.{_≡_, refl, sym, ap, ap₂, subst, _∙_}
-use mathlib.Core.Logic.{_⊎_, inl, inr, ⊎-elim, _↔_}
-use mathlib.Core.Bool.{Bool, true, false, cond}
-use mathlib.Core.List.{List, [], _∷_, _++_}
-use Prim.Native.Nat.{ℕ, _+_, _-_, _*_, _≤_, _<_, min}
-use native.Mathlib.Omega.{arith}
+use mathlib.Core.Path.{_≡_, refl, sym, ap, _∙_}
+use mathlib.Core.Logic.{_↔_}
+use mathlib.Core.Bool.{cond}
+use mathlib.Core.List.{List}
+use Prim.Native.Nat.{ℕ, _+_, _/_, _≤_}
 use native.Mathlib.Decide.{ℕ-discrete}
-use lib.ListN.{length, getD, take, drop}
+use lib.ListN.{length}
 use lib.Dec.{eqb}
 use borrow.Author.Tests.{ne-eqb}
-use Rattle.problem.specs.Problem.{Problem, Words}
+use Rattle.problem.specs.Problem.{Words}
 use Rattle.searches.specs.Verdicts.{numberOf, verdictOf}
 use Rattle.searches.specs.declared.verdict.Verdict.the-variants.{None}
 use Rattle.searches.specs.Runs.{run, requestsIn}
@@ -18,19 +17,22 @@ use Rattle.searches.specs.Chooser.{choose}
 use Rattle.searches.specs.Reached.{Passes}
 use Rattle.searches.proofs.Promises.{picks as picks-so, run-passes, chooser-passes}
 use Rattle.search.specs.Agenda.{agendaOf}
-use Rattle.search.specs.Slots.{slots, Search, Stopped}
+use Rattle.search.specs.Slots.{slots, Stopped}
 use Rattle.search.specs.FirstChecks.{WholeRequests}
 use Rattle.search.specs.Tests.FirstChecks.{runRefusal, searchRefusal}
 use Rattle.search.specs.Calls.{searchOf, Ends}
 use Rattle.search.specs.Promises.{Handed, Leaves, Verdict-says}
-use Rattle.search.specs.declared.state.State.{State}
 use Rattle.search.specs.declared.state.Ran.{Ran}
 use Rattle.search.proofs.first_checks.FirstPassing.{run-is-passed, search-is-passed}
 use Rattle.search.proofs.Promises.{slots-lawful, none-if-run, none-if-choose, run-leaves, chooser-leaves, run-says, chooser-says, handed-passes}
-use Rattle.console.specs.Searches.{Held, Outcome, Way, by-requests, by-chooser}
+use Rattle.console.specs.Searches.{Outcome, Way, by-requests, by-chooser}
 use Rattle.console.proofs.Going.{alone, outcome-is}
 use Rattle.console.proofs.Living.{state-out}
-use Rattle.demands.specs.Promises.{Lent, Calls, rattle, stateIn, Goes, problem, search, room, asked, front}
+use Rattle.demands.specs.Promises.{Lent, rattle, stateIn, Goes, problem, search, asked}
+
+-- The slots that are lent.
+abbrev pub room : Lent → ℕ
+room m = length (m .held .agenda) / (m .n + 2)
 
 -- Its first checks, and where it stops.
 unfoldable pub firstOf : Lent → Way → ℕ
@@ -40,8 +42,8 @@ firstOf m (by-chooser k) =
     searchRefusal (m .n) (m .d) (m .domains) (m .tables) (m .held .agenda) (m .held .steps) (m .held .checks) (m .held .subproblems)
 
 unfoldable pub stoppedOf : Lent → Way → Stopped
-stoppedOf m (by-requests l) = run (problem rattle m) (slots (room rattle m)) (requestsIn (m .n) l) (search rattle m (m .held))
-stoppedOf m (by-chooser k) = choose (problem rattle m) (slots (room rattle m)) k (search rattle m (m .held))
+stoppedOf m (by-requests l) = run (problem rattle m (m .tables)) (slots (room m)) (requestsIn (m .n) l) (search rattle m (m .held))
+stoppedOf m (by-chooser k) = choose (problem rattle m (m .tables)) (slots (room m)) k (search rattle m (m .held))
 
 abbrev pub EndsSo : Lent → Way → List ℕ → Ran → Type 0
 EndsSo m way after r = Ends (firstOf m way) (m .n) (m .held .agenda) after (stateIn (m .held)) (stoppedOf m way) r
@@ -57,10 +59,10 @@ ends-goes m (by-requests l) after r g = g
 ends-goes m (by-chooser k) after r g = g
 
 -- It is a run of what is asked for.
-pub stopped-is : (m : Lent) (way : Way) → stoppedOf m way ≡ run (problem rattle m) (slots (room rattle m)) (asked rattle m way) (search rattle m (m .held))
+pub stopped-is : (m : Lent) (way : Way) → stoppedOf m way ≡ run (problem rattle m (m .tables)) (slots (room m)) (asked rattle m way) (search rattle m (m .held))
 unfolding stoppedOf
 stopped-is m (by-requests l) = refl
-stopped-is m (by-chooser k) = picks-so (problem rattle m) (slots (room rattle m)) k (search rattle m (m .held))
+stopped-is m (by-chooser k) = picks-so (problem rattle m (m .tables)) (slots (room m)) k (search rattle m (m .held))
 
 -- What is returned and left by a call, whatever it is handed.
 pub some-call : (m : Lent) (way : Way) → (after : List ℕ) × (r : Ran) × Goes m way after r
@@ -79,16 +81,19 @@ some-call m way =
         subproblems = cond (eqb first 0) (length (x .search .memory)) (m .held .subproblems);
       };
     } in
-    let after : List ℕ = cond (eqb first 0) (agendaOf (m .n) (length (m .held .agenda)) (x .search .memory)) (m .held .agenda) in
-    (after, r, ends-goes m way after r (record {
-      verdict = refl;
-      refusal = refl;
-      taken = refl;
-      steps = refl;
-      checks = refl;
-      subproblems = refl;
-      agenda = refl;
-    }))
+    let after : List ℕ = cond (eqb first 0) (agendaOf (m .n) (length (m .held .agenda)) (x .search .memory)) (m .held .agenda) in (
+      after,
+      r,
+      ends-goes m way after r (record {
+        verdict = refl;
+        refusal = refl;
+        taken = refl;
+        steps = refl;
+        checks = refl;
+        subproblems = refl;
+        agenda = refl;
+      }),
+    )
 
 -- What goes out of a call that returns r and leaves an agenda.
 abbrev pub outOf : List ℕ → Ran → Outcome
@@ -191,18 +196,18 @@ passes-first m (by-chooser k) h w = h .passes
 pub left-so : (m : Lent) (way : Way) → Passing m → Whole-way (m .n) way → (after : List ℕ) (r : Ran) → Goes m way after r
     → Leaves (m .n) (m .d) (m .domains) (m .tables) (m .held .agenda) after (r .state) (stoppedOf m way .search)
     × Verdict-says (m .n) (m .d) (m .domains) (m .tables) after r
-    × Passes (problem rattle m) (slots (room rattle m)) (stoppedOf m way .search)
+    × Passes (problem rattle m (m .tables)) (slots (room m)) (stoppedOf m way .search)
 unfolding stoppedOf
 left-so m (by-requests l) h w after r g = (
   run-leaves (m .n) (m .d) (m .domains) (m .tables) (m .held .agenda) after l (stateIn (m .held)) r h g .0 w,
   run-says (m .n) (m .d) (m .domains) (m .tables) (m .held .agenda) after l (stateIn (m .held)) r h w g,
-  run-passes (problem rattle m) (slots (room rattle m)) (slots-lawful (room rattle m)) (requestsIn (m .n) l) (search rattle m (m .held))
+  run-passes (problem rattle m (m .tables)) (slots (room m)) (slots-lawful (room m)) (requestsIn (m .n) l) (search rattle m (m .held))
       (handed-passes (m .n) (m .d) (m .domains) (m .tables) (m .held .agenda) (stateIn (m .held)) h),
 )
 left-so m (by-chooser k) h w after r g = (
   chooser-leaves (m .n) (m .d) (m .domains) (m .tables) (m .held .agenda) after k (stateIn (m .held)) r h g,
   chooser-says (m .n) (m .d) (m .domains) (m .tables) (m .held .agenda) after k (stateIn (m .held)) r h g,
-  chooser-passes (problem rattle m) (slots (room rattle m)) (slots-lawful (room rattle m)) k (search rattle m (m .held))
+  chooser-passes (problem rattle m (m .tables)) (slots (room m)) (slots-lawful (room m)) k (search rattle m (m .held))
       (handed-passes (m .n) (m .d) (m .domains) (m .tables) (m .held .agenda) (stateIn (m .held)) h),
 )
 
@@ -217,7 +222,7 @@ module _ (m : Lent) (way : Way) (o : Outcome) (g : rattle .Going-on m way o) (z 
   pub search-left : search rattle m (o .held) ≡ stoppedOf m way .search
   search-left = ap (searchOf (m .n) (o .held .agenda)) (sym state-is) ∙ left-so m way (both .0) (both .1) (o .held .agenda) (g .0) (g .2) .0 .search
 
-  pub passes-left : Passes (problem rattle m) (slots (room rattle m)) (stoppedOf m way .search)
+  pub passes-left : Passes (problem rattle m (m .tables)) (slots (room m)) (stoppedOf m way .search)
   passes-left = left-so m way (both .0) (both .1) (o .held .agenda) (g .0) (g .2) .2
 
   pub says-so : Verdict-says (m .n) (m .d) (m .domains) (m .tables) (o .held .agenda) (g .0)

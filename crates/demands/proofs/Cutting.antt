@@ -1,11 +1,12 @@
 -- A way cut at any number of places, saved and loaded at each, ends as uncut: the calls of Rattle.
 -- Assumes nothing.
 use mathlib.Core.Path.{_≡_, refl, sym, ap, ap₂, subst, _∙_}
-use mathlib.Core.List.{List, _++_}
+use mathlib.Core.Logic.{inl, inr}
+use mathlib.Core.List.{List, [], _++_}
 use Prim.Native.Nat.{ℕ, _+_, _-_, _*_, _≤_, _<_, min}
 use native.Mathlib.Omega.{arith}
 use native.Mathlib.Nat.{mul-le-mul-right, one-mul}
-use native.Mathlib.Decide.{decLt}
+use native.Mathlib.Decide.{ℕ-discrete, decLt}
 use lib.ListN.{length, take, drop, length-take, length-drop, take-append-drop}
 use Rattle.searches.specs.declared.verdict.Verdict.{Verdict}
 use Rattle.searches.specs.Verdicts.{numberOf}
@@ -17,10 +18,9 @@ use Rattle.search.specs.declared.state.Ran.{Ran}
 use Rattle.files.specs.Calls.{Deserves-13}
 use Rattle.files.specs.Promises.{Two-ways, Same-end}
 use Rattle.files.proofs.Promises.{cut-any, cut-choose}
-use Rattle.console.specs.Searches.{Held, Outcome, Way, by-requests, by-chooser}
-use Rattle.console.proofs.Going.{outcome-is}
-use Rattle.demands.specs.Promises.{Lent, Calls, rattle, stateIn, Goes, problem, search, room, front, Journey, uncut, cut}
-use Rattle.demands.proofs.Calling.{firstOf, stoppedOf, Fitting, outOf, some-call, going, none-if, passed, passing, handed, passes-first, Passing, Whole-way, left-so}
+use Rattle.console.specs.Searches.{Outcome, Way, by-requests, by-chooser}
+use Rattle.demands.specs.Promises.{Lent, rattle, stateIn, Goes, problem, search, front, Deserves-3, Journey, uncut, cut}
+use Rattle.demands.proofs.Calling.{room, firstOf, stoppedOf, Fitting, outOf, some-call, going, none-if, passed, passing, handed, passes-first, Passing, Whole-way, left-so}
 use Rattle.demands.proofs.Standing.{front-requests}
 use Rattle.demands.proofs.Saying.{said}
 
@@ -150,10 +150,17 @@ module _ (m x y : Lent) (o whole : Outcome) (v w : Verdict) (f : ℕ) (file afte
 
 -- ---- any number of cuts
 
+-- Where 3 is not deserved the lengths are right.
+right-sizes : (m x : Lent) → (Deserves-3 rattle (m .n) (m .d) x [] → ⊥) → (length (x .domains) ≡ 1 * m .n) × (length (x .tables) ≡ 1 * (m .n * m .n * m .d))
+right-sizes m x f = (
+  elim (ℕ-discrete (length (x .domains)) (m .n)) [ yes e ↦ e ∙ sym (one-mul (m .n)) | no g ↦ absurd (f (inl (inl (inl g)))) ],
+  elim (ℕ-discrete (length (x .tables)) (m .n * m .n * m .d)) [ yes e ↦ e ∙ sym (one-mul (m .n * m .n * m .d)) | no g ↦ absurd (f (inl (inl (inr (inl g))))) ],
+)
+
 -- What is handed to a journey is of its types.
 journey-fits : (m : Lent) (way : Way) (refused taken : ℕ) (end : Outcome) → Journey rattle m way refused taken end → Fitting m
 journey-fits m way refused taken end (uncut g) = g .3
-journey-fits m way refused taken end (cut k g saves fit loads ds ts long on) = g .3
+journey-fits m way refused taken end (cut k g saves loads fit sizes long on) = g .3
 
 -- The outcome is one.
 call-one : (m : Lent) (way : Way) (o q : Outcome) → rattle .Going-on m way o → rattle .Going-on m way q → firstOf m way ≡ 0 → o ≡ q
@@ -208,7 +215,7 @@ module _ (m x y : Lent) (o whole : Outcome) (file after : List ℕ) (b i j : ℕ
       let zc = passes-first m part h tt in
       let taken : o .taken ≡ stoppedOf m part .taken = ap (λ (a : Outcome). a .taken) (passing m part o c zc) in
       let few : o .taken ≤ min k N =
-      omega (arith, taken, choose-stops (problem rattle m) (slots (room rattle m)) (min k N) (search rattle m (m .held)) .0) in
+      omega (arith, taken, choose-stops (problem rattle m (m .tables)) (slots (room m)) (min k N) (search rattle m (m .held)) .0) in
       let least : min (o .taken) (min k N) ≡ o .taken = omega arith in
       let (a, r, goes) = some-call m (by-chooser (min (o .taken) (min k N))) in
       let alone = going m (by-chooser (min (o .taken) (min k N))) a r (g .3) goes in
@@ -229,7 +236,8 @@ journey-ends m way refused taken whole end g z (uncut h) =
     let same = call-one m way end whole h g z in
     (refl, ap (λ (a : Outcome). a .taken) same, (λ t. record { held = same t .held; verdict = same t .verdict; taken = end .taken; refusal = same t .refusal }))
 journey-ends m way refused taken whole end g z
-    (cut {x = x} {y = y} {o = o} {file = file} {after = after} {b = b} {i = i} {j = j} {refused = refused′} {taken = taken′} k c saves fit loads ds ts long on) =
+    (cut {x = x} {y = y} {o = o} {file = file} {after = after} {b = b} {i = i} {j = j} {refused = refused′} {taken = taken′} k c saves loads fit sizes long on) =
+    let (ds, ts) = right-sizes m x sizes in
     let fits = journey-fits y (rest (m .n) (o .taken) way) refused′ taken′ end on in
     let (no-save, no-load, zy, (q, h, held, verdict, refusal, sum)) = one-cut m x y o whole file after b i j saves fit loads ds ts long fits way k g z c in
     let (none, all, same) = journey-ends y (rest (m .n) (o .taken) way) refused′ taken′ q end h zy on in (

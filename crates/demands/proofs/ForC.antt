@@ -1,16 +1,16 @@
 -- The demands of the calls for C: those of Rattle at the words that the bytes say, and the refusals of lists that are not whole words.
 -- Assumes nothing.
 use mathlib.Core.Path.{_≡_, refl, sym, ap, subst, _∙_}
-use mathlib.Core.Logic.{_⊎_, inl, inr, ⊎-elim, _↔_}
+use mathlib.Core.Logic.{_⊎_, inl, inr, ⊎-elim}
 use mathlib.Core.List.{List, [], _∷_}
-use Prim.Native.Nat.{ℕ, _+_, _*_, _%_, _≤_, _<_}
+use Prim.Native.Nat.{ℕ, _+_, _%_}
 use native.Mathlib.Omega.{arith}
 use native.Mathlib.Decide.{ℕ-discrete}
-use lib.ListN.{length, take}
+use lib.ListN.{length}
 use Rattle.problem.specs.FirstChecks.{Deserves-1, Deserves-2, Deserves-4, Deserves-5}
 use Rattle.problem.specs.Refusing.{Refusals, First-of}
 use Rattle.problem.proofs.Refusing.{Found, first-of}
-use Rattle.search.specs.FirstChecks.{Deserves-3-run, Deserves-6}
+use Rattle.search.specs.FirstChecks.{Deserves-6}
 use Rattle.search.specs.declared.state.Opened.{Opened}
 use Rattle.blocks.specs.Reading.{Deserves-14}
 use Rattle.files.specs.Reading.{saidN, saidD, Deserves-15}
@@ -19,38 +19,17 @@ use Rattle.files.specs.declared.saved.Saved.{Saved}
 use Rattle.files.specs.declared.saved.Loaded.{Loaded}
 use Rattle.bytes.specs.Bytes.{Whole, wordsOf, bytesOf}
 use Rattle.bytes.proofs.Words.{bytes-again}
-use Rattle.console.specs.Calls.{WholeProblem, unwhole, unwholeFile}
+use Rattle.console.specs.Calls.{unwhole, unwholeFile}
 use Rattle.console.specs.Searches.{Held, Outcome, Way, by-requests, by-chooser}
-use Rattle.console.proofs.Promises.{unwhole-1, unwhole-2, unwhole-3, unwhole-14, unwhole-15, unwhole-file-3, open-refused, save-refused, load-refused, load-in-words, unsolvable-no-plan, solvable-held, steps-limited}
+use Rattle.console.proofs.Promises.{unwhole-1, unwhole-2, unwhole-3, unwhole-14, unwhole-15, unwhole-file-3, open-refused, save-refused, load-refused, unsolvable-no-plan, solvable-held, steps-limited}
 use Rattle.console.proofs.Going as Going
-use Rattle.demands.specs.Promises.{Lent, Calls, rattle, for-C, stateIn, problem, search, asked, front, checks, Deserves-3, Said, Journey, Demands}
+use Rattle.demands.specs.Promises.{Lent, rattle, for-C, stateIn, problem, front, checks, Deserves-3, Journey, Demands}
 use Rattle.demands.proofs.Tables.{in-third}
 use Rattle.demands.proofs.Calling.{passed}
-use Rattle.demands.proofs.Saying.{no-odd, listed, said}
+use Rattle.demands.proofs.Saying.{Said, listed, said}
 use Rattle.demands.proofs.Refusing.{opening-so, saving-so, loading-so}
 use Rattle.demands.proofs.Cutting.{journey-ends}
-use Rattle.demands.proofs.Wording.{heldWords, lentWords, outWords, wayWords, AllWhole, Says-words, call-words, front-words, front-whole, journey-words}
-
--- ---- whole words or not
-
-abbrev Evens : Lent → List ℕ → Type 0
-Evens m l = length (m .domains) % 2 + length (m .tables) % 2 + length (m .held .agenda) % 2 + length l % 2 ≡ 0
-
-whole-of : (m : Lent) (l : List ℕ) → Evens m l → WholeProblem (m .domains) (m .tables) (m .held .agenda) × Whole l
-whole-of m l z = (record { of-domains = omega arith; of-tables = omega arith; of-agenda = omega arith }, omega arith)
-
-evens-of : (m : Lent) (l : List ℕ) → WholeProblem (m .domains) (m .tables) (m .held .agenda) → Whole l → Evens m l
-evens-of m l w e = omega (arith, w .of-domains, w .of-tables, w .of-agenda, e)
-
--- 3 at whole words is that of Rattle.
-three-there : (n d : ℕ) (m : Lent) (l : List ℕ) → Deserves-3 rattle n d (lentWords m) (wordsOf l) → Deserves-3 for-C n d m l
-three-there n d m l (inl x) = inl x
-three-there n d m l (inr f) =
-    absurd (no-odd (length (wordsOf (m .domains))) (length (wordsOf (m .tables))) (length (wordsOf (m .held .agenda))) (length (wordsOf l)) f)
-
-three-back : (n d : ℕ) (m : Lent) (l : List ℕ) → Evens m l → Deserves-3 for-C n d m l → Deserves-3 rattle n d (lentWords m) (wordsOf l)
-three-back n d m l z (inl x) = inl x
-three-back n d m l z (inr f) = absurd (f z)
+use Rattle.demands.proofs.Wording.{heldWords, lentWords, outWords, wayWords, AllWhole, Says-words, call-words, front-words, front-whole, journey-words, Evens, whole-of, evens-of, three-there, three-back}
 
 -- The refusals of lists that are not.
 unwhole-found : (n d : ℕ) (Three : Type 0) (rest : Refusals) → Three → Found ((1, Deserves-1 n) ∷ (2, Deserves-2 d) ∷ (3, Three) ∷ rest) (unwhole n d)
@@ -81,10 +60,10 @@ unwhole-file-found file Three rest three = elim (ℕ-discrete (unwholeFile file)
 -- ---- a call that goes on
 
 abbrev six : Lent → Refusals
-six m = (6, Deserves-6 (problem for-C m) (wordsOf (m .held .agenda)) (m .held .steps) (m .held .checks) (m .held .subproblems)) ∷ []
+six m = (6, Deserves-6 (problem for-C m (m .tables)) (wordsOf (m .held .agenda)) (m .held .steps) (m .held .checks) (m .held .subproblems)) ∷ []
 
 abbrev from-4 : Lent → Refusals → Refusals
-from-4 m more = (4, Deserves-4 (problem for-C m)) ∷ (5, Deserves-5 (problem for-C m)) ∷ more
+from-4 m more = (4, Deserves-4 (problem for-C m (m .tables))) ∷ (5, Deserves-5 (problem for-C m (m .tables))) ∷ more
 
 -- Two searches that are held, each saying its words, are one if these are.
 held-one : (h k : Held) → heldWords h ≡ heldWords k → Says-words h → k .agenda ≡ bytesOf (wordsOf (k .agenda)) → h ≡ k
@@ -193,10 +172,10 @@ said-for-C m way o g = ⊎-elim (λ w. whole-said m way o g w) (λ f. odd-said m
 
 -- ---- cuts
 
-pub cuts-for-C : (m : Lent) (way : Way) (refused taken : ℕ) (whole end : Outcome) → for-C .Going-on m way whole → (whole .verdict ≡ 0 → ⊥)
+pub cuts-for-C : (m : Lent) (way : Way) (whole : Outcome) → for-C .Going-on m way whole → (whole .verdict ≡ 0 → ⊥) → (refused taken : ℕ) (end : Outcome)
     → Journey for-C m way refused taken end
     → (refused ≡ 0) × (taken ≡ whole .taken) × (end ≡ record { held = whole .held; verdict = whole .verdict; taken = end .taken; refusal = whole .refusal })
-cuts-for-C m way refused taken whole end g some journey =
+cuts-for-C m way whole g some refused taken end journey =
     ⊎-elim
     (λ w.
     let (g′, said-whole) = call-words m way whole w g in
@@ -231,13 +210,13 @@ opening-for-C m x k (h, bytes) = (
         (unwhole-found (m .n) (m .d) (Deserves-3 for-C (m .n) (m .d) m []) (from-4 m []) (inr f)))
   ],
   (λ f.
-  let (a, b, c, e) = open-refused (m .n) (m .d) (m .domains) (m .tables) (m .held .agenda) (x .agenda) (x .steps) (x .checks) (x .subproblems) k bytes h f in
-  (λ i. record { agenda = a i; steps = b i; checks = c i; subproblems = e i })),
+      let (a, b, c, e) = open-refused (m .n) (m .d) (m .domains) (m .tables) (m .held .agenda) (x .agenda) (x .steps) (x .checks) (x .subproblems) k bytes h f in
+      (λ i. record { agenda = a i; steps = b i; checks = c i; subproblems = e i })),
 )
 
 abbrev thirteen : Lent → List ℕ → Refusals
 thirteen m file =
-    (6, Deserves-6 (problem for-C m) (wordsOf (m .held .agenda)) (m .held .steps) (m .held .checks) (m .held .subproblems))
+    (6, Deserves-6 (problem for-C m (m .tables)) (wordsOf (m .held .agenda)) (m .held .steps) (m .held .checks) (m .held .subproblems))
     ∷ (13, Deserves-13 (m .n) (m .d) (wordsOf (m .domains)) (wordsOf (m .tables)) (wordsOf (m .held .agenda)) (stateIn (m .held)) file) ∷ []
 
 pub saving-for-C : (m : Lent) (file after : List ℕ) (blocks k : ℕ) → for-C .Saving m (m .held) file after blocks k
@@ -295,16 +274,16 @@ loading-for-C file m x k (h, bytes) = (
         (unwhole-file-found file (Deserves-3 for-C (saidN file) (saidD file) m []) ((12, Deserves-12-load file (wordsOf (m .held .agenda))) ∷ []) (inr f)))
   ],
   (λ f.
-  let (a, b, c, n, d, steps, checks, count) =
-  load-refused file (m .domains) (x .domains) (m .tables) (x .tables) (m .held .agenda) (x .held .agenda) (x .n) (x .d) (x .held .steps) (x .held .checks)
-  (x .held .subproblems) k (bytes .0) (bytes .1) (bytes .2) h f in
-  (λ i. record {
-    n = n i;
-    d = d i;
-    domains = a i;
-    tables = b i;
-    held = record { agenda = c i; steps = steps i; checks = checks i; subproblems = count i };
-  })),
+      let (a, b, c, n, d, steps, checks, count) =
+      load-refused file (m .domains) (x .domains) (m .tables) (x .tables) (m .held .agenda) (x .held .agenda) (x .n) (x .d) (x .held .steps) (x .held .checks)
+      (x .held .subproblems) k (bytes .0) (bytes .1) (bytes .2) h f in
+      (λ i. record {
+        n = n i;
+        d = d i;
+        domains = a i;
+        tables = b i;
+        held = record { agenda = c i; steps = steps i; checks = checks i; subproblems = count i };
+      })),
 )
 
 pub for-C-holds : Demands for-C
@@ -312,8 +291,15 @@ for-C-holds = record {
   opening = opening-for-C;
   saving = saving-for-C;
   loading = loading-for-C;
-  going-on = said-for-C;
-  no-plan = λ opened m way o life g e. unsolvable-no-plan (m .n) (m .d) (m .domains) opened (m .tables) (m .held) way o life (g .0) e;
+  first = λ m way o g. said-for-C m way o g .first;
+  kept = λ m way o g. said-for-C m way o g .kept;
+  next = λ m way o g. said-for-C m way o g .next;
+  none = λ m way o g. said-for-C m way o g .none;
+  stands = λ m way o g. said-for-C m way o g .stands;
+  step = λ m way o g. said-for-C m way o g .step;
+  solved = λ m way o g. said-for-C m way o g .solved;
+  unsolvable = λ m way o g. said-for-C m way o g .unsolvable;
+  no-plan = λ m way o g opened life e. unsolvable-no-plan (m .n) (m .d) (m .domains) opened (m .tables) (m .held) way o life (g .0) e;
   cuts = cuts-for-C;
   solvable = λ opened m life. solvable-held (m .n) (m .d) (m .domains) opened (m .tables) (m .held) life;
   limit = λ opened m life. steps-limited (m .n) (m .d) (m .domains) opened (m .tables) (m .held) life .2;

@@ -1,17 +1,17 @@
 -- The refusals of opening, save and load of Rattle by their tables, and what is left.
 -- Assumes nothing.
-use mathlib.Core.Path.{_≡_, refl, sym, ap, subst, _∙_}
-use mathlib.Core.Logic.{_⊎_, inl, inr, ⊎-elim, _↔_}
+use mathlib.Core.Path.{_≡_, refl, sym, subst, _∙_}
+use mathlib.Core.Logic.{inl, inr, ⊎-elim}
 use mathlib.Core.List.{List, [], _∷_}
-use Prim.Native.Nat.{ℕ, _≤_, _<_}
+use Prim.Native.Nat.{ℕ, _≤_}
 use native.Mathlib.Omega.{arith}
 use native.Mathlib.Decide.{ℕ-discrete}
 use lib.ListN.{length}
 use borrow.Author.Tests.{ne-eqb}
-use Rattle.problem.specs.FirstChecks.{Deserves-1, Deserves-2, Deserves-4, Deserves-5}
+use Rattle.problem.specs.FirstChecks.{Deserves-4, Deserves-5}
 use Rattle.problem.specs.Refusing.{Refusals, First-of}
 use Rattle.problem.proofs.Refusing.{found-of, first-of, Found}
-use Rattle.search.specs.FirstChecks.{Deserves-3-run, Deserves-3, Deserves-6}
+use Rattle.search.specs.FirstChecks.{Deserves-3, Deserves-6}
 use Rattle.search.specs.Promises.{searchTable}
 use Rattle.search.specs.Tests.FirstChecks.{openRefusal, searchRefusal}
 use Rattle.search.proofs.Promises.{open-refusals, search-refusals}
@@ -21,7 +21,7 @@ use Rattle.files.specs.Reading.{saidN, saidD, Deserves-15}
 use Rattle.files.specs.Calls.{Deserves-13, Deserves-12-load, saveRefusal, loadRefusal}
 use Rattle.files.proofs.Promises.{save-first, save-13, save-none, load-14, load-15, load-3, load-12, load-none}
 use Rattle.console.specs.Searches.{Held}
-use Rattle.demands.specs.Promises.{Lent, Calls, rattle, stateIn, problem, checks, Deserves-3 as Deserves-three}
+use Rattle.demands.specs.Promises.{Lent, rattle, stateIn, problem, checks, Deserves-3 as Deserves-three}
 use Rattle.demands.proofs.Tables.{in-third, further, found-further}
 use Rattle.demands.proofs.Saying.{no-odd}
 
@@ -41,13 +41,13 @@ pub opening-so : (m : Lent) (x : Held) (k : ℕ) → rattle .Opening m x k
 opening-so m x k h =
     let first = openRefusal (m .n) (m .d) (m .domains) (m .tables) (m .held .agenda) in (
       subst (First-of (checks rattle m [] [])) (sym (h .refusal))
-          (in-third 1 2 3 _ _ _ _ ((4, Deserves-4 (problem rattle m)) ∷ (5, Deserves-5 (problem rattle m)) ∷ []) _ (lengths-there (m .n) (m .d) m) (lengths-back (m .n) (m .d) m) refl
+          (in-third 1 2 3 _ _ _ _ ((4, Deserves-4 (problem rattle m (m .tables))) ∷ (5, Deserves-5 (problem rattle m (m .tables))) ∷ []) _ (lengths-there (m .n) (m .d) m) (lengths-back (m .n) (m .d) m) refl
           (open-refusals (m .n) (m .d) (m .domains) (m .tables) (m .held .agenda))),
       (λ f.
-      let test = ne-eqb first 0 (λ e. f (h .refusal ∙ e)) in
-      let none : x .subproblems ≡ 0 = rw test at (h .subproblems) in
-      let same : x .agenda ≡ m .held .agenda = rw test at (h .agenda) in
-      (λ i. record { agenda = same i; steps = h .steps i; checks = h .checks i; subproblems = none i })),
+          let test = ne-eqb first 0 (λ e. f (h .refusal ∙ e)) in
+          let none : x .subproblems ≡ 0 = rw test at (h .subproblems) in
+          let same : x .agenda ≡ m .held .agenda = rw test at (h .agenda) in
+          (λ i. record { agenda = same i; steps = h .steps i; checks = h .checks i; subproblems = none i })),
     )
 
 -- ---- save
@@ -95,18 +95,18 @@ module _ (m : Lent) (file : List ℕ) where
       same-first last)
 
   pub saving-so : (after : List ℕ) (blocks k : ℕ) → rattle .Saving m (m .held) file after blocks k
-      → First-of (checks rattle m [] ((6, Deserves-6 (problem rattle m) (m .held .agenda) (m .held .steps) (m .held .checks) (m .held .subproblems)) ∷ (13, Short) ∷ [])) k
+      → First-of (checks rattle m [] ((6, Deserves-6 (problem rattle m (m .tables)) (m .held .agenda) (m .held .steps) (m .held .checks) (m .held .subproblems)) ∷ (13, Short) ∷ [])) k
       × ((k ≡ 0 → ⊥) → (after ≡ file) × (blocks ≡ 0))
   unfolding number
   saving-so after blocks k h = (
-    subst (First-of (checks rattle m [] ((6, Deserves-6 (problem rattle m) (m .held .agenda) (m .held .steps) (m .held .checks) (m .held .subproblems)) ∷ (13, Short) ∷ [])))
+    subst (First-of (checks rattle m [] ((6, Deserves-6 (problem rattle m (m .tables)) (m .held .agenda) (m .held .steps) (m .held .checks) (m .held .subproblems)) ∷ (13, Short) ∷ [])))
         (sym (h .refusal))
         (in-third 1 2 3 _ _ _ _
-        ((4, Deserves-4 (problem rattle m)) ∷ (5, Deserves-5 (problem rattle m)) ∷ (6, Deserves-6 (problem rattle m) (m .held .agenda) (m .held .steps) (m .held .checks) (m .held .subproblems)) ∷ (13, Short) ∷ [])
+        ((4, Deserves-4 (problem rattle m (m .tables))) ∷ (5, Deserves-5 (problem rattle m (m .tables))) ∷ (6, Deserves-6 (problem rattle m (m .tables)) (m .held .agenda) (m .held .steps) (m .held .checks) (m .held .subproblems)) ∷ (13, Short) ∷ [])
         _ (lengths-there (m .n) (m .d) m) (lengths-back (m .n) (m .d) m) refl save-table),
     (λ f.
-    let test = ne-eqb number 0 (λ e. f (h .refusal ∙ e)) in
-    (rw test at (h .file), rw test at (h .blocks))),
+        let test = ne-eqb number 0 (λ e. f (h .refusal ∙ e)) in
+        (rw test at (h .file), rw test at (h .blocks))),
   )
 
 -- ---- load
@@ -125,10 +125,16 @@ module _ (file : List ℕ) (m : Lent) where
       let d = load-12 file (m .domains) (m .tables) (m .held .agenda) in
       let e = load-none file (m .domains) (m .tables) (m .held .agenda) in (
         ((λ q. (tt, a .0 q)), (λ x. a .1 (x .1))),
-        (((λ q. ((tt, b .0 q .0), b .0 q .1)), (λ x. b .1 (x .0 .1, x .1))),
-        (((λ q. (((tt, c .0 q .0), c .0 q .1), c .0 q .2)), (λ x. c .1 (x .0 .0 .1, x .0 .1, x .1))),
-        (((λ q. ((((tt, d .0 q .0), d .0 q .1), d .0 q .2), d .0 q .3)), (λ x. d .1 (x .0 .0 .0 .1, x .0 .0 .1, x .0 .1, x .1))),
-        ((λ q. ((((tt, e .0 q .0), e .0 q .1), e .0 q .2), e .0 q .3)), (λ x. e .1 (x .0 .0 .0 .1, x .0 .0 .1, x .0 .1, x .1)))))),
+        (
+          ((λ q. ((tt, b .0 q .0), b .0 q .1)), (λ x. b .1 (x .0 .1, x .1))),
+          (
+            ((λ q. (((tt, c .0 q .0), c .0 q .1), c .0 q .2)), (λ x. c .1 (x .0 .0 .1, x .0 .1, x .1))),
+            (
+              ((λ q. ((((tt, d .0 q .0), d .0 q .1), d .0 q .2), d .0 q .3)), (λ x. d .1 (x .0 .0 .0 .1, x .0 .0 .1, x .0 .1, x .1))),
+              ((λ q. ((((tt, e .0 q .0), e .0 q .1), e .0 q .2), e .0 q .3)), (λ x. e .1 (x .0 .0 .0 .1, x .0 .0 .1, x .0 .1, x .1))),
+            ),
+          ),
+        ),
       )
 
   pub loading-so : (x : Lent) (k : ℕ) → rattle .Loading file m x k
@@ -140,20 +146,20 @@ module _ (file : List ℕ) (m : Lent) where
         (sym (h .refusal))
         (in-third 14 15 3 _ _ _ _ ((12, Deserves-12-load file (m .held .agenda)) ∷ []) _ (lengths-there (saidN file) (saidD file) m) (lengths-back (saidN file) (saidD file) m) refl load-table),
     (λ f.
-    let test = ne-eqb load-number 0 (λ e. f (h .refusal ∙ e)) in
-    let n : x .n ≡ 0 = rw test at (h .its-n) in
-    let d : x .d ≡ 0 = rw test at (h .its-d) in
-    let domains : x .domains ≡ m .domains = rw test at (h .its-domains) in
-    let tables : x .tables ≡ m .tables = rw test at (h .its-tables) in
-    let agenda : x .held .agenda ≡ m .held .agenda = rw test at (h .its-agenda) in
-    let steps : x .held .steps ≡ 0 = rw test at (h .steps) in
-    let checks : x .held .checks ≡ 0 = rw test at (h .checks) in
-    let count : x .held .subproblems ≡ 0 = rw test at (h .subproblems) in
-    (λ i. record {
-      n = n i;
-      d = d i;
-      domains = domains i;
-      tables = tables i;
-      held = record { agenda = agenda i; steps = steps i; checks = checks i; subproblems = count i };
-    })),
+        let test = ne-eqb load-number 0 (λ e. f (h .refusal ∙ e)) in
+        let n : x .n ≡ 0 = rw test at (h .its-n) in
+        let d : x .d ≡ 0 = rw test at (h .its-d) in
+        let domains : x .domains ≡ m .domains = rw test at (h .its-domains) in
+        let tables : x .tables ≡ m .tables = rw test at (h .its-tables) in
+        let agenda : x .held .agenda ≡ m .held .agenda = rw test at (h .its-agenda) in
+        let steps : x .held .steps ≡ 0 = rw test at (h .steps) in
+        let checks : x .held .checks ≡ 0 = rw test at (h .checks) in
+        let count : x .held .subproblems ≡ 0 = rw test at (h .subproblems) in
+        (λ i. record {
+          n = n i;
+          d = d i;
+          domains = domains i;
+          tables = tables i;
+          held = record { agenda = agenda i; steps = steps i; checks = checks i; subproblems = count i };
+        })),
   )

@@ -1,20 +1,18 @@
 -- What demands 1 and 2 say of a call of Rattle that goes on with a search.
 -- Assumes nothing.
 use mathlib.Core.Path.{_≡_, refl, sym, ap, subst, _∙_}
-use mathlib.Core.Logic.{_⊎_, inl, inr, ⊎-elim, _↔_}
-use mathlib.Core.Bool.{true}
+use mathlib.Core.Logic.{inl, ⊎-elim, _↔_}
 use mathlib.Core.List.{List, [], _∷_, _++_}
-use Prim.Native.Nat.{ℕ, _%_, _+_, _≤_, _<_}
+use Prim.Native.Nat.{ℕ, _%_, _/_, _+_, _≤_, _<_}
 use native.Mathlib.Omega.{arith}
 use native.Mathlib.Decide.{ℕ-discrete}
 use lib.ListN.{length, getD}
-use Rattle.problem.specs.Problem.{Problem}
 use Rattle.problem.specs.FirstChecks.{Deserves-4, Deserves-5}
 use Rattle.problem.specs.Refusing.{Refusals, First-of}
 use Rattle.splits.specs.Splits.{pieces}
 use Rattle.splits.specs.declared.subproblem.Subproblem.{Subproblem}
-use Rattle.searches.specs.Machines.{Machine, splitTop}
-use Rattle.searches.specs.Steps.{stop, step, refusalsOfRequest}
+use Rattle.searches.specs.Machines.{splitTop}
+use Rattle.searches.specs.Steps.{step, refusalsOfRequest}
 use Rattle.searches.specs.Verdicts.{numberOf, verdictOf}
 use Rattle.searches.specs.Runs.{run}
 use Rattle.searches.specs.Tests.Refusal.{refusalOfRequest}
@@ -22,14 +20,32 @@ use Rattle.searches.specs.Promises.{Shown}
 use Rattle.searches.proofs.Runs.{stops}
 use Rattle.search.specs.Agenda.{stackOf}
 use Rattle.search.specs.Slots.{slots, Search, Stopped, Deserves-12}
-use Rattle.search.specs.FirstChecks.{Deserves-3-run, Deserves-6}
+use Rattle.search.specs.FirstChecks.{Deserves-6}
 use Rattle.search.proofs.Promises.{search-refusals, run-refusals, slots-refusals}
-use Rattle.console.specs.Searches.{Held, Outcome, Way, by-requests, by-chooser}
-use Rattle.console.proofs.Going.{alone, outcome-is}
-use Rattle.demands.specs.Promises.{Lent, Calls, rattle, stateIn, problem, search, room, asked, front, checks, Said}
+use Rattle.console.specs.Searches.{Outcome, Way, by-requests, by-chooser}
+use Rattle.console.proofs.Going.{alone}
+use Rattle.demands.specs.Promises.{Lent, Calls, rattle, problem, search, asked, front, checks}
 use Rattle.demands.proofs.Tables.{in-third}
-use Rattle.demands.proofs.Calling.{firstOf, stoppedOf, stopped-is, none-if, passed, refused-so, passing, handed, passes-first, outcomeAt, search-left, passes-left, says-so}
+use Rattle.demands.proofs.Calling.{room, firstOf, stoppedOf, stopped-is, none-if, passed, refused-so, passing, handed, passes-first, outcomeAt, search-left, passes-left, says-so}
 use Rattle.demands.proofs.Standing.{few-taken, alone-stops}
+
+-- What demands 1 and 2 say of one call.
+pub record Said (c : Calls) (m : Lent) (way : Way) (o : Outcome) : Type 0 where
+  pub first : (k : ℕ) → (o .verdict ≡ 0 → k ≡ o .refusal) → ((o .verdict ≡ 0 → ⊥) → k ≡ 0)
+      → First-of (checks c m (elim way [ by-requests l ↦ l | by-chooser j ↦ [] ])
+      ((6, Deserves-6 (problem c m (m .tables)) (c .words (m .held .agenda)) (m .held .steps) (m .held .checks) (m .held .subproblems)) ∷ [])) k
+  pub kept : o .verdict ≡ 0 → (o .refusal ≡ 0 → ⊥) × (o ≡ record { held = m .held; verdict = 0; taken = 0; refusal = o .refusal })
+  pub next : (P : Subproblem) (S : List Subproblem) → o .verdict ≡ 1 → o .taken < length (asked c m way) → search c m (o .held) .memory ≡ P ∷ S →
+      let q : List ℕ = getD (asked c m way) (o .taken) [] in
+      First-of (refusalsOfRequest (problem c m (m .tables)) (o .held .steps) P q
+      (Deserves-12 (problem c m (m .tables)) (length (c .words (m .held .agenda)) / (m .n + 2)) P S q)) (o .refusal)
+  pub none : (o .verdict ≡ 0 → ⊥) → (o .verdict ≡ 1 → o .taken < length (asked c m way) → ⊥) → o .refusal ≡ 0
+  pub stands : (o .verdict ≡ 0 → ⊥) → (q : Outcome) → c .Going-on m (front c (m .n) (o .taken) way) q
+      → q ≡ record { held = o .held; verdict = o .verdict; taken = o .taken; refusal = 0 }
+  pub step : o .taken ≡ 1 → (P : Subproblem) (S : List Subproblem) → search c m (m .held) .memory ≡ P ∷ S
+      → search c m (o .held) .memory ≡ pieces (m .n) (problem c m (m .tables) .allowed) P (getD (asked c m way) 0 []) ++ S
+  pub solved : o .verdict ≡ 2 → Shown (problem c m (m .tables)) (search c m (o .held) .memory)
+  pub unsolvable : (o .verdict ≡ 0 → ⊥) → (o .verdict ≡ 3) ↔ (o .held .subproblems ≡ 0)
 
 -- Words are whole words.
 pub no-odd : (a b c e : ℕ) → (a % 1 + b % 1 + c % 1 + e % 1 ≡ 0 → ⊥) → ⊥
@@ -42,11 +58,11 @@ listed way = elim way [ by-requests l ↦ l | by-chooser j ↦ [] ]
 -- 4 to 6.
 abbrev from-4 : Lent → Refusals
 from-4 m =
-    (4, Deserves-4 (problem rattle m)) ∷ (5, Deserves-5 (problem rattle m))
-    ∷ (6, Deserves-6 (problem rattle m) (m .held .agenda) (m .held .steps) (m .held .checks) (m .held .subproblems)) ∷ []
+    (4, Deserves-4 (problem rattle m (m .tables))) ∷ (5, Deserves-5 (problem rattle m (m .tables)))
+    ∷ (6, Deserves-6 (problem rattle m (m .tables)) (m .held .agenda) (m .held .steps) (m .held .checks) (m .held .subproblems)) ∷ []
 
 -- The first checks give the first of the table.
-pub first-of-table : (m : Lent) (way : Way) → First-of (checks rattle m (listed way) ((6, Deserves-6 (problem rattle m) (m .held .agenda) (m .held .steps) (m .held .checks) (m .held .subproblems)) ∷ [])) (firstOf m way)
+pub first-of-table : (m : Lent) (way : Way) → First-of (checks rattle m (listed way) ((6, Deserves-6 (problem rattle m (m .tables)) (m .held .agenda) (m .held .steps) (m .held .checks) (m .held .subproblems)) ∷ [])) (firstOf m way)
 unfolding firstOf
 first-of-table m (by-requests l) =
     in-third 1 2 3 _ _ _ _ (from-4 m) _ (λ x. inl x)
@@ -59,12 +75,6 @@ first-of-table m (by-chooser k) =
     (search-refusals (m .n) (m .d) (m .domains) (m .tables) (m .held .agenda) (m .held .steps) (m .held .checks) (m .held .subproblems))
 
 module _ (m : Lent) (way : Way) (o : Outcome) (g : rattle .Going-on m way o) where
-  p : Problem
-  p = problem rattle m
-
-  M : Machine
-  M = slots (room rattle m)
-
   first-number : (k : ℕ) → (o .verdict ≡ 0 → k ≡ o .refusal) → ((o .verdict ≡ 0 → ⊥) → k ≡ 0) → k ≡ firstOf m way
   first-number k some none = elim (ℕ-discrete (firstOf m way) 0) [
     | yes z ↦ none (λ v. none-if m way o g .0 v z) ∙ sym z
@@ -80,7 +90,7 @@ module _ (m : Lent) (way : Way) (o : Outcome) (g : rattle .Going-on m way o) whe
 
   module _ (z : firstOf m way ≡ 0) where
     x : Stopped
-    x = run (problem rattle m) (slots (room rattle m)) (asked rattle m way) (search rattle m (m .held))
+    x = run (problem rattle m (m .tables)) (slots (room m)) (asked rattle m way) (search rattle m (m .held))
 
     at : o ≡ outcomeAt m x
     unfolding x
@@ -100,24 +110,24 @@ module _ (m : Lent) (way : Way) (o : Outcome) (g : rattle .Going-on m way o) whe
     refusal-is = ap (λ (y : Outcome). y .refusal) at
 
     next-number : o .verdict ≡ 1 → o .taken < length (asked rattle m way)
-        → o .refusal ≡ refusalOfRequest (problem rattle m) (slots (room rattle m)) (getD (asked rattle m way) (o .taken) []) (search rattle m (o .held))
+        → o .refusal ≡ refusalOfRequest (problem rattle m (m .tables)) (slots (room m)) (getD (asked rattle m way) (o .taken) []) (search rattle m (o .held))
     unfolding x
     next-number v t =
         ⊎-elim (λ f. absurd (f .verdict (sym verdict-is ∙ v)))
         (λ w. ⊎-elim
-        (λ f. refusal-is ∙ f .refusal ∙ (λ i. refusalOfRequest (problem rattle m) (slots (room rattle m)) (getD (asked rattle m way) (sym taken-is i) []) (sym left i)))
+        (λ f. refusal-is ∙ f .refusal ∙ (λ i. refusalOfRequest (problem rattle m (m .tables)) (slots (room m)) (getD (asked rattle m way) (sym taken-is i) []) (sym left i)))
         (λ f. absurd (let all = f .taken in omega (arith, all, taken-is, t))) w)
-        (stops (problem rattle m) (slots (room rattle m)) (asked rattle m way) (search rattle m (m .held)) .1)
+        (stops (problem rattle m (m .tables)) (slots (room m)) (asked rattle m way) (search rattle m (m .held)) .1)
 
     no-number : (o .verdict ≡ 1 → o .taken < length (asked rattle m way) → ⊥) → o .refusal ≡ 0
     unfolding x
     no-number f =
         refusal-is
         ∙ ⊎-elim (λ h. h .refusal) (λ w. ⊎-elim (λ h. absurd (f (verdict-is ∙ h .verdict) (let few = h .request in omega (arith, few, taken-is)))) (λ h. h .refusal) w)
-        (stops (problem rattle m) (slots (room rattle m)) (asked rattle m way) (search rattle m (m .held)) .1)
+        (stops (problem rattle m (m .tables)) (slots (room m)) (asked rattle m way) (search rattle m (m .held)) .1)
 
-    fits-left : length (search rattle m (o .held) .memory) ≤ room rattle m
-    fits-left = subst (λ (y : Search). length (y .memory) ≤ room rattle m) (sym (search-left m way o g z)) (passes-left m way o g z .fits)
+    fits-left : length (search rattle m (o .held) .memory) ≤ room m
+    fits-left = subst (λ (y : Search). length (y .memory) ≤ room m) (sym (search-left m way o g z)) (passes-left m way o g z .fits)
 
     stands : (q : Outcome) → rattle .Going-on m (front rattle (m .n) (o .taken) way) q
         → q ≡ record { held = o .held; verdict = o .verdict; taken = o .taken; refusal = 0 }
@@ -133,26 +143,26 @@ module _ (m : Lent) (way : Way) (o : Outcome) (g : rattle .Going-on m way o) whe
         q-is ∙ ap (outcomeAt m) alone-is ∙ (λ i. record { held = sym o-is i .held; verdict = sym o-is i .verdict; taken = sym o-is i .taken; refusal = 0 })
 
     one-step : o .taken ≡ 1 → (P : Subproblem) (S : List Subproblem) → search rattle m (m .held) .memory ≡ P ∷ S
-        → search rattle m (o .held) .memory ≡ pieces (m .n) (problem rattle m .allowed) P (getD (asked rattle m way) 0 []) ++ S
+        → search rattle m (o .held) .memory ≡ pieces (m .n) (problem rattle m (m .tables) .allowed) P (getD (asked rattle m way) 0 []) ++ S
     unfolding x step splitTop
     one-step e P S top =
-        ap (λ (y : Search). y .memory) (left ∙ few-taken (problem rattle m) (slots (room rattle m)) (asked rattle m way) (search rattle m (m .held)) .1 (sym taken-is ∙ e))
-        ∙ ap (splitTop (problem rattle m) (getD (asked rattle m way) 0 [])) top
+        ap (λ (y : Search). y .memory) (left ∙ few-taken (problem rattle m (m .tables)) (slots (room m)) (asked rattle m way) (search rattle m (m .held)) .1 (sym taken-is ∙ e))
+        ∙ ap (splitTop (problem rattle m (m .tables)) (getD (asked rattle m way) 0 [])) top
 
   passes : (o .verdict ≡ 0 → ⊥) → firstOf m way ≡ 0
   passes = passed m way o g
 
   pub said : Said rattle m way o
   said = record {
-    first = λ k some none. subst (First-of (checks rattle m (listed way) ((6, Deserves-6 (problem rattle m) (m .held .agenda) (m .held .steps) (m .held .checks) (m .held .subproblems)) ∷ [])))
+    first = λ k some none. subst (First-of (checks rattle m (listed way) ((6, Deserves-6 (problem rattle m (m .tables)) (m .held .agenda) (m .held .steps) (m .held .checks) (m .held .subproblems)) ∷ [])))
         (sym (first-number k some none)) (first-of-table m way);
     kept = kept;
     next = λ P S v t top.
         let z : firstOf m way ≡ 0 = passes (λ e. absurd (omega arith)) in
         let q : List ℕ = getD (asked rattle m way) (o .taken) [] in
-        subst (First-of (refusalsOfRequest (problem rattle m) (o .held .steps) P q (Deserves-12 (problem rattle m) (room rattle m) P S q)))
+        subst (First-of (refusalsOfRequest (problem rattle m (m .tables)) (o .held .steps) P q (Deserves-12 (problem rattle m (m .tables)) (room m) P S q)))
         (sym (next-number z v t))
-        (slots-refusals (problem rattle m) (room rattle m) P S (search rattle m (o .held)) q top (rw top at (fits-left z)));
+        (slots-refusals (problem rattle m (m .tables)) (room m) P S (search rattle m (o .held)) q top (rw top at (fits-left z)));
     none = λ some f. no-number (passes some) f;
     stands = λ some q h. stands (passes some) q h;
     step = λ e P S top. one-step (passes (λ v. absurd (let none = ap (λ (y : Outcome). y .taken) (kept v .1) in omega (arith, none, e)))) e P S top;
@@ -160,10 +170,10 @@ module _ (m : Lent) (way : Way) (o : Outcome) (g : rattle .Going-on m way o) whe
     unsolvable = λ some. unsolvable-so some;
   }
     where
-      solved-so : o .verdict ≡ 2 → Shown (problem rattle m) (search rattle m (o .held) .memory)
+      solved-so : o .verdict ≡ 2 → Shown (problem rattle m (m .tables)) (search rattle m (o .held) .memory)
       solved-so e =
           let z : firstOf m way ≡ 0 = passes (λ v. absurd (omega arith)) in
-          subst (λ (i : ℕ). Shown (problem rattle m) (stackOf (m .n) (o .held .agenda) i)) (sym (g .1 .its-subproblems))
+          subst (λ (i : ℕ). Shown (problem rattle m (m .tables)) (stackOf (m .n) (o .held .agenda) i)) (sym (g .1 .its-subproblems))
           (says-so m way o g z .solved (sym (g .1 .its-verdict) ∙ e))
 
       unsolvable-so : (o .verdict ≡ 0 → ⊥) → (o .verdict ≡ 3) ↔ (o .held .subproblems ≡ 0)

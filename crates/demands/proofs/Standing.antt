@@ -1,8 +1,8 @@
 -- The requests or steps that a call took, alone; and a single one of them.
 -- Assumes nothing.
-use mathlib.Core.Path.{_≡_, refl, sym, ap, subst, _∙_}
-use mathlib.Core.List.{List, [], _∷_}
-use Prim.Native.Nat.{ℕ, _+_, _-_, _*_, _/_, _≤_, min}
+use mathlib.Core.Path.{_≡_, refl, sym, ap, _∙_}
+use mathlib.Core.List.{List, []}
+use Prim.Native.Nat.{ℕ, _+_, _-_, _*_, _≤_, min}
 use native.Mathlib.Omega.{arith}
 use native.Mathlib.Nat.{mul-le-mul-right, add-mul, one-mul}
 use native.Mathlib.Numerals.{one-add}
@@ -10,18 +10,17 @@ use lib.ListN.{length, getD, take, drop, length-drop, take-append-drop}
 use lib.Seq.{length-take-le, take-at}
 use Rattle.problem.specs.Problem.{Problem}
 use Rattle.searches.specs.Machines.{Machine}
-use Rattle.searches.specs.Steps.{Search, Stopped, stop, step}
-use Rattle.searches.specs.Runs.{runFrom, run, requestsIn}
+use Rattle.searches.specs.Steps.{Search, stop, step}
+use Rattle.searches.specs.Runs.{run, requestsIn}
 use Rattle.searches.specs.Chooser.{chooseFrom, choose}
 use Rattle.searches.proofs.Runs.{after, run-ind, taken-alone, stops}
 use Rattle.searches.proofs.Picking.{choose-ind, choose-taken, choose-stops}
-use Rattle.search.specs.FirstChecks.{WholeRequests}
 use Rattle.search.specs.Slots.{slots}
 use Rattle.files.proofs.Requests.{requests-append}
 use Rattle.console.specs.Searches.{Way, by-requests, by-chooser}
 use Rattle.console.proofs.Standing.{requests-number}
-use Rattle.demands.specs.Promises.{Lent, rattle, problem, search, room, front}
-use Rattle.demands.proofs.Calling.{stoppedOf, Whole-way}
+use Rattle.demands.specs.Promises.{Lent, rattle, problem, search, front}
+use Rattle.demands.proofs.Calling.{room, stoppedOf, Whole-way}
 
 module _ (p : Problem) (M : Machine) where
   -- A run that took none left the search, one that took one took a step.
@@ -68,12 +67,12 @@ alone-stops m (by-requests l) (j, e) =
     let n : ℕ = m .n in
     let rs = requestsIn n l in
     let s = search rattle m (m .held) in
-    let t : ℕ = run (problem rattle m) (slots (room rattle m)) rs s .taken in
-    let few : t ≤ j = omega (arith, stops (problem rattle m) (slots (room rattle m)) rs s .0, requests-number n l j e) in
+    let t : ℕ = run (problem rattle m (m .tables)) (slots (room m)) rs s .taken in
+    let few : t ≤ j = omega (arith, stops (problem rattle m (m .tables)) (slots (room m)) rs s .0, requests-number n l j e) in
     let (long, front, rest) = front-requests n l j t e few in
-    rw (one-mul (t * (n + 3))) ((t, long), ap (λ (qs : List (List ℕ)). run (problem rattle m) (slots (room rattle m)) qs s) front ∙ taken-alone (problem rattle m) (slots (room rattle m)) rs s)
+    rw (one-mul (t * (n + 3))) ((t, long), ap (λ (qs : List (List ℕ)). run (problem rattle m (m .tables)) (slots (room m)) qs s) front ∙ taken-alone (problem rattle m (m .tables)) (slots (room m)) rs s)
 alone-stops m (by-chooser k) w =
     let s = search rattle m (m .held) in
-    let t : ℕ = choose (problem rattle m) (slots (room rattle m)) k s .taken in
-    let least : min t k ≡ t = omega (arith, choose-stops (problem rattle m) (slots (room rattle m)) k s .0) in
-    (tt, ap (λ (i : ℕ). choose (problem rattle m) (slots (room rattle m)) i s) least ∙ chosen-alone (problem rattle m) (slots (room rattle m)) k s)
+    let t : ℕ = choose (problem rattle m (m .tables)) (slots (room m)) k s .taken in
+    let least : min t k ≡ t = omega (arith, choose-stops (problem rattle m (m .tables)) (slots (room m)) k s .0) in
+    (tt, ap (λ (i : ℕ). choose (problem rattle m (m .tables)) (slots (room m)) i s) least ∙ chosen-alone (problem rattle m (m .tables)) (slots (room m)) k s)

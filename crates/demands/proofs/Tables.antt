@@ -1,9 +1,9 @@
 -- Refusal tables: an entry in the place of one that says the same, and a table that goes on by one entry.
 -- Assumes nothing.
 use mathlib.Core.Path.{_≡_, sym, _∙_}
-use mathlib.Core.Logic.{_⊎_, inl, inr}
+use mathlib.Core.Logic.{inl, inr}
 use mathlib.Core.Bool.{true}
-use mathlib.Core.List.{List, [], _∷_}
+use mathlib.Core.List.{[], _∷_}
 use Prim.Native.Nat.{ℕ}
 use Rattle.problem.specs.Refusing.{Refusals, First-of}
 use Rattle.problem.proofs.Refusing.{Found, apart, found-of, first-of}

@@ -1,23 +1,22 @@
 -- A call for C that goes on with a search, and a way cut at any number of places, in words: they are those of Rattle.
 -- Assumes nothing.
 use mathlib.Core.Path.{_≡_, refl, sym, ap, subst, _∙_}
+use mathlib.Core.Logic.{inl, inr}
 use mathlib.Core.List.{List, []}
-use Prim.Native.Nat.{ℕ, _+_, _-_, _*_, _/_, _%_, _≤_, min}
+use native.Mathlib.Decide.{ℕ-discrete}
+use Prim.Native.Nat.{ℕ, _+_, _-_, _*_, _/_, _%_, min}
 use native.Mathlib.Omega.{arith}
 use native.Mathlib.Nat.{one-mul}
 use lib.ListN.{length, take, drop, length-take, length-drop}
-use Rattle.search.specs.declared.state.State.{State}
-use Rattle.files.specs.Calls.{Deserves-13, Saves, Loads}
-use Rattle.files.specs.declared.saved.Saved.{Saved}
-use Rattle.files.specs.declared.saved.Loaded.{Loaded}
-use Rattle.bytes.specs.Bytes.{Bytes, Whole, wordsOf, bytesOf}
+use Rattle.files.specs.Calls.{Saves, Loads}
+use Rattle.bytes.specs.Bytes.{Whole, wordsOf, bytesOf}
 use Rattle.bytes.proofs.Words.{words-length, words-small, words-past, words-front, said-whole}
 use Rattle.console.specs.Calls.{WholeProblem}
-use Rattle.console.specs.Searches.{Held, Outcome, Way, by-requests, by-chooser, Goes-on}
+use Rattle.console.specs.Searches.{Held, Outcome, Way, by-requests, by-chooser}
 use Rattle.console.proofs.Promises.{load-in-words}
 use Rattle.console.proofs.Going as Going
-use Rattle.demands.specs.Promises.{Lent, Calls, rattle, for-C, stateIn, front, Journey, uncut, cut}
-use Rattle.demands.proofs.Saying.{listed}
+use Rattle.demands.specs.Promises.{Lent, rattle, for-C, stateIn, front, Deserves-3, Journey, uncut, cut}
+use Rattle.demands.proofs.Saying.{no-odd, listed}
 use Rattle.demands.proofs.Cutting.{rest}
 
 -- In words.
@@ -33,6 +32,27 @@ outWords o = record { held = heldWords (o .held); verdict = o .verdict; taken = 
 abbrev pub wayWords : Way → Way
 wayWords (by-requests l) = by-requests (wordsOf l)
 wayWords (by-chooser k) = by-chooser k
+
+-- ---- whole words or not
+
+abbrev pub Evens : Lent → List ℕ → Type 0
+Evens m l = length (m .domains) % 2 + length (m .tables) % 2 + length (m .held .agenda) % 2 + length l % 2 ≡ 0
+
+pub whole-of : (m : Lent) (l : List ℕ) → Evens m l → WholeProblem (m .domains) (m .tables) (m .held .agenda) × Whole l
+whole-of m l z = (record { of-domains = omega arith; of-tables = omega arith; of-agenda = omega arith }, omega arith)
+
+pub evens-of : (m : Lent) (l : List ℕ) → WholeProblem (m .domains) (m .tables) (m .held .agenda) → Whole l → Evens m l
+evens-of m l w e = omega (arith, w .of-domains, w .of-tables, w .of-agenda, e)
+
+-- 3 at whole words is that of Rattle.
+pub three-there : (n d : ℕ) (m : Lent) (l : List ℕ) → Deserves-3 rattle n d (lentWords m) (wordsOf l) → Deserves-3 for-C n d m l
+three-there n d m l (inl x) = inl x
+three-there n d m l (inr f) =
+    absurd (no-odd (length (wordsOf (m .domains))) (length (wordsOf (m .tables))) (length (wordsOf (m .held .agenda))) (length (wordsOf l)) f)
+
+pub three-back : (n d : ℕ) (m : Lent) (l : List ℕ) → Evens m l → Deserves-3 for-C n d m l → Deserves-3 rattle n d (lentWords m) (wordsOf l)
+three-back n d m l z (inl x) = inl x
+three-back n d m l z (inr f) = absurd (f z)
 
 -- All lists are whole words.
 abbrev pub AllWhole : Lent → Way → Type 0
@@ -80,8 +100,14 @@ rest-whole n t (by-requests l) e = even (t * (n + 3)) (length l) (length (drop (
     even a b c f e = omega arith
 rest-whole n t (by-chooser j) e = e
 
-half : (b : List ℕ) (a : ℕ) → length b ≡ 2 * a → length (wordsOf b) ≡ 1 * a
-half b a e = words-length b ∙ omega arith
+-- Where 3 is not deserved, neither is it in words, and lists are whole words.
+sizes-words : (m x : Lent) → (Deserves-3 for-C (m .n) (m .d) x [] → ⊥)
+    → WholeProblem (x .domains) (x .tables) (x .held .agenda) × (Deserves-3 rattle (m .n) (m .d) (lentWords x) [] → ⊥)
+unfolding wordsOf
+sizes-words m x f = elim (ℕ-discrete (length (x .domains) % 2 + length (x .tables) % 2 + length (x .held .agenda) % 2 + 0 % 2) 0) [
+  | yes z ↦ (whole-of x [] z .0, λ three. f (three-there (m .n) (m .d) x [] three))
+  | no g ↦ absurd (f (inr g))
+]
 
 -- Save and load in words.
 save-words : (m : Lent) (h : Held) (file after : List ℕ) (b k : ℕ) → WholeProblem (m .domains) (m .tables) (h .agenda) → for-C .Saving m h file after b k
@@ -116,18 +142,16 @@ pub journey-words : (m : Lent) (way : Way) (refused taken : ℕ) (end : Outcome)
     → Journey rattle (lentWords m) (wayWords way) refused taken (outWords end) × Says-words (end .held)
 journey-words m way refused taken end w (uncut g) = let x = call-words m way end w g in (uncut (x .0), x .1)
 journey-words m way refused taken end (w, e)
-    (cut {x = x} {y = y} {o = o} {file = file} {after = after} {b = b} {i = i} {j = j} {refused = refused′} {taken = taken′} k c saves fit loads ds ts long on) =
+    (cut {x = x} {y = y} {o = o} {file = file} {after = after} {b = b} {i = i} {j = j} {refused = refused′} {taken = taken′} k c saves loads fit sizes long on) =
     let (first, said) = call-words m (front for-C (m .n) k way) o (w, front-whole (m .n) k way e) c in
     let left : WholeProblem (m .domains) (m .tables) (o .held .agenda) =
     record { of-domains = w .of-domains; of-tables = w .of-tables; of-agenda = said-whole _ said } in
-    let lent : WholeProblem (x .domains) (x .tables) (x .held .agenda) =
-    record { of-domains = rw ds (omega arith); of-tables = rw ts (omega arith); of-agenda = rw long (w .of-agenda) } in
+    let (lent, right) = sizes-words m x sizes in
     let (further, end-said) =
     journey-words y (restC (m .n) (o .taken) way) refused′ taken′ end (load-whole (take (512 * b) after) x y j lent loads, rest-whole (m .n) (o .taken) way e) on in (
       cut {x = lentWords x} {y = lentWords y} {o = outWords o} k
           (subst (λ (q : Way). rattle .Going-on (lentWords m) q (outWords o)) (front-words (m .n) k way) first)
-          (save-words m (o .held) file after b i left saves) fit (load-words (take (512 * b) after) x y j lent loads)
-          (half (x .domains) (m .n) ds) (half (x .tables) (m .n * m .n * m .d) ts)
+          (save-words m (o .held) file after b i left saves) (load-words (take (512 * b) after) x y j lent loads) fit right
           (words-length (x .held .agenda) ∙ ap (λ (a : ℕ). a / 2) long ∙ sym (words-length (m .held .agenda)))
           (subst (λ (q : Way). Journey rattle (lentWords y) q refused′ taken′ (outWords end)) (rest-words (m .n) (o .taken) way) further),
       end-said,

@@ -1,21 +1,18 @@
--- The three demands of docs/RULES.md, stated once of any calls and held twice: by the calls of Rattle on words, and by those for C on bytes. What a call
--- returns and leaves is its contract (Opens, Runs, Chooses, Saves, Loads, and each for C). D1.1 is the language's: a function takes all values of its types.
+-- The three demands of docs/RULES.md, stated once of any calls and held by both: those of Rattle, on words, and those for C, on bytes. D1.1 is the language's.
 use mathlib.Core.Path.{_≡_}
 use mathlib.Core.Logic.{_⊎_, _↔_}
 use mathlib.Core.List.{List, List·Memᴰ, [], _∷_, _++_}
-use Prim.Native.Nat.{ℕ, _+_, _-_, _*_, _%_, _≤_, _<_, min}
+use Prim.Native.Nat.{ℕ, _+_, _-_, _*_, _/_, _%_, _≤_, _<_, min}
 use lib.ListN.{length, getD, take, drop}
 use Rattle.problem.specs.Problem.{Problem, problemOf, possibilities, Words}
 use Rattle.problem.specs.FirstChecks.{Deserves-1, Deserves-2, Deserves-4, Deserves-5}
 use Rattle.problem.specs.Refusing.{Refusals, First-of}
-use Rattle.splits.specs.Refusals.{Deserves-7, Deserves-8, Deserves-9, Deserves-10}
 use Rattle.splits.specs.Splits.{pieces}
 use Rattle.splits.specs.declared.subproblem.Subproblem.{Subproblem}
 use Rattle.splitting.specs.Promises.{Solvable}
-use Rattle.searches.specs.Steps.{Deserves-11}
+use Rattle.searches.specs.Steps.{refusalsOfRequest}
 use Rattle.searches.specs.Runs.{requestsIn}
 use Rattle.searches.specs.Promises.{Has-solution, Shown, picks}
-use Rattle.search.specs.Agenda.{slotsIn}
 use Rattle.search.specs.Slots.{slots, Search, Deserves-12}
 use Rattle.search.specs.FirstChecks.{Deserves-3-run, Deserves-6}
 use Rattle.search.specs.Calls.{searchOf, Opens, Runs, Chooses}
@@ -29,20 +26,19 @@ use Rattle.bytes.specs.Bytes.{Bytes, wordsOf}
 use Rattle.console.specs.Calls.{stateOf, HandsOut, OpensForC, SavesForC, LoadsForC}
 use Rattle.console.specs.Searches.{Held, Typed, Outcome, Way, by-requests, by-chooser, Goes-on, Lived-for-C}
 
--- Lent is what a call is lent: n, d, domains, tables and a search, Held as its agenda, steps, checks and number of subproblems. A Way on is a list of requests or
--- a number of steps of the house chooser. An Outcome is what is then held, the verdict (0 none, 1 running, 2 solved, 3 unsolvable), the requests or steps taken,
--- and the refusal. Calls have places for a word in a list, words that a list says, each call at values of its types, and what an opening of tables began.
-abbrev pub Lent : Type 0
+-- Held is a search: agenda, steps, checks, number of subproblems. A Way on from it: a list of requests, or a number of steps of the house chooser.
+-- An Outcome: what is held then, the verdict (0 none, 1 running, 2 solved, 3 unsolvable), how many requests or steps were taken, the refusal.
+abbrev pub Lent : Type 0  -- What a call is lent.
 Lent = record { n : ℕ; d : ℕ; domains : List ℕ; tables : List ℕ; held : Held }
 
 pub record Calls : Type 1 where
-  pub wide : ℕ
-  pub words : List ℕ → List ℕ
+  pub wide : ℕ  -- The places that a word takes in a list.
+  pub words : List ℕ → List ℕ  -- The words that a list says.
   pub Opening : (m : Lent) (left : Held) (refusal : ℕ) → Type 0
   pub Going-on : (m : Lent) (way : Way) (o : Outcome) → Type 0
   pub Saving : (m : Lent) (h : Held) (file after : List ℕ) (blocks refusal : ℕ) → Type 0
   pub Loading : (file : List ℕ) (m left : Lent) (refusal : ℕ) → Type 0
-  pub Begun : (opened : List ℕ) (m : Lent) → Type 0
+  pub Begun : (opened : List ℕ) (m : Lent) → Type 0  -- An opening of these tables began it; those in memory may differ at a variable with itself.
 
 abbrev pub stateIn : Held → State
 stateIn h = stateOf (h .steps) (h .checks) (h .subproblems)
@@ -68,105 +64,86 @@ abbrev pub for-C : Calls
 for-C = record {
   wide = 2;
   words = wordsOf;
-  Opening = λ m x k. OpensForC (m .n) (m .d) (m .domains) (m .tables) (m .held .agenda) (x .agenda) (x .steps) (x .checks) (x .subproblems) k
-      × Bytes (m .held .agenda);
+  Opening = λ m x k. OpensForC (m .n) (m .d) (m .domains) (m .tables) (m .held .agenda) (x .agenda) (x .steps) (x .checks) (x .subproblems) k × Bytes (m .held .agenda);
   Going-on = λ m way o. Goes-on (m .n) (m .d) (m .domains) (m .tables) (m .held) way o × Typed (m .held);
-  Saving = λ m h file after b k.
-      SavesForC (m .n) (m .d) (m .domains) (m .tables) (h .agenda) (h .steps) (h .checks) (h .subproblems) file after b k;
+  Saving = λ m h file after b k. SavesForC (m .n) (m .d) (m .domains) (m .tables) (h .agenda) (h .steps) (h .checks) (h .subproblems) file after b k;
   Loading = λ file m x k. LoadsForC file (m .domains) (x .domains) (m .tables) (x .tables) (m .held .agenda) (x .held .agenda) (x .n) (x .d)
       (x .held .steps) (x .held .checks) (x .held .subproblems) k × (Bytes (m .domains) × Bytes (m .tables) × Bytes (m .held .agenda));
   Begun = λ opened m. Lived-for-C (m .n) (m .d) (m .domains) opened (m .tables) (m .held);
 }
 
 module _ (c : Calls) where
-  -- The problem and a search that the words say, the requests that a way asks for (the chooser's are those that its rule picks), and the first k of a way.
-  abbrev pub problem : Lent → Problem
-  problem m = problemOf (m .n) (m .d) (c .words (m .domains)) (c .words (m .tables))
+  -- The problem by some tables, a search that is held, the requests that a way asks for (of the chooser those that its rule picks), and the first k of a way.
+  abbrev pub problem : Lent → List ℕ → Problem
+  problem m tables = problemOf (m .n) (m .d) (c .words (m .domains)) (c .words tables)
 
   abbrev pub search : Lent → Held → Search
   search m h = searchOf (m .n) (c .words (h .agenda)) (stateIn h)
 
-  abbrev pub room : Lent → ℕ
-  room m = slotsIn (m .n) (length (c .words (m .held .agenda)))
-
   abbrev pub asked : Lent → Way → List (List ℕ)
-  asked m way = elim way [ by-requests l ↦ requestsIn (m .n) (c .words l) | by-chooser k ↦ picks (problem m) (slots (room m)) k (search m (m .held)) ]
+  asked m (by-requests l) = requestsIn (m .n) (c .words l)
+  asked m (by-chooser k) = picks (problem m (m .tables)) (slots (length (c .words (m .held .agenda)) / (m .n + 2))) k (search m (m .held))
 
   abbrev pub front : ℕ → ℕ → Way → Way
   front n k way = elim way [ by-requests l ↦ by-requests (take (c .wide * (k * (n + 3))) l) | by-chooser j ↦ by-chooser (min k j) ]
 
-  -- 3, also for a list that is not whole words; then 1 to 5 in their order, with what comes after them.
+  -- 3, which a list that is not whole words deserves too; then 1 to 5 in their order, and more.
   abbrev pub Deserves-3 : ℕ → ℕ → Lent → List ℕ → Type 0
-  Deserves-3 n d m l =
-      Deserves-3-run n d (c .words (m .domains)) (c .words (m .tables)) (c .words (m .held .agenda)) (c .words l)
+  Deserves-3 n d m l = Deserves-3-run n d (c .words (m .domains)) (c .words (m .tables)) (c .words (m .held .agenda)) (c .words l)
       ⊎ (length (m .domains) % c .wide + length (m .tables) % c .wide + length (m .held .agenda) % c .wide + length l % c .wide ≡ 0 → ⊥)
 
   abbrev pub checks : Lent → List ℕ → Refusals → Refusals
-  checks m l more =
-      (1, Deserves-1 (m .n)) ∷ (2, Deserves-2 (m .d)) ∷ (3, Deserves-3 (m .n) (m .d) m l) ∷ (4, Deserves-4 (problem m)) ∷ (5, Deserves-5 (problem m)) ∷ more
+  checks m l more = (1, Deserves-1 (m .n)) ∷ (2, Deserves-2 (m .d)) ∷ (3, Deserves-3 (m .n) (m .d) m l)
+      ∷ (4, Deserves-4 (problem m (m .tables))) ∷ (5, Deserves-5 (problem m (m .tables))) ∷ more
 
-  -- Demands 1 and 2 of a call that goes on with a search.
-  pub record Said (m : Lent) (way : Way) (o : Outcome) : Type 0 where
-    -- D1.2: of the first checks' number k, which is the refusal where the verdict is none, and else 0.
-    pub first : (k : ℕ) → (o .verdict ≡ 0 → k ≡ o .refusal) → ((o .verdict ≡ 0 → ⊥) → k ≡ 0) → First-of (checks m (elim way [ by-requests l ↦ l | by-chooser j ↦ [] ])
-        ((6, Deserves-6 (problem m) (c .words (m .held .agenda)) (m .held .steps) (m .held .checks) (m .held .subproblems)) ∷ [])) k
-    -- D1.3, D1.5: refused by them, it leaves what was held; verdict and taken are 0.
-    pub kept : o .verdict ≡ 0 → (o .refusal ≡ 0 → ⊥) × (o ≡ record { held = m .held; verdict = 0; taken = 0; refusal = o .refusal })
-    -- D1.2: after them, of the first request q not taken, by the search that is left, which runs with P on top and S below; and 0 where there is no such.
-    pub next : (P : Subproblem) (S : List Subproblem) → o .verdict ≡ 1 → o .taken < length (asked m way) → search m (o .held) .memory ≡ P ∷ S →
-        let q : List ℕ = getD (asked m way) (o .taken) [] in
-        First-of ((11, Deserves-11 (o .held .steps)) ∷ (7, Deserves-7 q) ∷ (8, Deserves-8 (m .n) P q) ∷ (9, Deserves-9 (m .d) P q)
-        ∷ (10, Deserves-10 (m .n) P q) ∷ (12, Deserves-12 (problem m) (room m) P S q) ∷ []) (o .refusal)
-    pub none : (o .verdict ≡ 0 → ⊥) → (o .verdict ≡ 1 → o .taken < length (asked m way) → ⊥) → o .refusal ≡ 0
-    -- D1.4: what was taken stands: alone it leaves the same, and nothing is refused.
-    pub stands : (o .verdict ≡ 0 → ⊥) → (q : Outcome) → c .Going-on m (front (m .n) (o .taken) way) q
-        → q ≡ record { held = o .held; verdict = o .verdict; taken = o .taken; refusal = 0 }
-    -- D2.1: a step leaves the pieces of P by the request, on what lay below.
-    pub step : o .taken ≡ 1 → (P : Subproblem) (S : List Subproblem) → search m (m .held) .memory ≡ P ∷ S
-        → search m (o .held) .memory ≡ pieces (m .n) (problem m .allowed) P (getD (asked m way) 0 []) ++ S
-    -- D2.2: solved shows a plan on top.
-    pub solved : o .verdict ≡ 2 → Shown (problem m) (search m (o .held) .memory)
-    -- D2.3, D2.5: unsolvable exactly when no subproblem is held, where the first checks pass.
-    pub unsolvable : (o .verdict ≡ 0 → ⊥) → (o .verdict ≡ 3) ↔ (o .held .subproblems ≡ 0)
+  abbrev pub Of-calls : (Lent → Way → Outcome → Type 0) → Type 0
+  Of-calls Said = (m : Lent) (way : Way) (o : Outcome) → c .Going-on m way o → Said m way o
 
-  -- D3.4 to D3.7: a way cut at any number of places: a call to the cut, a save in a buffer that its blocks fit, a load of these blocks in an agenda of equal
-  -- length, and so on by what was not yet taken. The refusals of all saves and loads are added up, and so is what was taken.
+  -- D3.4 to D3.7: a way cut anywhere, at any number of places: the call to a cut, a save in a buffer long enough, a load of these blocks in an agenda of
+  -- equal length, and so on by what is not yet taken. The refusals of saves and loads are added up, and so is what was taken.
   pub data Journey : (m : Lent) (way : Way) (refused taken : ℕ) (end : Outcome) → Type 0 where
     uncut : {m : Lent} {way : Way} {o : Outcome} → c .Going-on m way o → Journey m way 0 (o .taken) o
     cut : {m x y : Lent} {way : Way} {o end : Outcome} {file after : List ℕ} {b i j refused taken : ℕ} (k : ℕ) → c .Going-on m (front (m .n) k way) o
-        → c .Saving m (o .held) file after b i
+        → c .Saving m (o .held) file after b i → c .Loading (take (512 * b) after) x y j
         → (Deserves-13 (m .n) (m .d) (c .words (m .domains)) (c .words (m .tables)) (c .words (o .held .agenda)) (stateIn (o .held)) file → ⊥)
-        → c .Loading (take (512 * b) after) x y j → length (x .domains) ≡ c .wide * m .n → length (x .tables) ≡ c .wide * (m .n * m .n * m .d)
-        → length (x .held .agenda) ≡ length (m .held .agenda)
-        → Journey y (elim way [ by-requests l ↦ by-requests (drop (c .wide * (o .taken * (m .n + 3))) l) | by-chooser j ↦ by-chooser (j - o .taken) ]) refused taken end
+        → (Deserves-3 (m .n) (m .d) x [] → ⊥) → length (x .held .agenda) ≡ length (m .held .agenda)
+        → Journey y (elim way [ by-requests l ↦ by-requests (drop (c .wide * (o .taken * (m .n + 3))) l) | by-chooser k ↦ by-chooser (k - o .taken) ]) refused taken end
         → Journey m way (i + (j + refused)) (o .taken + taken) end
 
   pub record Demands : Type 0 where
-    -- D1.2, D1.3, D1.5, of opening, save and load: the number; and refused, nothing is changed, and the numbers handed out are 0.
+    -- Demand 1. D1.2, D1.3, D1.5: the number that opening, save and load give; and refused, each list is as it was, and each number handed out is 0.
     pub opening : (m : Lent) (x : Held) (k : ℕ) → c .Opening m x k
         → First-of (checks m [] []) k × ((k ≡ 0 → ⊥) → x ≡ record { agenda = m .held .agenda; steps = 0; checks = 0; subproblems = 0 })
     pub saving : (m : Lent) (file after : List ℕ) (blocks k : ℕ) → c .Saving m (m .held) file after blocks k → First-of (checks m []
-        ((6, Deserves-6 (problem m) (c .words (m .held .agenda)) (m .held .steps) (m .held .checks) (m .held .subproblems))
+        ((6, Deserves-6 (problem m (m .tables)) (c .words (m .held .agenda)) (m .held .steps) (m .held .checks) (m .held .subproblems))
         ∷ (13, Deserves-13 (m .n) (m .d) (c .words (m .domains)) (c .words (m .tables)) (c .words (m .held .agenda)) (stateIn (m .held)) file) ∷ [])) k
         × ((k ≡ 0 → ⊥) → (after ≡ file) × (blocks ≡ 0))
     pub loading : (file : List ℕ) (m x : Lent) (k : ℕ) → c .Loading file m x k → First-of ((14, Deserves-14 file) ∷ (15, Deserves-15 file)
-        ∷ (3, Deserves-3 (saidN file) (saidD file) m []) ∷ (12, Deserves-12-load file (c .words (m .held .agenda))) ∷ []) k
-        × ((k ≡ 0 → ⊥) → x ≡ record { n = 0; d = 0; domains = m .domains; tables = m .tables; held = record { agenda = m .held .agenda; steps = 0; checks = 0; subproblems = 0 } })
-    pub going-on : (m : Lent) (way : Way) (o : Outcome) → c .Going-on m way o → Said m way o
-    -- D2.4, D2.6: of a search that an opening began unsolvable says that the problem that was opened has no plan.
-    pub no-plan : (opened : List ℕ) (m : Lent) (way : Way) (o : Outcome) → c .Begun opened m → c .Going-on m way o → o .verdict ≡ 3
-        → Has-solution (problem (record { n = m .n; d = m .d; domains = m .domains; tables = opened; held = m .held })) → ⊥
-    -- D3.1, D3.8, D3.9: where the first checks pass, no save and no load is refused, and the end is that of the way uncut.
-    pub cuts : (m : Lent) (way : Way) (refused taken : ℕ) (whole end : Outcome) → c .Going-on m way whole → (whole .verdict ≡ 0 → ⊥)
-        → Journey m way refused taken end
-        → (refused ≡ 0) × (taken ≡ whole .taken) × (end ≡ record { held = whole .held; verdict = whole .verdict; taken = end .taken; refusal = whole .refusal })
-    -- D3.2: the problem that was opened has a plan exactly if a subproblem held has one.
-    pub solvable : (opened : List ℕ) (m : Lent) → c .Begun opened m →
-        let p : Problem = problem (record { n = m .n; d = m .d; domains = m .domains; tables = opened; held = m .held }) in
-        Has-solution p ↔ ((P : Subproblem) × List·Memᴰ P (search m (m .held) .memory) × Solvable p P)
-    -- D3.3: the steps are at most S × (n + 2).
-    pub limit : (opened : List ℕ) (m : Lent) → c .Begun opened m → m .held .steps ≤ possibilities (m .n) (problem m .domain) * (m .n + 2)
+        ∷ (3, Deserves-3 (saidN file) (saidD file) m []) ∷ (12, Deserves-12-load file (c .words (m .held .agenda))) ∷ []) k × ((k ≡ 0 → ⊥)
+        → x ≡ record { n = 0; d = 0; domains = m .domains; tables = m .tables; held = record { agenda = m .held .agenda; steps = 0; checks = 0; subproblems = 0 } })
+    -- D1.2: the number k of the first checks of a call that goes on, the refusal where the verdict is none, else 0. D1.3, D1.5: refused so, all is as it was.
+    pub first : Of-calls λ m way o. (k : ℕ) → (o .verdict ≡ 0 → k ≡ o .refusal) → ((o .verdict ≡ 0 → ⊥) → k ≡ 0)
+        → First-of (checks m (elim way [ by-requests l ↦ l | by-chooser j ↦ [] ])
+        ((6, Deserves-6 (problem m (m .tables)) (c .words (m .held .agenda)) (m .held .steps) (m .held .checks) (m .held .subproblems)) ∷ [])) k
+    pub kept : Of-calls λ m way o. o .verdict ≡ 0 → (o .refusal ≡ 0 → ⊥) × (o ≡ record { held = m .held; verdict = 0; taken = 0; refusal = o .refusal })
+    -- D1.2: the number later, by 11, 7, 8, 9, 10, 12: that of the first request q not taken, P on top of S being the search left, which runs; else none.
+    pub next : Of-calls λ m way o. (P : Subproblem) (S : List Subproblem) → o .verdict ≡ 1 → o .taken < length (asked m way)
+        → search m (o .held) .memory ≡ P ∷ S → let q : List ℕ = getD (asked m way) (o .taken) [] in First-of (refusalsOfRequest (problem m (m .tables))
+        (o .held .steps) P q (Deserves-12 (problem m (m .tables)) (length (c .words (m .held .agenda)) / (m .n + 2)) P S q)) (o .refusal)
+    pub none : Of-calls λ m way o. (o .verdict ≡ 0 → ⊥) → (o .verdict ≡ 1 → o .taken < length (asked m way) → ⊥) → o .refusal ≡ 0
+    pub stands : Of-calls λ m way o. (o .verdict ≡ 0 → ⊥) → (q : Outcome) → c .Going-on m (front (m .n) (o .taken) way) q
+        → q ≡ record { held = o .held; verdict = o .verdict; taken = o .taken; refusal = 0 }  -- D1.4: what was taken, alone, leaves the same, unrefused.
+    pub step : Of-calls λ m way o. o .taken ≡ 1 → (P : Subproblem) (S : List Subproblem) → search m (m .held) .memory ≡ P ∷ S
+        → search m (o .held) .memory ≡ pieces (m .n) (problem m (m .tables) .allowed) P (getD (asked m way) 0 []) ++ S  -- Demand 2. D2.1: its pieces.
+    pub solved : Of-calls λ m way o. o .verdict ≡ 2 → Shown (problem m (m .tables)) (search m (o .held) .memory)  -- D2.2: the top shows a plan.
+    pub unsolvable : Of-calls λ m way o. (o .verdict ≡ 0 → ⊥) → (o .verdict ≡ 3) ↔ (o .held .subproblems ≡ 0)  -- D2.3, and D2.5: the first checks pass.
+    pub no-plan : Of-calls λ m way o. (opened : List ℕ) → c .Begun opened m → o .verdict ≡ 3 → Has-solution (problem m opened) → ⊥  -- D2.4, D2.6: as opened.
+    -- Demand 3. D3.1, D3.8, D3.9: where the first checks pass, no save and no load is refused, and the end is that of the way uncut.
+    pub cuts : Of-calls λ m way o. (o .verdict ≡ 0 → ⊥) → (refused taken : ℕ) (end : Outcome) → Journey m way refused taken end
+        → (refused ≡ 0) × (taken ≡ o .taken) × (end ≡ record { held = o .held; verdict = o .verdict; taken = end .taken; refusal = o .refusal })
+    pub solvable : (opened : List ℕ) (m : Lent) → c .Begun opened m → Has-solution (problem m opened)  -- D3.2: exactly if a subproblem held has one.
+        ↔ ((P : Subproblem) × List·Memᴰ P (search m (m .held) .memory) × Solvable (problem m opened) P)
+    pub limit : (opened : List ℕ) (m : Lent) → c .Begun opened m → m .held .steps ≤ possibilities (m .n) (problem m opened .domain) * (m .n + 2)  -- D3.3
 
--- The three demands hold of both.
 abbrev pub Held-by-both : Type 0
 Held-by-both = Demands rattle × Demands for-C
