@@ -219,7 +219,7 @@ module _ (m x y : Lent) (o whole : Outcome) (file after : List ℕ) (b i j : ℕ
       let least : min (o .taken) (min k N) ≡ o .taken = omega arith in
       let (a, r, goes) = some-call m (by-chooser (min (o .taken) (min k N))) in
       let alone = going m (by-chooser (min (o .taken) (min k N))) a r (g .3) goes in
-      let same = said m part o c .stands (λ none. none-if m part o c .0 none zc) (outOf a r) alone in
+      let same = said m part o c .0 .stands (λ none. none-if m part o c .0 none zc) (outOf a r) alone in
       let standing : Outcome = record { held = o .held; verdict = o .verdict; taken = o .taken; refusal = 0 } in
       let first : rattle .Going-on m (by-chooser (o .taken)) standing =
       subst (λ (t : ℕ). rattle .Going-on m (by-chooser t) standing) least

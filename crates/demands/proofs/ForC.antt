@@ -23,7 +23,7 @@ use Rattle.console.specs.Calls.{unwhole, unwholeFile}
 use Rattle.console.specs.Searches.{Held, Outcome, Way, by-requests, by-chooser}
 use Rattle.console.proofs.Promises.{unwhole-1, unwhole-2, unwhole-3, unwhole-14, unwhole-15, unwhole-file-3, open-refused, save-refused, load-refused, unsolvable-no-plan, solvable-held, steps-limited}
 use Rattle.console.proofs.Going as Going
-use Rattle.demands.specs.Promises.{Lent, rattle, for-C, stateIn, problem, front, checks, Deserves-3, Journey, Demands}
+use Rattle.demands.specs.Promises.{Lent, rattle, for-C, stateIn, problem, front, checks, Deserves-3, Journey, Demand-1, Demand-2, Demand-3}
 use Rattle.demands.proofs.Tables.{in-third}
 use Rattle.demands.proofs.Calling.{passed}
 use Rattle.demands.proofs.Saying.{Said, listed, said}
@@ -76,7 +76,7 @@ kept-so : (m : Lent) (way : Way) (o : Outcome) → for-C .Going-on m way o → A
     → (o .refusal ≡ 0 → ⊥) × (o ≡ record { held = m .held; verdict = 0; taken = 0; refusal = o .refusal })
 kept-so m way o g w v =
     let (g′, said-o) = call-words m way o w g in
-    let (some, same) = said (lentWords m) (wayWords way) (outWords o) g′ .kept v in
+    let (some, same) = said (lentWords m) (wayWords way) (outWords o) g′ .0 .kept v in
     let held : o .held ≡ m .held =
     held-one (o .held) (m .held) (ap (λ (a : Outcome). a .held) same) said-o (sym (bytes-again (m .held .agenda) (w .0 .of-agenda) (g .1 .bytes))) in
     (some, λ i. record { held = held i; verdict = same i .verdict; taken = same i .taken; refusal = o .refusal })
@@ -87,7 +87,7 @@ stands-so : (m : Lent) (way : Way) (o : Outcome) → for-C .Going-on m way o →
 stands-so m way o g (v, e) some q h =
     let (g′, said-o) = call-words m way o (v, e) g in
     let (h′, said-q) = call-words m (front for-C (m .n) (o .taken) way) q (v, front-whole (m .n) (o .taken) way e) h in
-    let same = said (lentWords m) (wayWords way) (outWords o) g′ .stands some (outWords q)
+    let same = said (lentWords m) (wayWords way) (outWords o) g′ .0 .stands some (outWords q)
     (subst (λ (u : Way). rattle .Going-on (lentWords m) u (outWords q)) (front-words (m .n) (o .taken) way) h′) in
     let held : q .held ≡ o .held = held-one (q .held) (o .held) (ap (λ (a : Outcome). a .held) same) said-q said-o in
     λ i. record { held = held i; verdict = same i .verdict; taken = same i .taken; refusal = same i .refusal }
@@ -96,29 +96,27 @@ stands-so m way o g (v, e) some q h =
 whole-said : (m : Lent) (way : Way) (o : Outcome) → for-C .Going-on m way o → AllWhole m way → Said for-C m way o
 unfolding wordsOf
 whole-said m (by-requests l) o g w =
-    let x = said (lentWords m) (by-requests (wordsOf l)) (outWords o) (call-words m (by-requests l) o w g .0) in
-    record {
-      first = λ k some none. in-third 1 2 3 _ _ _ _ (from-4 m (six m)) k (three-there (m .n) (m .d) m l) (three-back (m .n) (m .d) m l (evens-of m l (w .0) (w .1))) refl (x .first k some none);
-      kept = kept-so m (by-requests l) o g w;
-      next = x .next;
-      none = x .none;
-      stands = stands-so m (by-requests l) o g w;
-      step = x .step;
-      solved = x .solved;
-      unsolvable = x .unsolvable;
-    }
+    let x = said (lentWords m) (by-requests (wordsOf l)) (outWords o) (call-words m (by-requests l) o w g .0) in (
+      record {
+        first = λ k some none. in-third 1 2 3 _ _ _ _ (from-4 m (six m)) k (three-there (m .n) (m .d) m l) (three-back (m .n) (m .d) m l (evens-of m l (w .0) (w .1))) refl (x .0 .first k some none);
+        kept = kept-so m (by-requests l) o g w;
+        next = x .0 .next;
+        none = x .0 .none;
+        stands = stands-so m (by-requests l) o g w;
+      },
+      record { step = x .1 .step; solved = x .1 .solved; unsolvable = x .1 .unsolvable },
+    )
 whole-said m (by-chooser j) o g w =
-    let x = said (lentWords m) (by-chooser j) (outWords o) (call-words m (by-chooser j) o w g .0) in
-    record {
-      first = λ k some none. in-third 1 2 3 _ _ _ _ (from-4 m (six m)) k (three-there (m .n) (m .d) m []) (three-back (m .n) (m .d) m [] (evens-of m [] (w .0) (w .1))) refl (x .first k some none);
-      kept = kept-so m (by-chooser j) o g w;
-      next = x .next;
-      none = x .none;
-      stands = stands-so m (by-chooser j) o g w;
-      step = x .step;
-      solved = x .solved;
-      unsolvable = x .unsolvable;
-    }
+    let x = said (lentWords m) (by-chooser j) (outWords o) (call-words m (by-chooser j) o w g .0) in (
+      record {
+        first = λ k some none. in-third 1 2 3 _ _ _ _ (from-4 m (six m)) k (three-there (m .n) (m .d) m []) (three-back (m .n) (m .d) m [] (evens-of m [] (w .0) (w .1))) refl (x .0 .first k some none);
+        kept = kept-so m (by-chooser j) o g w;
+        next = x .0 .next;
+        none = x .0 .none;
+        stands = stands-so m (by-chooser j) o g w;
+      },
+      record { step = x .1 .step; solved = x .1 .solved; unsolvable = x .1 .unsolvable },
+    )
 
 unwhole-not : (n d : ℕ) → unwhole n d ≡ 0 → ⊥
 unwhole-not n d z = refute (unwhole-found n d Unit [] tt)
@@ -138,19 +136,23 @@ module _ (m : Lent) (way : Way) (o : Outcome) (odd : Evens m (listed way) → �
   number = ap (λ (x : Outcome). x .refusal) same
 
   odd-said : Said for-C m way o
-  odd-said = record {
-    first = λ k some none.
-        subst (First-of (checks for-C m (listed way) (six m))) (sym (some none-said ∙ number))
-        (first-of (checks for-C m (listed way) (six m)) (unwhole (m .n) (m .d)) refl
-        (unwhole-found (m .n) (m .d) (Deserves-3 for-C (m .n) (m .d) m (listed way)) (from-4 m (six m)) (inr odd)));
-    kept = λ v. ((λ e. unwhole-not (m .n) (m .d) (sym number ∙ e)), same ∙ ap (Going.alone (m .held)) (sym number));
-    next = λ P S v t top. absurd (omega (arith, none-said, v));
-    none = λ some f. absurd (some none-said);
-    stands = λ some q h. absurd (some none-said);
-    step = λ e P S top. absurd (let none = ap (λ (x : Outcome). x .taken) same in omega (arith, none, e));
-    solved = λ e. absurd (omega (arith, none-said, e));
-    unsolvable = λ some. absurd (some none-said);
-  }
+  odd-said = (
+    record {
+      first = λ k some none.
+          subst (First-of (checks for-C m (listed way) (six m))) (sym (some none-said ∙ number))
+          (first-of (checks for-C m (listed way) (six m)) (unwhole (m .n) (m .d)) refl
+          (unwhole-found (m .n) (m .d) (Deserves-3 for-C (m .n) (m .d) m (listed way)) (from-4 m (six m)) (inr odd)));
+      kept = λ v. ((λ e. unwhole-not (m .n) (m .d) (sym number ∙ e)), same ∙ ap (Going.alone (m .held)) (sym number));
+      next = λ P S v t top. absurd (omega (arith, none-said, v));
+      none = λ some f. absurd (some none-said);
+      stands = λ some q h. absurd (some none-said);
+    },
+    record {
+      step = λ e P S top. absurd (let none = ap (λ (x : Outcome). x .taken) same in omega (arith, none, e));
+      solved = λ e. absurd (omega (arith, none-said, e));
+      unsolvable = λ some. absurd (some none-said);
+    },
+  )
 
 list-is : (way : Way) → Whole (Going.listOf way) → Whole (listed way)
 unfolding Going.listOf
@@ -286,20 +288,17 @@ loading-for-C file m x k (h, bytes) = (
       })),
 )
 
-pub for-C-holds : Demands for-C
-for-C-holds = record {
-  opening = opening-for-C;
-  saving = saving-for-C;
-  loading = loading-for-C;
-  first = λ m way o g. said-for-C m way o g .first;
-  kept = λ m way o g. said-for-C m way o g .kept;
-  next = λ m way o g. said-for-C m way o g .next;
-  none = λ m way o g. said-for-C m way o g .none;
-  stands = λ m way o g. said-for-C m way o g .stands;
-  step = λ m way o g. said-for-C m way o g .step;
-  solved = λ m way o g. said-for-C m way o g .solved;
-  unsolvable = λ m way o g. said-for-C m way o g .unsolvable;
+pub demand-1 : Demand-1 for-C
+demand-1 = record { opening = opening-for-C; saving = saving-for-C; loading = loading-for-C; going-on = λ m way o g. said-for-C m way o g .0 }
+
+pub demand-2 : Demand-2 for-C
+demand-2 = record {
+  going-on = λ m way o g. said-for-C m way o g .1;
   no-plan = λ m way o g opened life e. unsolvable-no-plan (m .n) (m .d) (m .domains) opened (m .tables) (m .held) way o life (g .0) e;
+}
+
+pub demand-3 : Demand-3 for-C
+demand-3 = record {
   cuts = cuts-for-C;
   solvable = λ opened m life. solvable-held (m .n) (m .d) (m .domains) opened (m .tables) (m .held) life;
   limit = λ opened m life. steps-limited (m .n) (m .d) (m .domains) opened (m .tables) (m .held) life .2;

@@ -24,28 +24,14 @@ use Rattle.search.specs.FirstChecks.{Deserves-6}
 use Rattle.search.proofs.Promises.{search-refusals, run-refusals, slots-refusals}
 use Rattle.console.specs.Searches.{Outcome, Way, by-requests, by-chooser}
 use Rattle.console.proofs.Going.{alone}
-use Rattle.demands.specs.Promises.{Lent, Calls, rattle, problem, search, asked, front, checks}
+use Rattle.demands.specs.Promises.{Lent, Calls, rattle, problem, search, asked, front, checks, Numbered, Answered}
 use Rattle.demands.proofs.Tables.{in-third}
 use Rattle.demands.proofs.Calling.{room, firstOf, stoppedOf, stopped-is, none-if, passed, refused-so, passing, handed, passes-first, outcomeAt, search-left, passes-left, says-so}
 use Rattle.demands.proofs.Standing.{few-taken, alone-stops}
 
 -- What demands 1 and 2 say of one call.
-pub record Said (c : Calls) (m : Lent) (way : Way) (o : Outcome) : Type 0 where
-  pub first : (k : ℕ) → (o .verdict ≡ 0 → k ≡ o .refusal) → ((o .verdict ≡ 0 → ⊥) → k ≡ 0)
-      → First-of (checks c m (elim way [ by-requests l ↦ l | by-chooser j ↦ [] ])
-      ((6, Deserves-6 (problem c m (m .tables)) (c .words (m .held .agenda)) (m .held .steps) (m .held .checks) (m .held .subproblems)) ∷ [])) k
-  pub kept : o .verdict ≡ 0 → (o .refusal ≡ 0 → ⊥) × (o ≡ record { held = m .held; verdict = 0; taken = 0; refusal = o .refusal })
-  pub next : (P : Subproblem) (S : List Subproblem) → o .verdict ≡ 1 → o .taken < length (asked c m way) → search c m (o .held) .memory ≡ P ∷ S →
-      let q : List ℕ = getD (asked c m way) (o .taken) [] in
-      First-of (refusalsOfRequest (problem c m (m .tables)) (o .held .steps) P q
-      (Deserves-12 (problem c m (m .tables)) (length (c .words (m .held .agenda)) / (m .n + 2)) P S q)) (o .refusal)
-  pub none : (o .verdict ≡ 0 → ⊥) → (o .verdict ≡ 1 → o .taken < length (asked c m way) → ⊥) → o .refusal ≡ 0
-  pub stands : (o .verdict ≡ 0 → ⊥) → (q : Outcome) → c .Going-on m (front c (m .n) (o .taken) way) q
-      → q ≡ record { held = o .held; verdict = o .verdict; taken = o .taken; refusal = 0 }
-  pub step : o .taken ≡ 1 → (P : Subproblem) (S : List Subproblem) → search c m (m .held) .memory ≡ P ∷ S
-      → search c m (o .held) .memory ≡ pieces (m .n) (problem c m (m .tables) .allowed) P (getD (asked c m way) 0 []) ++ S
-  pub solved : o .verdict ≡ 2 → Shown (problem c m (m .tables)) (search c m (o .held) .memory)
-  pub unsolvable : (o .verdict ≡ 0 → ⊥) → (o .verdict ≡ 3) ↔ (o .held .subproblems ≡ 0)
+abbrev pub Said : Calls → Lent → Way → Outcome → Type 0
+Said c m way o = Numbered c m way o × Answered c m way o
 
 -- Words are whole words.
 pub no-odd : (a b c e : ℕ) → (a % 1 + b % 1 + c % 1 + e % 1 ≡ 0 → ⊥) → ⊥
@@ -119,6 +105,13 @@ module _ (m : Lent) (way : Way) (o : Outcome) (g : rattle .Going-on m way o) whe
         (λ f. absurd (let all = f .taken in omega (arith, all, taken-is, t))) w)
         (stops (problem rattle m (m .tables)) (slots (room m)) (asked rattle m way) (search rattle m (m .held)) .1)
 
+    next-some : o .verdict ≡ 1 → o .taken < length (asked rattle m way) → o .refusal ≡ 0 → ⊥
+    unfolding x
+    next-some v t e =
+        ⊎-elim (λ f. f .verdict (sym verdict-is ∙ v))
+        (λ w. ⊎-elim (λ f. f .refused (sym refusal-is ∙ e)) (λ f. absurd (let all = f .taken in omega (arith, all, taken-is, t))) w)
+        (stops (problem rattle m (m .tables)) (slots (room m)) (asked rattle m way) (search rattle m (m .held)) .1)
+
     no-number : (o .verdict ≡ 1 → o .taken < length (asked rattle m way) → ⊥) → o .refusal ≡ 0
     unfolding x
     no-number f =
@@ -153,22 +146,28 @@ module _ (m : Lent) (way : Way) (o : Outcome) (g : rattle .Going-on m way o) whe
   passes = passed m way o g
 
   pub said : Said rattle m way o
-  said = record {
-    first = λ k some none. subst (First-of (checks rattle m (listed way) ((6, Deserves-6 (problem rattle m (m .tables)) (m .held .agenda) (m .held .steps) (m .held .checks) (m .held .subproblems)) ∷ [])))
-        (sym (first-number k some none)) (first-of-table m way);
-    kept = kept;
-    next = λ P S v t top.
-        let z : firstOf m way ≡ 0 = passes (λ e. absurd (omega arith)) in
-        let q : List ℕ = getD (asked rattle m way) (o .taken) [] in
-        subst (First-of (refusalsOfRequest (problem rattle m (m .tables)) (o .held .steps) P q (Deserves-12 (problem rattle m (m .tables)) (room m) P S q)))
-        (sym (next-number z v t))
-        (slots-refusals (problem rattle m (m .tables)) (room m) P S (search rattle m (o .held)) q top (rw top at (fits-left z)));
-    none = λ some f. no-number (passes some) f;
-    stands = λ some q h. stands (passes some) q h;
-    step = λ e P S top. one-step (passes (λ v. absurd (let none = ap (λ (y : Outcome). y .taken) (kept v .1) in omega (arith, none, e)))) e P S top;
-    solved = λ e. solved-so e;
-    unsolvable = λ some. unsolvable-so some;
-  }
+  said = (
+    record {
+      first = λ k some none. subst (First-of (checks rattle m (listed way) ((6, Deserves-6 (problem rattle m (m .tables)) (m .held .agenda) (m .held .steps) (m .held .checks) (m .held .subproblems)) ∷ [])))
+          (sym (first-number k some none)) (first-of-table m way);
+      kept = kept;
+      next = λ P S v t top.
+          let z : firstOf m way ≡ 0 = passes (λ e. absurd (omega arith)) in
+          let q : List ℕ = getD (asked rattle m way) (o .taken) [] in (
+            next-some z v t,
+            subst (First-of (refusalsOfRequest (problem rattle m (m .tables)) (o .held .steps) P q (Deserves-12 (problem rattle m (m .tables)) (room m) P S q)))
+                (sym (next-number z v t))
+                (slots-refusals (problem rattle m (m .tables)) (room m) P S (search rattle m (o .held)) q top (rw top at (fits-left z))),
+          );
+      none = λ some f. no-number (passes some) f;
+      stands = λ some q h. stands (passes some) q h;
+    },
+    record {
+      step = λ e P S top. one-step (passes (λ v. absurd (let none = ap (λ (y : Outcome). y .taken) (kept v .1) in omega (arith, none, e)))) e P S top;
+      solved = λ e. solved-so e;
+      unsolvable = λ some. unsolvable-so some;
+    },
+  )
     where
       solved-so : o .verdict ≡ 2 → Shown (problem rattle m (m .tables)) (search rattle m (o .held) .memory)
       solved-so e =

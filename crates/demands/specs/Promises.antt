@@ -110,8 +110,30 @@ module _ (c : Calls) where
         → Journey y (elim way [ by-requests l ↦ by-requests (drop (c .wide * (o .taken * (m .n + 3))) l) | by-chooser k ↦ by-chooser (k - o .taken) ]) refused taken end
         → Journey m way (i + (j + refused)) (o .taken + taken) end
 
-  pub record Demands : Type 0 where
-    -- Demand 1. D1.2, D1.3, D1.5: the number that opening, save and load give; and refused, each list is as it was, and each number handed out is 0.
+  -- Demand 1, of a call that goes on. D1.2: the number k of its first checks, the refusal where the verdict is none, else 0. D1.3, D1.5: refused so, all is as it was.
+  pub record Numbered (m : Lent) (way : Way) (o : Outcome) : Type 0 where
+    pub first : (k : ℕ) → (o .verdict ≡ 0 → k ≡ o .refusal) → ((o .verdict ≡ 0 → ⊥) → k ≡ 0)
+        → First-of (checks m (elim way [ by-requests l ↦ l | by-chooser j ↦ [] ])
+        ((6, Deserves-6 (problem m (m .tables)) (c .words (m .held .agenda)) (m .held .steps) (m .held .checks) (m .held .subproblems)) ∷ [])) k
+    pub kept : o .verdict ≡ 0 → (o .refusal ≡ 0 → ⊥) × (o ≡ record { held = m .held; verdict = 0; taken = 0; refusal = o .refusal })
+    -- D1.2: later on a request q that is not taken, while the search that is left, P on top of S, runs, has a number: the first of 11, 7, 8, 9, 10, 12. Else none.
+    pub next : (P : Subproblem) (S : List Subproblem) → o .verdict ≡ 1 → o .taken < length (asked m way) → search m (o .held) .memory ≡ P ∷ S →
+        let q : List ℕ = getD (asked m way) (o .taken) [] in (o .refusal ≡ 0 → ⊥) × First-of (refusalsOfRequest (problem m (m .tables))
+        (o .held .steps) P q (Deserves-12 (problem m (m .tables)) (length (c .words (m .held .agenda)) / (m .n + 2)) P S q)) (o .refusal)
+    pub none : (o .verdict ≡ 0 → ⊥) → (o .verdict ≡ 1 → o .taken < length (asked m way) → ⊥) → o .refusal ≡ 0
+    -- D1.4: what was taken, alone, leaves the same, and none of it is refused.
+    pub stands : (o .verdict ≡ 0 → ⊥) → (q : Outcome) → c .Going-on m (front (m .n) (o .taken) way) q
+        → q ≡ record { held = o .held; verdict = o .verdict; taken = o .taken; refusal = 0 }
+
+  -- Demand 2, of such a call. D2.1: a step leaves its pieces. D2.2: solved shows a plan on top. D2.3, D2.5: unsolvable, where the first checks pass.
+  pub record Answered (m : Lent) (way : Way) (o : Outcome) : Type 0 where
+    pub step : o .taken ≡ 1 → (P : Subproblem) (S : List Subproblem) → search m (m .held) .memory ≡ P ∷ S
+        → search m (o .held) .memory ≡ pieces (m .n) (problem m (m .tables) .allowed) P (getD (asked m way) 0 []) ++ S
+    pub solved : o .verdict ≡ 2 → Shown (problem m (m .tables)) (search m (o .held) .memory)
+    pub unsolvable : (o .verdict ≡ 0 → ⊥) → (o .verdict ≡ 3) ↔ (o .held .subproblems ≡ 0)
+
+  pub record Demand-1 : Type 0 where
+    -- D1.2, D1.3, D1.5: the number that opening, save and load give; and refused, each list is as it was, and each number handed out is 0.
     pub opening : (m : Lent) (x : Held) (k : ℕ) → c .Opening m x k
         → First-of (checks m [] []) k × ((k ≡ 0 → ⊥) → x ≡ record { agenda = m .held .agenda; steps = 0; checks = 0; subproblems = 0 })
     pub saving : (m : Lent) (file after : List ℕ) (blocks k : ℕ) → c .Saving m (m .held) file after blocks k → First-of (checks m []
@@ -121,29 +143,28 @@ module _ (c : Calls) where
     pub loading : (file : List ℕ) (m x : Lent) (k : ℕ) → c .Loading file m x k → First-of ((14, Deserves-14 file) ∷ (15, Deserves-15 file)
         ∷ (3, Deserves-3 (saidN file) (saidD file) m []) ∷ (12, Deserves-12-load file (c .words (m .held .agenda))) ∷ []) k × ((k ≡ 0 → ⊥)
         → x ≡ record { n = 0; d = 0; domains = m .domains; tables = m .tables; held = record { agenda = m .held .agenda; steps = 0; checks = 0; subproblems = 0 } })
-    -- D1.2: the number k of the first checks of a call that goes on, the refusal where the verdict is none, else 0. D1.3, D1.5: refused so, all is as it was.
-    pub first : Of-calls λ m way o. (k : ℕ) → (o .verdict ≡ 0 → k ≡ o .refusal) → ((o .verdict ≡ 0 → ⊥) → k ≡ 0)
-        → First-of (checks m (elim way [ by-requests l ↦ l | by-chooser j ↦ [] ])
-        ((6, Deserves-6 (problem m (m .tables)) (c .words (m .held .agenda)) (m .held .steps) (m .held .checks) (m .held .subproblems)) ∷ [])) k
-    pub kept : Of-calls λ m way o. o .verdict ≡ 0 → (o .refusal ≡ 0 → ⊥) × (o ≡ record { held = m .held; verdict = 0; taken = 0; refusal = o .refusal })
-    -- D1.2: the number later, by 11, 7, 8, 9, 10, 12: that of the first request q not taken, P on top of S being the search left, which runs; else none.
-    pub next : Of-calls λ m way o. (P : Subproblem) (S : List Subproblem) → o .verdict ≡ 1 → o .taken < length (asked m way)
-        → search m (o .held) .memory ≡ P ∷ S → let q : List ℕ = getD (asked m way) (o .taken) [] in First-of (refusalsOfRequest (problem m (m .tables))
-        (o .held .steps) P q (Deserves-12 (problem m (m .tables)) (length (c .words (m .held .agenda)) / (m .n + 2)) P S q)) (o .refusal)
-    pub none : Of-calls λ m way o. (o .verdict ≡ 0 → ⊥) → (o .verdict ≡ 1 → o .taken < length (asked m way) → ⊥) → o .refusal ≡ 0
-    pub stands : Of-calls λ m way o. (o .verdict ≡ 0 → ⊥) → (q : Outcome) → c .Going-on m (front (m .n) (o .taken) way) q
-        → q ≡ record { held = o .held; verdict = o .verdict; taken = o .taken; refusal = 0 }  -- D1.4: what was taken, alone, leaves the same, unrefused.
-    pub step : Of-calls λ m way o. o .taken ≡ 1 → (P : Subproblem) (S : List Subproblem) → search m (m .held) .memory ≡ P ∷ S
-        → search m (o .held) .memory ≡ pieces (m .n) (problem m (m .tables) .allowed) P (getD (asked m way) 0 []) ++ S  -- Demand 2. D2.1: its pieces.
-    pub solved : Of-calls λ m way o. o .verdict ≡ 2 → Shown (problem m (m .tables)) (search m (o .held) .memory)  -- D2.2: the top shows a plan.
-    pub unsolvable : Of-calls λ m way o. (o .verdict ≡ 0 → ⊥) → (o .verdict ≡ 3) ↔ (o .held .subproblems ≡ 0)  -- D2.3, and D2.5: the first checks pass.
-    pub no-plan : Of-calls λ m way o. (opened : List ℕ) → c .Begun opened m → o .verdict ≡ 3 → Has-solution (problem m opened) → ⊥  -- D2.4, D2.6: as opened.
-    -- Demand 3. D3.1, D3.8, D3.9: where the first checks pass, no save and no load is refused, and the end is that of the way uncut.
+    pub going-on : Of-calls Numbered
+
+  pub record Demand-2 : Type 0 where
+    pub going-on : Of-calls Answered
+    -- D2.4, D2.6: unsolvable means that the problem, as it was opened, has no plan.
+    pub no-plan : Of-calls λ m way o. (opened : List ℕ) → c .Begun opened m → o .verdict ≡ 3 → Has-solution (problem m opened) → ⊥
+
+  pub record Demand-3 : Type 0 where
+    -- D3.1, D3.8, D3.9: where the first checks pass, no save and no load is refused, and the end is that of the way uncut.
     pub cuts : Of-calls λ m way o. (o .verdict ≡ 0 → ⊥) → (refused taken : ℕ) (end : Outcome) → Journey m way refused taken end
         → (refused ≡ 0) × (taken ≡ o .taken) × (end ≡ record { held = o .held; verdict = o .verdict; taken = end .taken; refusal = o .refusal })
-    pub solvable : (opened : List ℕ) (m : Lent) → c .Begun opened m → Has-solution (problem m opened)  -- D3.2: exactly if a subproblem held has one.
-        ↔ ((P : Subproblem) × List·Memᴰ P (search m (m .held) .memory) × Solvable (problem m opened) P)
-    pub limit : (opened : List ℕ) (m : Lent) → c .Begun opened m → m .held .steps ≤ possibilities (m .n) (problem m opened .domain) * (m .n + 2)  -- D3.3
+    -- D3.2: the problem opened has a plan exactly if a subproblem held has one. D3.3: its steps.
+    pub solvable : (opened : List ℕ) (m : Lent) → c .Begun opened m
+        → Has-solution (problem m opened) ↔ ((P : Subproblem) × List·Memᴰ P (search m (m .held) .memory) × Solvable (problem m opened) P)
+    pub limit : (opened : List ℕ) (m : Lent) → c .Begun opened m → m .held .steps ≤ possibilities (m .n) (problem m opened .domain) * (m .n + 2)
 
-abbrev pub Held-by-both : Type 0
-Held-by-both = Demands rattle × Demands for-C
+-- The three demands.
+abbrev pub Every-input-numbered : Type 0
+Every-input-numbered = Demand-1 rattle × Demand-1 for-C
+
+abbrev pub Answers-hold : Type 0
+Answers-hold = Demand-2 rattle × Demand-2 for-C
+
+abbrev pub Cuts-end-alike : Type 0
+Cuts-end-alike = Demand-3 rattle × Demand-3 for-C
