@@ -9,20 +9,33 @@ use Rattle.search.specs.Agenda.{stackOf, slotsIn, agendaOf}
 use Rattle.search.specs.FirstChecks.{WholeSlots}
 use Rattle.search.specs.Slots.{Search}
 use Rattle.search.specs.Calls.{searchOf}
+use Rattle.search.specs.declared.state.State.{State}
 use Rattle.bytes.specs.Bytes.{Bytes, wordsOf, bytesOf}
 use Rattle.console.specs.Calls.{stateOf, OpensForC, RunsForC, ChoosesForC, SavesForC, LoadsForC}
 
--- The bytes of the agenda and the three numbers.
+-- A search that is held: its agenda and the three numbers.
 pub record Held : Type 0 where
   pub agenda : List ℕ
   pub steps : ℕ
   pub checks : ℕ
   pub subproblems : ℕ
 
+-- Its three numbers as a state.
+abbrev pub stateIn : Held → State
+stateIn s = stateOf (s .steps) (s .checks) (s .subproblems)
+
 -- Bytes are bytes, and steps have 32 bits, as C's types have it.
 pub record Typed (s : Held) : Type 0 where
   pub bytes : Bytes (s .agenda)
   pub stepped : s .steps ≤ 4294967295
+
+-- What a call is lent: a problem and a search.
+pub record Lent : Type 0 where
+  pub n : ℕ
+  pub d : ℕ
+  pub domains : List ℕ
+  pub tables : List ℕ
+  pub held : Held
 
 -- What a call that goes on with a search hands out.
 pub record Outcome : Type 0 where
@@ -51,7 +64,7 @@ problemIn n d domains tables = problemOf n d (wordsOf domains) (wordsOf tables)
 
 -- The search of n variables that is held.
 abbrev pub searchIn : ℕ → Held → Search
-searchIn n s = searchOf n (wordsOf (s .agenda)) (stateOf (s .steps) (s .checks) (s .subproblems))
+searchIn n s = searchOf n (wordsOf (s .agenda)) (stateIn s)
 
 -- Word i of a slot of an agenda's bytes.
 abbrev pub slotWord : ℕ → List ℕ → ℕ → ℕ → ℕ

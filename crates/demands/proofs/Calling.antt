@@ -25,10 +25,10 @@ use Rattle.search.specs.Promises.{Handed, Leaves, Verdict-says}
 use Rattle.search.specs.declared.state.Ran.{Ran}
 use Rattle.search.proofs.first_checks.FirstPassing.{run-is-passed, search-is-passed}
 use Rattle.search.proofs.Promises.{slots-lawful, none-if-run, none-if-choose, run-leaves, chooser-leaves, run-says, chooser-says, handed-passes}
-use Rattle.console.specs.Searches.{Outcome, Way, by-requests, by-chooser}
+use Rattle.console.specs.Searches.{Outcome, Way, by-requests, by-chooser, Lent, stateIn}
 use Rattle.console.proofs.Going.{alone, outcome-is}
 use Rattle.console.proofs.Living.{state-out}
-use Rattle.demands.specs.Promises.{Lent, rattle, stateIn, Goes, problem, search, asked}
+use Rattle.demands.specs.Promises.{rattle, Goes, problem, search, asked}
 
 -- The slots that are lent.
 abbrev pub room : Lent → ℕ

@@ -18,8 +18,8 @@ use Rattle.search.specs.declared.state.Ran.{Ran}
 use Rattle.files.specs.Calls.{Deserves-13}
 use Rattle.files.specs.Promises.{Two-ways, Same-end}
 use Rattle.files.proofs.Promises.{cut-any, cut-choose}
-use Rattle.console.specs.Searches.{Outcome, Way, by-requests, by-chooser}
-use Rattle.demands.specs.Promises.{Lent, rattle, stateIn, Goes, problem, search, front, Deserves-3, Journey, uncut, cut}
+use Rattle.console.specs.Searches.{Outcome, Way, by-requests, by-chooser, Lent, stateIn}
+use Rattle.demands.specs.Promises.{rattle, Goes, problem, search, front, Deserves-3, Journey, uncut, cut}
 use Rattle.demands.proofs.Calling.{room, firstOf, stoppedOf, Fitting, outOf, some-call, going, none-if, passed, passing, handed, passes-first, Passing, Whole-way, left-so}
 use Rattle.demands.proofs.Standing.{front-requests}
 use Rattle.demands.proofs.Saying.{said}

@@ -20,10 +20,10 @@ use Rattle.files.specs.declared.saved.Loaded.{Loaded}
 use Rattle.bytes.specs.Bytes.{Whole, wordsOf, bytesOf}
 use Rattle.bytes.proofs.Words.{bytes-again}
 use Rattle.console.specs.Calls.{unwhole, unwholeFile}
-use Rattle.console.specs.Searches.{Held, Outcome, Way, by-requests, by-chooser}
+use Rattle.console.specs.Searches.{Held, Outcome, Way, by-requests, by-chooser, Lent, stateIn}
 use Rattle.console.proofs.Promises.{unwhole-1, unwhole-2, unwhole-3, unwhole-14, unwhole-15, unwhole-file-3, open-refused, save-refused, load-refused, unsolvable-no-plan, solvable-held, steps-limited}
 use Rattle.console.proofs.Going as Going
-use Rattle.demands.specs.Promises.{Lent, rattle, for-C, stateIn, problem, front, checks, Deserves-3, Journey, Demand-1, Demand-2, Demand-3}
+use Rattle.demands.specs.Promises.{rattle, for-C, problem, front, checks, Deserves-3, Journey, Demand-1, Demand-2, Demand-3}
 use Rattle.demands.proofs.Tables.{in-third}
 use Rattle.demands.proofs.Calling.{passed}
 use Rattle.demands.proofs.Saying.{Said, listed, said}

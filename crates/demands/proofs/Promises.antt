@@ -5,8 +5,8 @@ use mathlib.Core.List.{List}
 use Prim.Native.Nat.{ℕ}
 use Rattle.searches.specs.Promises.{Has-solution}
 use Rattle.files.proofs.Promises.{unsolvable-run, unsolvable-choose, lived-solvable, lived-steps}
-use Rattle.console.specs.Searches.{Outcome, Way, by-requests, by-chooser}
-use Rattle.demands.specs.Promises.{Lent, rattle, stateIn, problem, Every-input-numbered, Answers-hold, Cuts-end-alike}
+use Rattle.console.specs.Searches.{Outcome, Way, by-requests, by-chooser, Lent, stateIn}
+use Rattle.demands.specs.Promises.{rattle, problem, Every-input-numbered, Answers-hold, Cuts-end-alike}
 use Rattle.demands.proofs.Calling.{passed}
 use Rattle.demands.proofs.Saying.{said}
 use Rattle.demands.proofs.Refusing.{opening-so, saving-so, loading-so}

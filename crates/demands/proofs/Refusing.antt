@@ -20,8 +20,8 @@ use Rattle.blocks.specs.Reading.{Deserves-14}
 use Rattle.files.specs.Reading.{saidN, saidD, Deserves-15}
 use Rattle.files.specs.Calls.{Deserves-13, Deserves-12-load, saveRefusal, loadRefusal}
 use Rattle.files.proofs.Promises.{save-first, save-13, save-none, load-14, load-15, load-3, load-12, load-none}
-use Rattle.console.specs.Searches.{Held}
-use Rattle.demands.specs.Promises.{Lent, rattle, stateIn, problem, checks, Deserves-3 as Deserves-three}
+use Rattle.console.specs.Searches.{Held, Lent, stateIn}
+use Rattle.demands.specs.Promises.{rattle, problem, checks, Deserves-3 as Deserves-three}
 use Rattle.demands.proofs.Tables.{in-third, further, found-further}
 use Rattle.demands.proofs.Saying.{no-odd}
 

@@ -22,9 +22,9 @@ use Rattle.search.specs.Agenda.{stackOf}
 use Rattle.search.specs.Slots.{slots, Search, Stopped, Deserves-12}
 use Rattle.search.specs.FirstChecks.{Deserves-6}
 use Rattle.search.proofs.Promises.{search-refusals, run-refusals, slots-refusals}
-use Rattle.console.specs.Searches.{Outcome, Way, by-requests, by-chooser}
+use Rattle.console.specs.Searches.{Outcome, Way, by-requests, by-chooser, Lent}
 use Rattle.console.proofs.Going.{alone}
-use Rattle.demands.specs.Promises.{Lent, Calls, rattle, problem, search, asked, front, checks, Numbered, Answered}
+use Rattle.demands.specs.Promises.{Calls, rattle, problem, search, asked, front, checks, Numbered, Answered}
 use Rattle.demands.proofs.Tables.{in-third}
 use Rattle.demands.proofs.Calling.{room, firstOf, stoppedOf, stopped-is, none-if, passed, refused-so, passing, handed, passes-first, outcomeAt, search-left, passes-left, says-so}
 use Rattle.demands.proofs.Standing.{few-taken, alone-stops}

@@ -17,9 +17,9 @@ use Rattle.searches.proofs.Runs.{after, run-ind, taken-alone, stops}
 use Rattle.searches.proofs.Picking.{choose-ind, choose-taken, choose-stops}
 use Rattle.search.specs.Slots.{slots}
 use Rattle.files.proofs.Requests.{requests-append}
-use Rattle.console.specs.Searches.{Way, by-requests, by-chooser}
+use Rattle.console.specs.Searches.{Way, by-requests, by-chooser, Lent}
 use Rattle.console.proofs.Standing.{requests-number}
-use Rattle.demands.specs.Promises.{Lent, rattle, problem, search, front}
+use Rattle.demands.specs.Promises.{rattle, problem, search, front}
 use Rattle.demands.proofs.Calling.{room, stoppedOf, Whole-way}
 
 module _ (p : Problem) (M : Machine) where

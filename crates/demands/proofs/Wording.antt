@@ -12,10 +12,10 @@ use Rattle.files.specs.Calls.{Saves, Loads}
 use Rattle.bytes.specs.Bytes.{Whole, wordsOf, bytesOf}
 use Rattle.bytes.proofs.Words.{words-length, words-small, words-past, words-front, said-whole}
 use Rattle.console.specs.Calls.{WholeProblem}
-use Rattle.console.specs.Searches.{Held, Outcome, Way, by-requests, by-chooser}
+use Rattle.console.specs.Searches.{Held, Outcome, Way, by-requests, by-chooser, Lent, stateIn}
 use Rattle.console.proofs.Promises.{load-in-words}
 use Rattle.console.proofs.Going as Going
-use Rattle.demands.specs.Promises.{Lent, rattle, for-C, stateIn, front, Deserves-3, Journey, uncut, cut}
+use Rattle.demands.specs.Promises.{rattle, for-C, front, Deserves-3, Journey, uncut, cut}
 use Rattle.demands.proofs.Saying.{no-odd, listed}
 use Rattle.demands.proofs.Cutting.{rest}
 
