@@ -1,4 +1,6 @@
 // From the bytes of a file to the text that the program prints.
+#![tactic(auto)]
+
 pub mod text;
 
 ghost use Rattle.std.specs.Prelude.{◌≡◌, ◌+◌, ◌-◌, ◌*◌, ◌≤◌, length, eqb};

@@ -8,7 +8,7 @@ use problem::mask;
 use searches::verdict::Verdict;
 
 // So many bytes of text, zeros after it.
-#[derive(Drop)]
+#[derive(Clone, Copy)]
 pub struct Text {
     pub bytes: [u8; 512],
     pub length: usize,

@@ -1,5 +1,7 @@
 // Document 01's cases that are run and not proved, each refusal from 1 to 15, RFC 1071's example, and files made by hand: a line for each,
 // held to the file stdout.
+#![tactic(auto)]
+
 use files::saved::{Loaded, Saved};
 use search::state::{Checks, Counts, Opened, Ran, State, Steps};
 use searches::verdict::Verdict;

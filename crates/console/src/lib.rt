@@ -1,4 +1,6 @@
 // The planner for C: the five calls on numbers and byte slices, over the covered calls on words.
+#![tactic(auto)]
+
 mod calls;
 mod fronts;
 mod numbers;

@@ -1,1 +1,2 @@
 // The three demands on one page: theory alone, no function.
+#![tactic(auto)]

@@ -1,4 +1,6 @@
 // A saved search: blocks of 512 bytes, save and load.
+#![tactic(auto)]
+
 ghost use Rattle.std.specs.Prelude.{◌≡◌, replicate};
 ghost use Rattle.files.specs.Calls.{Saves, Loads};
 ghost use Rattle.files.specs.Loops.Said.{Refused, Accepted, Read};

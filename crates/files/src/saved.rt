@@ -1,13 +1,13 @@
 // What save and load return, and what the first words of a file say.
 use search::state::State;
 
-#[derive(Drop)]
+#[derive(Clone, Copy)]
 pub struct Saved {
     pub refusal: u32,
     pub blocks: usize,
 }
 
-#[derive(Drop)]
+#[derive(Clone, Copy)]
 pub struct Loaded {
     pub refusal: u32,
     pub n: usize,
@@ -15,7 +15,7 @@ pub struct Loaded {
     pub state: State,
 }
 
-#[derive(Drop)]
+#[derive(Clone, Copy)]
 pub struct Header {
     pub n: usize,
     pub d: usize,

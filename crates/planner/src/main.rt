@@ -1,4 +1,6 @@
 // The program: reads a saved search from standard input and prints what becomes of it.
+#![tactic(auto)]
+
 ghost use Rattle.std.specs.Prelude.{◌≤◌, length};
 
 // One byte more than 101 blocks, so that a file that is too long is seen to be.

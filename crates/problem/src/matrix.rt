@@ -7,7 +7,7 @@ ghost use Rattle.problem.specs.Lists.{row_in};
 ghost use Rattle.problem.specs.Loops.Matrices.{four, matrix_of, unlike, risen, sunk, by_one, by_two, within, by_four, by_eight, columns, difference, word_at, rows_of};
 
 // 16 rows of 16 bits, four rows to a word.
-#[derive(Drop)]
+#[derive(Clone, Copy)]
 pub(crate) struct Matrix {
     first: u64,
     second: u64,

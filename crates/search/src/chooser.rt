@@ -21,7 +21,7 @@ use splits::subproblem::Subproblem;
 
 // What the chooser finds of a top subproblem: the variable, how many values it has, what is allowed beside its lowest value, and whether the precluded
 // piece is empty.
-#[derive(Drop)]
+#[derive(Clone, Copy)]
 pub(crate) struct Choice {
     pub(crate) variable: usize,
     pub(crate) values: u16,
@@ -95,7 +95,7 @@ fn settle(top: Subproblem, n: usize, agenda: &mut [u16], choice: Choice, slot: u
 }
 
 // What kind 3's further pieces are made of: V without its value, the row with all values for V, and what each domain has outside its mask of it.
-#[derive(Drop)]
+#[derive(Clone, Copy)]
 pub(crate) struct Further {
     pub(crate) rest: Subproblem,
     pub(crate) row: [u16; 32],
@@ -176,7 +176,7 @@ fn put_two(
 }
 
 // What came of placing pieces: a refusal, and the number of subproblems.
-#[derive(Drop)]
+#[derive(Clone, Copy)]
 pub(crate) struct Left {
     pub(crate) refusal: u32,
     pub(crate) subproblems: usize,

@@ -1,4 +1,6 @@
 // The search: the lent agenda, the first checks, opening, a run, the house chooser.
+#![tactic(auto)]
+
 mod agenda;
 mod chooser;
 pub mod first_checks;

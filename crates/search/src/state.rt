@@ -4,22 +4,22 @@ ghost use Rattle.search.specs.Calls.{Fresh};
 use searches::verdict::Verdict;
 
 // Steps taken.
-#[derive(Drop)]
+#[derive(Clone, Copy)]
 pub struct Steps(pub u32);
 
 // Constraint checks made.
-#[derive(Drop)]
+#[derive(Clone, Copy)]
 pub struct Checks(pub u64);
 
 // Both counters.
-#[derive(Drop)]
+#[derive(Clone, Copy)]
 pub struct Counts {
     pub steps: Steps,
     pub checks: Checks,
 }
 
 // What is handed on with the agenda.
-#[derive(Drop)]
+#[derive(Clone, Copy)]
 pub struct State {
     pub counts: Counts,
     pub subproblems: usize,
@@ -41,14 +41,14 @@ impl State {
 }
 
 // What opening returns.
-#[derive(Drop)]
+#[derive(Clone, Copy)]
 pub struct Opened {
     pub refusal: u32,
     pub state: State,
 }
 
 // What a run and the chooser return.
-#[derive(Drop)]
+#[derive(Clone, Copy)]
 pub struct Ran {
     pub verdict: Verdict,
     pub refusal: u32,

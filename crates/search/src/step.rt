@@ -14,7 +14,7 @@ use splits::subproblem::Subproblem;
 use splits::{at_once, checks, refusal, split};
 
 // Where a run stops, or one step ends: the refusal, the requests taken and the state it leaves.
-#[derive(Drop)]
+#[derive(Clone, Copy)]
 pub(crate) struct Stop {
     pub(crate) refusal: u32,
     pub(crate) taken: usize,

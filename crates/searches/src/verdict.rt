@@ -1,7 +1,7 @@
 // What is said of a search.
 
 // None: refused by the first checks.
-#[derive(Drop)]
+#[derive(Clone, Copy)]
 pub enum Verdict {
     None,
     Running,

@@ -12,7 +12,7 @@ use crate::words;
 use problem::{mask, tables};
 
 // How many instantiated variables kind 1 looked at, and whether the last of them forbids the value.
-#[derive(Drop)]
+#[derive(Clone, Copy)]
 pub(crate) struct Looked {
     pub(crate) count: usize,
     pub(crate) conflict: bool,

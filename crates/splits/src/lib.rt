@@ -1,4 +1,6 @@
 // The splits: a subproblem, a request, and the five splits.
+#![tactic(auto)]
+
 pub mod at_once;
 pub mod checks;
 pub mod refusal;

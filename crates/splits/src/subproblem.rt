@@ -7,7 +7,7 @@ ghost use Rattle.splits.specs.Loops.Kinds.{cut_before};
 use crate::words;
 use problem::mask;
 
-#[derive(Drop)]
+#[derive(Clone, Copy)]
 pub struct Subproblem {
     pub domains: [u16; 32],
     pub marked: u32,

@@ -1,1 +1,2 @@
 // What a split keeps: theory alone, no function.
+#![tactic(auto)]

@@ -1,10 +1,12 @@
 // Words in bytes: two bytes a word, the low one first, as C holds them on x86-64.
+#![tactic(auto)]
+
 ghost use Rattle.std.specs.Prelude.{◌≡◌, true, ◌+◌, ◌*◌, min, length};
 ghost use Rattle.word_bytes.specs.Bytes.{Fits, fits, none_empty, all_fit, zeros};
 ghost use Rattle.word_bytes.specs.Calls.{Puts, WordsOf, ThreeOf, Writes};
 
 // How many words each of three slices of bytes was turned into.
-#[derive(Drop)]
+#[derive(Clone, Copy)]
 pub struct Three {
     pub first: usize,
     pub second: usize,
