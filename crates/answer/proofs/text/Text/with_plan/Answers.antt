@@ -1,0 +1,25 @@
+-- `answer::text::Text::with_plan` meets its contract.
+use native.Mathlib.Omega.{arith}
+use mathlib.Core.Path.{◌≡◌, refl, ap}
+use Prim.Native.Nat.{◌≤◌, ◌-◌}
+use lib.ListN.{length}
+use Rattle.answer.specs.Loops.Writing.{Adds, value_lines}
+use Rattle.answer.proofs.Writing.{adds_none, adds_line, adds_same}
+use borrow.Author.Rules.{rules}
+use Rattle.answer.proofs.text.Text.with_plan.Reads as reads
+use Rattle.answer.proofs.text.Text.with_plan.Lts as lts
+use Rattle.answer.proofs.text.Text.with_value.Reads as with-value-reads
+use Rattle.answer.proofs.text.Text.with_plan.Goals as goal
+
+pub loop-i-init : goal.loop-i-init
+unfolding value_lines
+loop-i-init c = (search rules, adds_none _)
+
+pub loop-i-preserved : goal.loop-i-preserved
+loop-i-preserved c = (omega arith, adds_line _ _ _ _ _ _ refl c.loop-i.invariant.1 c.with_value-text.ensures)
+
+pub returns : goal.returns
+returns c =
+    let inv = c.loop-i.invariant in
+    let end : c.loop-i.i ≡ length c.args.domains.now = omega arith in
+    adds_same _ _ _ _ (ap (λ k. value_lines k c.args.domains.now) end) inv.1

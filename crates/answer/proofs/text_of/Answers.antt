@@ -1,0 +1,46 @@
+-- `answer::text_of` meets its contract.
+use native.Mathlib.Omega.{arith}
+use mathlib.Core.Path.{sym, ◌∙◌}
+use Rattle.answer.proofs.Writing.{adds_none}
+use Rattle.answer.proofs.Short.{plan_room, lowest_small}
+use Rattle.answer.proofs.Lines.{solved_lines, other_lines}
+use Rattle.answer.proofs.Made.{text_made, from_refused, from_lines}
+use borrow.Author.Rules.{rules}
+use Rattle.answer.proofs.text_of.Reads as reads
+use Rattle.answer.proofs.text_of.Lts as lts
+use Rattle.answer.proofs.is_solved.Reads as is-solved-reads
+use Rattle.answer.proofs.text.Text.with_counts.Reads as with-counts-reads
+use Rattle.answer.proofs.text.Text.with_refusal.Reads as with-refusal-reads
+use Rattle.answer.proofs.text.Text.with_verdict.Reads as with-verdict-reads
+use Rattle.answer.proofs.text.start.Reads as start-reads
+use Rattle.answer.proofs.with_top.Reads as with-top-reads
+use Rattle.answer.proofs.text_of.Goals as goal
+
+pub returns-then-ran-ne0 : goal.returns-then-ran-ne0
+returns-then-ran-ne0 c =
+    from_refused _ _ _ _ c.if-ran-ne0.true
+    (text_made _ _ _ _ _ _ _ _ c.start.ensures c.with_verdict.ensures
+    c.with_counts-text.ensures c.with_refusal.ensures.0 (omega (arith, c.with_refusal.ensures.1)))
+
+pub with_top-requires : goal.with_top-requires
+with_top-requires c =
+    let shows = c.requires in
+    (shows.few, ((solved_lines _ _ _ _ shows.verdict (sym c.if-is_solved.true ∙ c.is_solved.ensures)).0, shows.within))
+
+pub returns-then-is_solved : goal.returns-then-is_solved
+returns-then-is_solved c =
+    let shows = c.requires in
+    from_lines _ _ _ _ _ c.if-ran-ne0.false
+    (solved_lines _ _ _ _ shows.verdict (sym c.if-is_solved.true ∙ c.is_solved.ensures)).1
+    (text_made _ _ _ _ _ _ _ _ c.start.ensures
+    c.with_verdict.ensures c.with_counts-text.ensures
+    c.with_top.ensures
+    (plan_room _ _ (λ i. lowest_small _) shows.few))
+
+pub returns : goal.returns
+returns c =
+    let shows = c.requires in
+    from_lines _ _ _ _ _ c.if-ran-ne0.false (other_lines _ _ _ _ shows.verdict (sym c.if-is_solved.false ∙ c.is_solved.ensures))
+    (text_made _ _ _ _ _ _ _ _ c.start.ensures
+    c.with_verdict.ensures c.with_counts-text.ensures (adds_none _)
+    (omega arith))

@@ -1,0 +1,24 @@
+-- `block::low_words` meets its contract. The invariant: the words passed are read, and zeros follow.
+use borrow.Author.Rules.{rules}
+use mathlib.Core.Path.{◌≡◌}
+use mathlib.Core.List.{◌++◌, map}
+use Prim.Native.Nat.{ℕ, ◌-◌, ◌≤◌}
+use native.Mathlib.Omega.{arith}
+use lib.ListN.{length, drop, replicate, length-replicate}
+use Rattle.problem.specs.Lists.{below}
+use Rattle.blocks.specs.Loops.Read.{low_word}
+use Rattle.blocks.proofs.block.Fronts.{front_none, front_more, front_end}
+use Rattle.blocks.proofs.block.low_words.Goals as goal
+
+pub loop-k-init : goal.loop-k-init
+loop-k-init c = (omega arith, front_none _ _)
+
+pub loop-k-preserved : goal.loop-k-preserved
+loop-k-preserved c =
+    let long : length {A = ℕ} (replicate 256 0) ≡ 256 = length-replicate {A = ℕ} 256 0 in
+    (omega arith, front_more _ _ _ _ _ c.loop-k.invariant.1 c.low_word.ensures (omega arith))
+
+pub returns : goal.returns
+returns c =
+    let end : c.loop-k.k ≡ 256 = omega arith in
+    front_end _ (replicate 256 0) _ _ _ c.loop-k.invariant.1 end (length-replicate {A = ℕ} 256 0)

@@ -1,0 +1,13 @@
+-- `block::word` meets its contract.
+use borrow.Author.Rules.{rules}
+use mathlib.Core.Path.{◌∙◌}
+use Rattle.blocks.proofs.block.Places.{word_made, word_past}
+use Rattle.blocks.proofs.block.word.Goals as goal
+
+pub returns-then-k-file : goal.returns-then-k-file
+returns-then-k-file c =
+    word_made _ _ _ _ (c.wide.ensures.0 ∙ c.byte.ensures)
+    (c.wide-then-k-file.ensures.0 ∙ c.byte-then-k-file.ensures)
+
+pub returns : goal.returns
+returns c = word_past _ _ c.if-k-file.false

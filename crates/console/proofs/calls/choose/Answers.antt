@@ -1,0 +1,73 @@
+-- `console::calls::choose` meets its contract.
+use mathlib.Core.Path.{refl}
+use native.Mathlib.Omega.{arith}
+use Rattle.word_bytes.proofs.Fitting.{count_is}
+use Rattle.console.proofs.rooms.Testing.{room_true, room_whole, room_false}
+use Rattle.console.proofs.calls.Lending.{said_last, left_long, chooses_words, choose_fits}
+use Rattle.console.proofs.calls.Refusing.{chooses_turned, chooses_long}
+use borrow.Author.Rules.{rules}
+use Rattle.console.proofs.calls.choose.Goals as goal
+
+pub returns-then-not-room_for : goal.returns-then-not-room_for
+returns-then-not-room_for c =
+    chooses_long c.requires (λ i. omega (arith, c.type_inv.agenda i)) c.refused.ensures
+    (λ w. room_false _ _ _ _ _ c.room_for.ensures c.if-not-room_for.true w (λ f. f))
+
+pub slice_bounds-three_of-end : goal.slice_bounds-three_of-end
+slice_bounds-three_of-end c = refl
+
+pub slice_bounds-three_of-end-2 : goal.slice_bounds-three_of-end-2
+slice_bounds-three_of-end-2 c = refl
+
+pub slice_bounds-three_of-end-3 : goal.slice_bounds-three_of-end-3
+slice_bounds-three_of-end-3 c = refl
+
+pub three_of-made-requires : goal.three_of-made-requires
+three_of-made-requires c = tt
+
+pub slice_bounds-domain_words-end : goal.slice_bounds-domain_words-end
+slice_bounds-domain_words-end c = c.three_of-made.ensures.of_first.lent.room
+
+pub slice_bounds-choose-end : goal.slice_bounds-choose-end
+slice_bounds-choose-end c = count_is c.three_of-made.ensures.of_first.lent
+
+pub slice_bounds-table_words-end : goal.slice_bounds-table_words-end
+slice_bounds-table_words-end c = c.three_of-made.ensures.of_third.lent.room
+
+pub slice_bounds-choose-end-2 : goal.slice_bounds-choose-end-2
+slice_bounds-choose-end-2 c = count_is c.three_of-made.ensures.of_third.lent
+
+pub slice_bounds-agenda_words-end : goal.slice_bounds-agenda_words-end
+slice_bounds-agenda_words-end c = c.three_of-made.ensures.of_second.lent.room
+
+pub slice_bounds-choose-end-3 : goal.slice_bounds-choose-end-3
+slice_bounds-choose-end-3 c = count_is c.three_of-made.ensures.of_second.lent
+
+pub choose-ran-requires : goal.choose-ran-requires
+choose-ran-requires c = tt
+
+pub slice_bounds-bytes_of-end : goal.slice_bounds-bytes_of-end
+slice_bounds-bytes_of-end c =
+    let called = c in
+    left_long called.choose-ran.new.1.1.1.1.0 called.three_of-made.ensures.of_second.lent called.choose-ran.auto.1.1.1.1.0
+
+pub bytes_of-requires : goal.bytes_of-requires
+bytes_of-requires c = tt
+
+pub shape_of-agenda : goal.shape_of-agenda
+shape_of-agenda c = c.bytes_of.auto.1.0
+
+pub returns : goal.returns
+returns c =
+    let called = c in
+    let made = called in
+    let test = made in
+    let room = room_true _ _ _ _ test.room_for.ensures test.if-not-room_for.false in
+    let (domains, agenda, tables) = said_last room refl refl refl made.three_of-made.ensures in
+    let known = test in
+    let start = known in
+    let chosen = chooses_words called.choose-ran.new.1.1.1.1.0 domains tables agenda made.three_of-made.ensures.of_second.lent
+    called.choose-ran.auto.1.1.1.1.0 room.of_agenda.even c.bytes_of.ensures called.choose-ran.ensures in (
+      chooses_turned (room_whole room) chosen,
+      choose_fits (λ i. omega (arith, known.type_inv.agenda i)) (omega (arith, start.well-formed.1.1.1.1.1.1.0)) start.requires chosen,
+    )

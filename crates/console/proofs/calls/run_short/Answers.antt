@@ -1,0 +1,77 @@
+-- `console::calls::run_short` meets its contract.
+use mathlib.Core.Path.{refl}
+use native.Mathlib.Omega.{arith}
+use Rattle.word_bytes.proofs.Fitting.{count_is, words_said}
+use Rattle.console.proofs.rooms.Testing.{listed_even}
+use Rattle.console.proofs.calls.Lending.{said_one, left_fits, left_count, left_bytes, few_runs, runs_at}
+use borrow.Author.Rules.{rules}
+use Rattle.console.proofs.calls.run_short.Goals as goal
+
+pub slice_bounds-words_of-end : goal.slice_bounds-words_of-end
+slice_bounds-words_of-end c = refl
+
+pub words_of-room-requires : goal.words_of-room-requires
+words_of-room-requires c = tt
+
+pub slice_bounds-words_of-end-2 : goal.slice_bounds-words_of-end-2
+slice_bounds-words_of-end-2 c = refl
+
+pub words_of-count-requires : goal.words_of-count-requires
+words_of-count-requires c = tt
+
+pub slice_bounds-words-end : goal.slice_bounds-words-end
+slice_bounds-words-end c = c.words_of-room.ensures.lent.room
+
+pub slice_bounds-run-end : goal.slice_bounds-run-end
+slice_bounds-run-end c = count_is c.words_of-room.ensures.lent
+
+pub slice_bounds-listed-end : goal.slice_bounds-listed-end
+slice_bounds-listed-end c = c.words_of-count.ensures.lent.room
+
+pub slice_bounds-run-end-2 : goal.slice_bounds-run-end-2
+slice_bounds-run-end-2 c = count_is c.words_of-count.ensures.lent
+
+pub run-ran-requires : goal.run-ran-requires
+run-ran-requires c = tt
+
+pub slice_bounds-words-end-2 : goal.slice_bounds-words-end-2
+slice_bounds-words-end-2 c =
+    let called = c in
+    left_fits called.run-ran.new.1.1.1.1.0 called.words_of-room.ensures.lent called.run-ran.auto.1.1.1.1.0
+
+pub slice_bounds-write_back-end : goal.slice_bounds-write_back-end
+slice_bounds-write_back-end c =
+    let called = c in
+    left_count called.run-ran.new.1.1.1.1.0 called.words_of-room.ensures.lent called.run-ran.auto.1.1.1.1.0
+
+pub write_back-requires : goal.write_back-requires
+write_back-requires c =
+    let called = c in
+    let turned = called in
+    let known = turned in
+    let start = known in
+    let fits = start.requires.0 in
+    let agenda = said_one fits refl turned.words_of-room.ensures in
+    let list = words_said (listed_even _ _ start.requires.1.1.0) start.requires.1.0 called.words_of-count.ensures in
+    let runs = few_runs _ _ _ _ called.run-ran.new.1.1.1.1.0 _ _ agenda list (λ i. omega (arith, known.type_inv.agenda i))
+    (omega (arith, start.well-formed.1.1.1.1.1.1.0)) start.requires.1.1.1 start.requires.1.1.0 called.run-ran.ensures in
+    let bytes = left_bytes called.run-ran.new.1.1.1.1.0 turned.words_of-room.ensures.lent called.run-ran.auto.1.1.1.1.0
+    start.args.agenda.now agenda.count fits.even in
+    (start.requires.1.1.0.few, (start.requires.1.1.1, (runs.1.subproblems, bytes)))
+
+pub returns : goal.returns
+returns c =
+    let called = c in
+    let turned = called in
+    let known = turned in
+    let start = known in
+    let fits = start.requires.0 in
+    let agenda = said_one fits refl turned.words_of-room.ensures in
+    let list = words_said (listed_even _ _ start.requires.1.1.0) start.requires.1.0 called.words_of-count.ensures in
+    let runs = few_runs _ _ _ _ called.run-ran.new.1.1.1.1.0 _ _ agenda list (λ i. omega (arith, known.type_inv.agenda i))
+    (omega (arith, start.well-formed.1.1.1.1.1.1.0)) start.requires.1.1.1 start.requires.1.1.0 called.run-ran.ensures in (
+      runs_at called.run-ran.new.1.1.1.1.0 agenda turned.words_of-room.ensures.lent fits.even called.run-ran.auto.1.1.1.1.0
+          (λ i. omega (arith, known.type_inv.agenda i)) (omega (arith, start.well-formed.1.1.1.1.1.1.0))
+          start.requires.1.1.0 runs.0 c.write_back.ensures,
+      runs.1,
+    )

@@ -1,0 +1,16 @@
+-- `copying::put_each` meets its contract. The invariant: the words passed are copied.
+use borrow.Author.Rules.{rules}
+use mathlib.Core.Path.{◌≡◌, refl, sym, ◌∙◌}
+use mathlib.Core.List.{◌++◌}
+use Prim.Native.Nat.{◌-◌, ◌≤◌}
+use native.Mathlib.Omega.{arith}
+use lib.ListN.{length, take, drop, length-set}
+use Rattle.problem.proofs.Copies.{copy_more}
+use Rattle.files.proofs.filling.Filled.{copy_whole}
+use Rattle.files.proofs.copying.put_each.Given as goal
+
+abbrev pub invariant-loop-i : goal.invariant-loop-i
+invariant-loop-i l = (l.i ≤ l.count) × ((length l.out ≡ length l.words) × (l.out ≡ take l.i l.words ++ drop l.i l.initial.out))
+
+abbrev pub decreases-loop-i : goal.decreases-loop-i
+decreases-loop-i l = l.count - l.i

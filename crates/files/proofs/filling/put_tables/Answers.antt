@@ -1,0 +1,47 @@
+-- `filling::put_tables` meets its contract. The invariant: the rows passed are written.
+use borrow.Author.Rules.{rules}
+use Prim.Native.Nat.{◌-◌, ◌≤◌}
+use native.Mathlib.Omega.{arith}
+use Rattle.files.specs.Loops.Said.{row_part}
+use Rattle.files.proofs.filling.Filled.{Passed, passed_none, before_room, own_fits, after_room, rows_more, tables_end}
+use Rattle.files.proofs.filling.put_tables.Goals as goal
+
+pub loop-i-init : goal.loop-i-init
+loop-i-init c = (omega arith, passed_none _ _ _)
+
+pub put_before-own-requires : goal.put_before-own-requires
+put_before-own-requires c =
+    let pre = c.requires in
+    let room = before_room _ _ _ _ _ _ _ pre.1.1 pre.0 c.loop-i-test.true c.loop-i.invariant.1 in
+    (pre.0, (c.loop-i-test.true, (pre.1.0, room)))
+
+pub overflow_add-own : goal.overflow_add-own
+overflow_add-own c =
+    let put = c.put_before-own in
+    let b6 = c in
+    let pre = b6.requires in
+    own_fits _ _ _ _ _ _ _ pre.1.1 pre.0 b6.loop-i-test.true b6.loop-i.invariant.1 _ put.ensures.1
+
+pub put_at-end-requires : goal.put_at-end-requires
+put_at-end-requires c =
+    let put = c.put_before-own in
+    let b6 = c in
+    let pre = b6.requires in
+    after_room _ _ _ _ _ _ _ pre.1.1 pre.0 b6.loop-i-test.true b6.loop-i.invariant.1 _ put.ensures.1 _ _
+    put.auto.1.1.1.1.0 c.after.ensures.1
+
+pub loop-i-preserved : goal.loop-i-preserved
+loop-i-preserved c =
+    let last = c.put_at-end in
+    let b4 = c in
+    let first = b4.put_before-own in
+    let b9 = b4 in
+    let pre = b9.requires in (
+      omega arith,
+      rows_more _ _ _ _ _ _ _ pre.1.1 pre.0 b9.loop-i-test.true b9.loop-i.invariant.1 _ first.ensures.1 _ _ _ _
+          first.ensures.0 b4.after.ensures.0 b4.after.ensures.1 last.ensures.0 last.ensures.1 first.auto.1.1.1.1.0
+          last.auto.1.0,
+    )
+
+pub returns : goal.returns
+returns c = tables_end _ _ _ _ _ _ _ c.loop-i.invariant.1 (omega arith)

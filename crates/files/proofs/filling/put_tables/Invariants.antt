@@ -1,0 +1,13 @@
+-- `filling::put_tables` meets its contract. The invariant: the rows passed are written.
+use borrow.Author.Rules.{rules}
+use Prim.Native.Nat.{◌-◌, ◌≤◌}
+use native.Mathlib.Omega.{arith}
+use Rattle.files.specs.Loops.Said.{row_part}
+use Rattle.files.proofs.filling.Filled.{Passed, passed_none, before_room, own_fits, after_room, rows_more, tables_end}
+use Rattle.files.proofs.filling.put_tables.Given as goal
+
+abbrev pub invariant-loop-i : goal.invariant-loop-i
+invariant-loop-i l = (l.i ≤ l.n) × Passed (λ k. row_part l.words l.n l.d k l.n) l.initial.masks 0 l.masks l.i l.end
+
+abbrev pub decreases-loop-i : goal.decreases-loop-i
+decreases-loop-i l = l.n - l.i

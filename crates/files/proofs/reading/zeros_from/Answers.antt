@@ -1,0 +1,23 @@
+-- `reading::zeros_from` meets its contract. The invariant: the words passed are zero.
+use borrow.Author.Rules.{rules}
+use mathlib.Core.Path.{◌≡◌}
+use Prim.Native.Nat.{◌-◌, ◌≤◌}
+use native.Mathlib.Omega.{arith}
+use mathlib.Core.Bool.{true}
+use Rattle.problem.specs.Lists.{every}
+use Rattle.problem.proofs.FirstLoops.{every_start, every_end}
+use Rattle.files.specs.Loops.Said.{zero_in}
+use Rattle.files.proofs.reading.Found.{zero_stop, zero_turn}
+use Rattle.files.proofs.reading.zeros_from.Goals as goal
+
+pub loop-k-init : goal.loop-k-init
+loop-k-init c = (omega arith, every_start _)
+
+pub returns-then-content_word-ne0 : goal.returns-then-content_word-ne0
+returns-then-content_word-ne0 c = zero_stop _ _ _ _ _ c.loop-k-test.true c.content_word.ensures c.if-content_word-ne0.true
+
+pub loop-k-preserved : goal.loop-k-preserved
+loop-k-preserved c = (omega arith, zero_turn _ _ _ _ c.loop-k.invariant.1 c.content_word.ensures c.if-content_word-ne0.false)
+
+pub returns : goal.returns
+returns c = every_end _ _ _ c.loop-k.invariant.0 c.loop-k-test.false c.loop-k.invariant.1

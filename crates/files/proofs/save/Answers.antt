@@ -1,0 +1,39 @@
+-- `save` meets its contract: refused, nothing is changed; else the blocks are written.
+use mathlib.Core.Path.{refl, ◌∙◌}
+use native.Mathlib.Omega.{arith}
+use borrow.Author.Rules.{rules}
+use Rattle.files.proofs.SaveOutcomes.{save_passed, save_refused, save_short, save_written, save_part}
+use Rattle.files.proofs.filling.Filled.{zeros_long}
+use Rattle.files.proofs.save.Goals as goal
+
+pub returns-then-refusal-ne0 : goal.returns-then-refusal-ne0
+returns-then-refusal-ne0 c = save_refused _ _ _ _ _ _ _ _ _ c.search_refusal-refusal.ensures c.if-refusal-ne0.true refl refl
+
+pub words-requires : goal.words-requires
+words-requires c = let hands = save_passed _ _ _ _ _ _ _ c.search_refusal-refusal.ensures c.if-refusal-ne0.false in (hands.numbers, hands.few)
+
+pub returns-then-file-blocks : goal.returns-then-file-blocks
+returns-then-file-blocks c =
+    let small = c.type_inv.agenda in
+    save_short _ _ _ _ _ _ _ (λ i. omega (arith, small i)) _ _ c.search_refusal-refusal.ensures c.if-refusal-ne0.false
+    c.words.ensures.0 _ c.if-file-blocks.true refl refl
+
+pub put-requires : goal.put-requires
+put-requires c = (save_passed _ _ _ _ _ _ _ c.search_refusal-refusal.ensures c.if-refusal-ne0.false, c.room_for_content-words.ensures)
+
+pub slice_bounds-put_blocks-end : goal.slice_bounds-put_blocks-end
+slice_bounds-put_blocks-end c =
+    let put = c in
+    let long = put.put.auto.1.1.1.1.1.1.0 ∙ zeros_long _ 25553 put.room_for_content-words.ensures in
+    save_part _ _ long c.words.ensures.1
+
+pub shape_of-file : goal.shape_of-file
+shape_of-file c = c.put_blocks.auto.1.0
+
+pub returns : goal.returns
+returns c =
+    let counted = c in
+    let small = c.type_inv.agenda in
+    save_written _ _ _ _ _ _ _ (λ i. omega (arith, small i)) _ _ c.search_refusal-refusal.ensures c.if-refusal-ne0.false
+    counted.words.ensures.0 _ _ _ c.if-file-blocks.false counted.words.ensures.1 refl refl c.put.ensures
+    c.put_blocks.ensures

@@ -1,0 +1,7 @@
+-- `matrix::risen` meets its contract: what differs is exchanged.
+use borrow.Author.Rules.{rules}
+use Rattle.problem.proofs.matrix.Exchanging.{risen_made}
+use Rattle.problem.proofs.matrix.risen.Goals as goal
+
+pub returns : goal.returns
+returns c = rw c.unlike.ensures (risen_made _ _ _ _ c.ranges.a.fits)

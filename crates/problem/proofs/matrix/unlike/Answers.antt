@@ -1,0 +1,9 @@
+-- `matrix::unlike` meets its contract: the definition follows the code.
+use mathlib.Core.Path.{refl}
+use borrow.Author.Rules.{rules}
+use Rattle.problem.specs.Loops.Matrices.{unlike}
+use Rattle.problem.proofs.matrix.unlike.Goals as goal
+
+pub returns : goal.returns
+unfolding unlike
+returns c = refl

@@ -1,0 +1,22 @@
+-- `symmetry::part_both_ways` meets its contract: the loop's invariant: what is allowed one way only of every pair passed is together.
+use mathlib.Core.Path.{◌≡◌}
+use Prim.Native.Nat.{◌-◌, ◌≤◌}
+use native.Mathlib.Omega.{arith}
+use Rattle.problem.specs.Problem.{table_of}
+use Rattle.problem.specs.Lists.{joined}
+use Rattle.problem.specs.Loops.FirstTests.{one_way}
+use Rattle.problem.proofs.first_checks.Joining.{joined_none, joined_more, joined_end}
+use Rattle.problem.proofs.symmetry.Pairs.{row_found}
+use borrow.Author.Rules.{rules}
+use Rattle.problem.proofs.symmetry.part_both_ways.Goals as goal
+
+pub loop-j-init : goal.loop-j-init
+loop-j-init c = (search rules, joined_none _)
+
+pub loop-j-preserved : goal.loop-j-preserved
+loop-j-preserved c = (omega arith, joined_more _ _ _ _ c.loop-j.invariant.1 c.one_way-bits.ensures)
+
+pub returns : goal.returns
+returns c =
+    row_found _ _ _ c.requires.0 _ _ c.requires.1
+    (joined_end _ _ _ _ c.loop-j.invariant.0 c.loop-j-test.false c.loop-j.invariant.1)

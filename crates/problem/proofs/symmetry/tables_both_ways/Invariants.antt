@@ -1,0 +1,17 @@
+-- `symmetry::tables_both_ways` meets its contract: the loop's invariant: every row passed is allowed both ways or neither.
+use mathlib.Core.Bool.{true}
+use mathlib.Core.Path.{◌≡◌}
+use Prim.Native.Nat.{◌-◌, ◌≤◌}
+use native.Mathlib.Omega.{arith}
+use borrow.Author.Rules.{rules}
+use Rattle.problem.specs.Problem.{table_of}
+use Rattle.problem.specs.Lists.{every}
+use Rattle.problem.specs.Loops.FirstTests.{row_both_ways}
+use Rattle.problem.proofs.FirstLoops.{every_start, every_stop, every_turn, every_end}
+use Rattle.problem.proofs.symmetry.tables_both_ways.Given as goal
+
+abbrev pub invariant-loop-i : goal.invariant-loop-i
+invariant-loop-i l = (l.i ≤ l.n) × (every l.i (row_both_ways l.d (table_of l.n l.d l.tables)) ≡ true)
+
+abbrev pub decreases-loop-i : goal.decreases-loop-i
+decreases-loop-i l = l.n - l.i

@@ -1,0 +1,30 @@
+-- `symmetry::whole_at` meets its contract: the masks stand within the tables.
+use mathlib.Core.Path.{refl}
+use native.Mathlib.Omega.{arith}
+use Rattle.problem.proofs.tables.Ranges.{in_row}
+use Rattle.problem.proofs.symmetry.Pairs.{masks_within, matrix_whole}
+use borrow.Author.Rules.{rules}
+use Rattle.problem.proofs.symmetry.whole_at.Goals as goal
+
+pub overflow_mul-at : goal.overflow_mul-at
+overflow_mul-at c = omega (arith, in_row _ _ _ _ _ c.requires.0 c.requires.1.0 c.requires.1.1)
+
+pub overflow_add-at : goal.overflow_add-at
+overflow_add-at c = omega (arith, in_row _ _ _ _ _ c.requires.0 c.requires.1.0 c.requires.1.1)
+
+pub overflow_mul-at-2 : goal.overflow_mul-at-2
+overflow_mul-at-2 c = omega (arith, in_row _ _ _ _ _ c.requires.0 c.requires.1.0 c.requires.1.1)
+
+pub overflow_add-end : goal.overflow_add-end
+overflow_add-end c = omega (arith, in_row _ _ _ _ _ c.requires.0 c.requires.1.0 c.requires.1.1, c.requires.0.small)
+
+pub offset_bounds-tables-at : goal.offset_bounds-tables-at
+offset_bounds-tables-at c = omega (arith, masks_within _ _ _ _ _ c.requires.0 c.requires.1.0 c.requires.1.1)
+
+pub slice_bounds-matrix_of-end : goal.slice_bounds-matrix_of-end
+slice_bounds-matrix_of-end c = omega (arith, masks_within _ _ _ _ _ c.requires.0 c.requires.1.0 c.requires.1.1)
+
+pub returns : goal.returns
+returns c =
+    matrix_whole _ _ _ _ _ c.requires.0 c.requires.1.0 c.requires.1.1 _ refl
+    c.matrix_of.ensures.0

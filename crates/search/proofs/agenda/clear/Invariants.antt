@@ -1,0 +1,14 @@
+-- `search::agenda::clear` meets its contract. The invariant: the words before k are zeros.
+use mathlib.Core.Path.{◌≡◌, refl}
+use mathlib.Core.List.{◌++◌}
+use Prim.Native.Nat.{◌≤◌, ◌-◌}
+use native.Mathlib.Omega.{arith}
+use lib.ListN.{length, drop, replicate, length-set}
+use Rattle.problem.proofs.Copies.{zeros_end, zeros_more}
+use Rattle.search.proofs.agenda.clear.Given as goal
+
+abbrev pub invariant-loop-k : goal.invariant-loop-k
+invariant-loop-k l = (l.k ≤ length l.initial.memory) × ((length l.memory ≡ length l.initial.memory) × (l.memory ≡ replicate l.k 0 ++ drop l.k l.initial.memory))
+
+abbrev pub decreases-loop-k : goal.decreases-loop-k
+decreases-loop-k l = length l.initial.memory - l.k

@@ -1,0 +1,12 @@
+-- `search::agenda::clear_slot` meets its contract.
+use native.Mathlib.Omega.{arith}
+use mathlib.Core.Path.{ap, ◌∙◌}
+use Rattle.problem.specs.Lists.{splice}
+use Rattle.search.proofs.Encoding.{slot_none}
+use Rattle.search.proofs.agenda.clear_slot.Goals as goal
+
+pub write_slot-requires : goal.write_slot-requires
+write_slot-requires c = c.requires
+
+pub returns : goal.returns
+returns c = c.write_slot.ensures ∙ ap (splice _ _) (slot_none _ c.requires.few)

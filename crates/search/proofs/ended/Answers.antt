@@ -1,0 +1,7 @@
+-- `search::ended` meets its contract.
+use borrow.Author.Rules.{rules}
+use Rattle.search.proofs.Ending.{ended_made}
+use Rattle.search.proofs.ended.Goals as goal
+
+pub returns : goal.returns
+returns c = ended_made _ _ _ _ c.verdict.ensures

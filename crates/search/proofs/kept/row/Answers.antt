@@ -1,0 +1,38 @@
+-- `kept::row` meets its contract: the row is in its place, or is made and put there.
+use mathlib.Core.Logic.{⊎_elim}
+use mathlib.Core.Path.{refl}
+use lib.ListN.{length-set}
+use Rattle.search.proofs.kept.Kept.{row_there, row_put}
+use Rattle.problem.proofs.tables.Ranges.{inside_is}
+use borrow.Author.Rules.{rules}
+use Rattle.search.proofs.kept.row.Goals as goal
+
+pub offset_bounds-rows-at : goal.offset_bounds-rows-at
+offset_bounds-rows-at c = let at = c.requires.1.inside in search rules
+
+pub bounds-rows-at : goal.bounds-rows-at
+bounds-rows-at c = c.requires.1.inside
+
+pub offset_bounds-rows-at-then-rows-at : goal.offset_bounds-rows-at-then-rows-at
+offset_bounds-rows-at-then-rows-at c = let at = c.requires.1.inside in search rules
+
+pub bounds-rows-at-then-rows-at : goal.bounds-rows-at-then-rows-at
+bounds-rows-at-then-rows-at c = c.requires.1.inside
+
+pub offset_bounds-rows-at-2 : goal.offset_bounds-rows-at-2
+offset_bounds-rows-at-2 c = let at = c.requires.1.inside in search rules
+
+pub slice_copy_out-result : goal.slice_copy_out-result
+slice_copy_out-result c =
+    let p = c.requires.1 in
+    ⊎_elim (λ w. rw (w.2, length-set) p.inside) (λ w. rw w.1 p.inside) c.if-rows-at.branch
+
+pub shape_of-rows : goal.shape_of-rows
+shape_of-rows c = ⊎_elim (λ w. rw (w.2, length-set) refl) (λ w. rw w.1 refl) c.if-rows-at.branch
+
+pub returns : goal.returns
+returns c = let p = c.requires in
+    ⊎_elim
+    (λ w. rw w.2 (row_put _ _ _ _ _ _ _ p.1 _ (w.1.ensures.within (inside_is _ _ _ _ _ p.0))))
+    (λ w. rw w.1 (row_there _ _ _ _ _ _ _ p.1 p.0.a_value p.0.fit.small w.0.left))
+    c.if-rows-at.branch

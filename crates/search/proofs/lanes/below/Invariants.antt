@@ -1,0 +1,13 @@
+-- `search::lanes::below` meets its contract. The invariant: the first i lanes are all bits, the others none.
+use mathlib.Core.Path.{◌≡◌}
+use Prim.Native.Nat.{◌≤◌, ◌-◌}
+use native.Mathlib.Omega.{arith}
+use Rattle.search.specs.Loops.Lanes.{Below}
+use Rattle.search.proofs.lanes.Halves.{below_none, below_more}
+use Rattle.search.proofs.lanes.below.Given as goal
+
+abbrev pub invariant-loop-i : goal.invariant-loop-i
+invariant-loop-i l = (l.i ≤ l.n) × Below l.i l.lanes
+
+abbrev pub decreases-loop-i : goal.decreases-loop-i
+decreases-loop-i l = l.n - l.i

@@ -1,0 +1,8 @@
+-- `search::lanes::half` meets its contract.
+use native.Mathlib.Omega.{arith}
+use borrow.Author.Rules.{rules}
+use Rattle.search.proofs.lanes.Halves.{half_is}
+use Rattle.search.proofs.lanes.half.Goals as goal
+
+pub returns : goal.returns
+returns c = half_is _ _

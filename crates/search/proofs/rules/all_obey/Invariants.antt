@@ -1,0 +1,22 @@
+-- `rules::all_obey` meets its contract: the loop's invariant: the subproblem of every slot passed obeys the rules.
+use mathlib.Core.Bool.{true}
+use mathlib.Core.Path.{◌≡◌, ap, ◌∙◌}
+use Prim.Native.Nat.{◌-◌, ◌≤◌}
+use native.Mathlib.Omega.{arith}
+use Rattle.problem.specs.Lists.{every}
+use Rattle.problem.specs.Problem.{problem_of}
+use Rattle.search.specs.Agenda.{subproblem_of}
+use Rattle.search.proofs.agenda.Slots.{slot_below}
+use Rattle.problem.proofs.FirstLoops.{every_start, every_stop, every_turn, every_end}
+use Rattle.search.proofs.first_checks.FirstParts.{slot_obeys, all_slots, slot_obeys_lem}
+use Rattle.search.specs.Loops.Lanes.{Rows}
+use Rattle.search.proofs.kept.Kept.{rows_none}
+use Rattle.search.proofs.rules.Alike.{marks_known}
+use borrow.Author.Rules.{rules}
+use Rattle.search.proofs.rules.all_obey.Given as goal
+
+abbrev pub invariant-loop-k : goal.invariant-loop-k
+invariant-loop-k l = (l.k ≤ l.count) × ((every l.k (slot_obeys (problem_of l.n l.d l.domains l.tables) l.n l.agenda) ≡ true) × Rows 1 l.n l.d l.tables l.rows)
+
+abbrev pub decreases-loop-k : goal.decreases-loop-k
+decreases-loop-k l = l.count - l.k

@@ -1,0 +1,69 @@
+-- `rules::obeys` meets its contract: the marks, the domains together, then the instantiated variables, unless these are known.
+use mathlib.Core.Path.{sym}
+use Rattle.search.proofs.rules.Marked.{slot_marks, marks_in, slot_over, slot_wrong, slot_values, slot_marked, problem_parts}
+use borrow.Author.Rules.{rules}
+use Rattle.search.proofs.rules.obeys.Goals as goal
+
+pub returns-then-n-marked : goal.returns-then-n-marked
+returns-then-n-marked c =
+    let a = c.args in
+    let k = c.requires in (
+      slot_over a.n a.d a.domains.now a.tables.now a.slot.now _ k.0.fitting.sized.few c.marked_at-marked.ensures
+          c.if-n-marked.true,
+      k.1.1.1,
+    )
+
+pub returns-then-wrong_with-ne0 : goal.returns-then-wrong_with-ne0
+returns-then-wrong_with-ne0 c =
+    let a = c.args in
+    let k = c.requires in (
+      slot_wrong a.n a.d a.domains.now a.tables.now a.slot.now k.0.fitting.words k.1.0 _ c.wrong_with.ensures
+          c.if-wrong_with-ne0.true,
+      k.1.1.1,
+    )
+
+pub returns-then-known : goal.returns-then-known
+returns-then-known c =
+    let a = c.args in
+    let k = c.requires in (
+      slot_marked a.n a.d a.domains.now a.tables.now a.slot.now k.0.fitting.words k.1.0 _ _ k.0.passed
+          k.0.fitting.sized.small c.wrong_with.ensures c.if-wrong_with-ne0.false
+          (marks_in a.n a.d a.domains.now a.tables.now a.slot.now _ k.0.fitting.sized.few
+          c.marked_at-marked.ensures c.if-n-marked.false)
+          (sym (k.1.1.0 c.if-known.true)),
+      k.1.1.1,
+    )
+
+pub marks_obey-requires : goal.marks_obey-requires
+marks_obey-requires c =
+    let a = c.args in
+    let k = c.requires in (
+      record {
+        sized = k.0.fitting.sized;
+        words = k.1.0;
+        marks = slot_marks a.n a.d a.domains.now a.tables.now a.slot.now _ k.0.fitting.sized.few
+            c.marked_at-marked.ensures;
+        values = slot_values a.n a.d a.domains.now a.tables.now a.slot.now k.0.fitting.words k.1.0 _
+            (problem_parts _ k.0.passed).0 k.0.fitting.sized.small c.wrong_with.ensures
+            c.if-wrong_with-ne0.false;
+      },
+      k.1.1.1,
+    )
+
+pub shape_of-rows : goal.shape_of-rows
+shape_of-rows c =
+    let whole = c.requires.1.1.1.long in
+    let long = c.marks_obey.ensures.1.long in
+    search rules
+
+pub returns : goal.returns
+returns c =
+    let a = c.args in
+    let k = c.requires in (
+      slot_marked a.n a.d a.domains.now a.tables.now a.slot.now k.0.fitting.words k.1.0 _ _ k.0.passed
+          k.0.fitting.sized.small c.wrong_with.ensures c.if-wrong_with-ne0.false
+          (marks_in a.n a.d a.domains.now a.tables.now a.slot.now _ k.0.fitting.sized.few
+          c.marked_at-marked.ensures c.if-n-marked.false)
+          c.marks_obey.ensures.0,
+      c.marks_obey.ensures.1,
+    )

@@ -1,0 +1,35 @@
+-- `search::step::piece_count` meets its contract. The invariant: the count is of the first k candidates.
+use mathlib.Core.Path.{◌≡◌, ◌∙◌}
+use mathlib.Core.Logic.{⊎_elim}
+use Prim.Native.Nat.{◌≤◌, ◌-◌}
+use native.Mathlib.Omega.{arith}
+use lib.ListN.{length}
+use Rattle.problem.specs.Problem.{table_of}
+use Rattle.splits.specs.Splits.{candidate}
+use Rattle.search.proofs.step.Candidates.{firsts}
+use Rattle.search.proofs.step.Gathering.{count_more, count_same, count_end}
+use borrow.Author.Rules.{rules}
+use Rattle.search.proofs.step.piece_count.Goals as goal
+
+pub loop-k-init : goal.loop-k-init
+unfolding firsts
+loop-k-init c = (search rules, (omega arith, omega arith))
+
+pub loop-k-preserved : goal.loop-k-preserved
+loop-k-preserved c =
+    let inv = c.loop-k.invariant in
+    let pre = c.requires in
+    let named = c.candidates-candidates.ensures in
+    let more = c.loop-k-test.true in
+    let piece = c.piece-piece.ensures in
+    let told = c.is_empty.ensures in (
+      omega arith,
+      ⊎_elim (λ w. (omega (arith, w.1), w.1 ∙ count_more _ _ _ _ _ pre _ _ _ _ _ named more piece inv.1.1 told w.0.taken))
+          (λ w. (omega (arith, w.1), w.1 ∙ count_same _ _ _ _ _ pre _ _ _ _ _ named more piece inv.1.1 told w.0.left)) c.if-not-is_empty.branch,
+    )
+
+pub returns : goal.returns
+returns c =
+    let inv = c.loop-k.invariant in
+    let long : length c.args.top.domains ≡ 32 = search rules in
+    count_end _ _ _ _ _ c.requires _ _ _ long c.candidates-candidates.ensures inv.0 c.loop-k-test.false inv.1.1

@@ -1,0 +1,28 @@
+-- `search::step_by` meets its contract.
+use mathlib.Core.Logic.{⊎_elim}
+use borrow.Author.Rules.{rules}
+use Rattle.search.proofs.Running.{used_slot, ready_used, finished_empty, finished_is, stays, taking}
+use Rattle.search.proofs.step_by.Goals as goal
+
+pub read_slot-top-requires : goal.read_slot-top-requires
+read_slot-top-requires c =
+    used_slot _ _ _
+    (ready_used _ _ c.args.tables.now _ _ c.requires.0)
+    c.if-subproblems-ne0.true
+
+pub take-requires : goal.take-requires
+take-requires c =
+    let k = c.requires in (
+      taking _ _ _ _ _ k.0 _ _ c.if-subproblems-ne0.true c.read_slot-top.ensures
+          c.all_instantiated_lem.ensures c.if-not-all_instantiated.true,
+      k.1,
+    )
+
+pub stopped-requires : goal.stopped-requires
+stopped-requires c = tt
+
+pub returns : goal.returns
+returns c =
+    rw c.stopped.ensures
+    (stays _ _ _ _ _ c.requires.0 _
+    (⊎_elim (λ w. finished_is _ _ _ w.0.taken _ w.2.ensures _ w.3.ensures w.4.left) (λ w. finished_empty _ _ _ w.left) c.if-subproblems-ne0.branch))

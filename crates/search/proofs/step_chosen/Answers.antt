@@ -1,0 +1,44 @@
+-- `search::step_chosen` meets its contract.
+use native.Mathlib.Omega.{arith}
+use mathlib.Core.Path.{refl}
+use mathlib.Core.Logic.{⊎_elim}
+use Rattle.search.proofs.Running.{used_slot, ready_used, finished_empty, finished_is, stays_chosen, taking, chosen_stops}
+use Rattle.search.proofs.step_chosen.Goals as goal
+
+pub read_lanes-top-requires : goal.read_lanes-top-requires
+read_lanes-top-requires c = (
+  used_slot _ _ _ (ready_used _ _ c.args.tables.now _ _ c.requires.0)
+      c.if-subproblems-ne0.true,
+  c.requires.1.1,
+)
+
+pub all_instantiated-requires : goal.all_instantiated-requires
+all_instantiated-requires c = tt
+
+pub take_chosen-requires : goal.take_chosen-requires
+take_chosen-requires c = (
+  taking _ _ _ _ _ c.requires.0 _ _
+      c.if-subproblems-ne0.true c.read_lanes-top.ensures
+      c.all_instantiated_lem.ensures c.if-not-all_instantiated.true,
+  c.requires.1.0,
+)
+
+pub returns-then-not-all_instantiated : goal.returns-then-not-all_instantiated
+returns-then-not-all_instantiated c = (
+  chosen_stops _ _ _ _ _ c.requires.0 _
+      c.if-subproblems-ne0.true
+      c.read_lanes-top.ensures _ _ _ refl
+      c.take_chosen.ensures.0,
+  c.take_chosen.ensures.1,
+)
+
+pub stopped-requires : goal.stopped-requires
+stopped-requires c = tt
+
+pub returns : goal.returns
+returns c = (
+  rw c.stopped.ensures
+      (stays_chosen _ _ _ _ _ c.requires.0
+      (⊎_elim (λ w. finished_is _ _ _ w.0.taken _ w.2.ensures _ w.3.ensures w.4.left) (λ w. finished_empty _ _ _ w.left) c.if-subproblems-ne0.branch)),
+  c.requires.1.0,
+)

@@ -1,0 +1,14 @@
+-- `at_once::outsides` meets its contract. The invariant: the first i are done.
+use mathlib.Core.Path.{◌≡◌, refl}
+use Prim.Native.Nat.{◌≤◌, ◌-◌}
+use native.Mathlib.Omega.{arith}
+use Rattle.problem.specs.Lists.{changed}
+use Rattle.splits.specs.AtOnce.{outside_to}
+use Rattle.splits.proofs.at_once.Turns.{outside_more}
+use Rattle.splits.proofs.at_once.outsides.Given as goal
+
+abbrev pub invariant-loop-i : goal.invariant-loop-i
+invariant-loop-i l = (l.i ≤ 32) × (l.domains ≡ outside_to l.initial.domains l.row l.i)
+
+abbrev pub decreases-loop-i : goal.decreases-loop-i
+decreases-loop-i l = 32 - l.i

@@ -1,0 +1,18 @@
+-- `splits::checks::look` meets its contract.
+use Rattle.splits.proofs.checks.Counting.{other_looked, own_passed, Looking, look_more, look_skip, look_stop, look_end}
+use mathlib.Core.Logic.{⊎_elim}
+use Rattle.problem.specs.Lists.{below, keep, some}
+use Rattle.splits.specs.Splits.{forbidden}
+use Rattle.problem.specs.Problem.{table_of}
+use native.Mathlib.Omega.{arith}
+use Prim.Native.Nat.{◌≤◌, ◌-◌}
+use mathlib.Core.Bool.{false}
+use mathlib.Core.Path.{◌≡◌, refl}
+use borrow.Author.Rules.{rules}
+use Rattle.splits.proofs.checks.look.Given as goal
+
+abbrev pub invariant-loop-i : goal.invariant-loop-i
+invariant-loop-i l = (l.i ≤ l.n) × ((l.count ≤ l.i) × ((l.conflict ≡ false) × Looking l.n (table_of l.n l.d l.tables) l.top l.variable l.value l.i l.count))
+
+abbrev pub decreases-loop-i : goal.decreases-loop-i
+decreases-loop-i l = l.n - l.i

@@ -1,0 +1,21 @@
+-- `splits::split::backtracking` meets its contract.
+use Rattle.splits.proofs.split.Places.{backtracked_none, backtracked_first, backtracked_rest, its_only}
+use borrow.Author.Rules.{rules}
+use Rattle.splits.proofs.split.backtracking.Goals as goal
+
+pub returns-then-k-ne0 : goal.returns-then-k-ne0
+returns-then-k-ne0 c = backtracked_rest _ _ _ _ _ _ _ c.if-k-ne0.true _
+    (its_only _ _ _ _ _ _ c.requires c.only.ensures) c.without.ensures
+
+pub look-looked-requires : goal.look-looked-requires
+look-looked-requires c = c.requires
+
+pub returns-then-looked : goal.returns-then-looked
+returns-then-looked c =
+    backtracked_none _ _ _ _ _ _ _ _ c.requires c.if-k-ne0.false _
+    c.look-looked.ensures.met c.if-looked.true c.cut.ensures
+
+pub returns : goal.returns
+returns c =
+    backtracked_first _ _ _ _ _ _ _ _ c.requires c.if-k-ne0.false _
+    c.look-looked.ensures.met c.if-looked.false c.instantiate.ensures

@@ -1,0 +1,22 @@
+-- `subproblem::Subproblem::cut_before` meets its contract.
+use mathlib.Core.Path.{◌≡◌, ◌∙◌}
+use mathlib.Core.Logic.{⊎_elim}
+use Prim.Native.Nat.{◌≤◌, ◌-◌}
+use native.Mathlib.Omega.{arith}
+use borrow.Author.Rules.{rules}
+use Rattle.splits.specs.Loops.Kinds.{cut_before}
+use Rattle.splits.proofs.subproblem.Rows.{before_none, before_next, before_skip}
+use Rattle.splits.proofs.subproblem.Subproblem.cut_before.Goals as goal
+
+pub loop-i-init : goal.loop-i-init
+loop-i-init c = (omega arith, before_none _ _ _)
+
+pub loop-i-preserved : goal.loop-i-preserved
+loop-i-preserved c =
+    let inv = c.loop-i.invariant.1 in (
+      omega arith,
+      ⊎_elim (λ w. w.2 ∙ before_next _ _ _ _ _ inv w.0.taken) (λ w. w.1 ∙ before_skip _ _ _ _ _ inv w.0.left) c.if-i-variable.branch,
+    )
+
+pub returns : goal.returns
+returns c = let end : c.loop-i.i ≡ c.args.j = omega arith in rw (← end) c.loop-i.invariant.1

@@ -1,0 +1,13 @@
+-- `splits::subproblem::Subproblem::cut_each` meets its contract. The invariant: the first i domains are cut.
+use mathlib.Core.Path.{◌≡◌, ◌∙◌}
+use Prim.Native.Nat.{◌≤◌, ◌-◌}
+use native.Mathlib.Omega.{arith}
+use Rattle.splits.proofs.subproblem.Rows.{cut_to, cut_none, cut_more, cut_all}
+use borrow.Author.Rules.{rules}
+use Rattle.splits.proofs.subproblem.Subproblem.cut_each.Given as goal
+
+abbrev pub invariant-loop-i : goal.invariant-loop-i
+invariant-loop-i l = (l.i ≤ 32) × (l.self ≡ cut_to l.initial.self l.masks l.i)
+
+abbrev pub decreases-loop-i : goal.decreases-loop-i
+decreases-loop-i l = 32 - l.i

@@ -1,0 +1,7 @@
+-- `splits::subproblem::Subproblem::domain` meets its contract.
+use Rattle.splits.proofs.subproblem.Subproblems.{domain_out}
+use borrow.Author.Rules.{rules}
+use Rattle.splits.proofs.subproblem.Subproblem.domain.Goals as goal
+
+pub returns : goal.returns
+returns c = domain_out c.args.t1 _ (search rules) c.if-variable-lt32.false
