@@ -1,5 +1,6 @@
 -- `load` meets its contract: 14 and wrong sizes change nothing; else the content decides.
-use mathlib.Core.Path.{sym, ◌∙◌}
+use mathlib.Core.Bool.{not}
+use mathlib.Core.Path.{sym, ◌∙◌, ap}
 use native.Mathlib.Omega.{arith}
 use borrow.Author.Rules.{rules}
 use Rattle.blocks.proofs.Whole.{refusal_is}
@@ -15,13 +16,13 @@ returns-then-refusal-ne0 c =
 pub returns-then-not-is_sized : goal.returns-then-not-is_sized
 returns-then-not-is_sized c =
     let whole = sym (refusal_is _ _ c.refusal_of_file-refusal.ensures) ∙ c.if-refusal-ne0.false in
-    let is = refused_sizes _ _ _ _ whole _ c.is_sized.ensures c.if-not-is_sized.true in
+    let is = refused_sizes _ _ _ _ whole _ c.is_sized.ensures (ap not c.if-not-is_sized.true) in
     load_refused _ _ _ _ _ is (λ z. absurd (omega arith)) _ c.refuse-then-not-is_sized.ensures
 
 pub load_content-requires : goal.load_content-requires
 load_content-requires c =
     load_read _ _ _ _ _ _ c.refusal_of_file-refusal.ensures c.if-refusal-ne0.false c.header_of-header.ensures c.is_sized.ensures
-    c.if-not-is_sized.false c.room_for_content-words.ensures c.put_content.ensures
+    (ap not c.if-not-is_sized.false) c.room_for_content-words.ensures c.put_content.ensures
 
 pub shape_of-domains : goal.shape_of-domains
 shape_of-domains c = c.load_content.auto.1.1.1.0

@@ -1,4 +1,6 @@
 -- `search::step_by` meets its contract.
+use mathlib.Core.Path.{ap}
+use mathlib.Core.Bool.{not}
 use mathlib.Core.Logic.{⊎_elim}
 use borrow.Author.Rules.{rules}
 use Rattle.search.proofs.Running.{used_slot, ready_used, finished_empty, finished_is, stays, taking}
@@ -14,7 +16,7 @@ pub take-requires : goal.take-requires
 take-requires c =
     let k = c.requires in (
       taking _ _ _ _ _ k.0 _ _ c.if-subproblems-ne0.true c.read_slot-top.ensures
-          c.all_instantiated_lem.ensures c.if-not-all_instantiated.true,
+          c.all_instantiated_lem.ensures (ap not c.if-not-all_instantiated.true),
       k.1,
     )
 

@@ -1,6 +1,7 @@
 -- `search::step_chosen` meets its contract.
+use mathlib.Core.Bool.{not}
 use native.Mathlib.Omega.{arith}
-use mathlib.Core.Path.{refl}
+use mathlib.Core.Path.{refl, ap}
 use mathlib.Core.Logic.{⊎_elim}
 use Rattle.search.proofs.Running.{used_slot, ready_used, finished_empty, finished_is, stays_chosen, taking, chosen_stops}
 use Rattle.search.proofs.step_chosen.Goals as goal
@@ -19,7 +20,7 @@ pub take_chosen-requires : goal.take_chosen-requires
 take_chosen-requires c = (
   taking _ _ _ _ _ c.requires.0 _ _
       c.if-subproblems-ne0.true c.read_lanes-top.ensures
-      c.all_instantiated_lem.ensures c.if-not-all_instantiated.true,
+      c.all_instantiated_lem.ensures (ap not c.if-not-all_instantiated.true),
   c.requires.1.0,
 )
 

@@ -1,7 +1,7 @@
 -- `reading::all_good` meets its contract. The invariant: the blocks before this number are good.
 use borrow.Author.Rules.{rules}
 use mathlib.Core.Path.{◌≡◌, ap, ◌∙◌}
-use mathlib.Core.Bool.{true}
+use mathlib.Core.Bool.{true, not}
 use Prim.Native.Nat.{ℕ, ◌+◌, ◌-◌, ◌≤◌, ◌<◌}
 use native.Mathlib.Omega.{arith}
 use Rattle.problem.specs.Lists.{every}
@@ -19,7 +19,7 @@ returns-then-not-is_good c =
     let args = c in
     let good = good_part _ _ _ _ _ loop.invariant.0 args.requires.0 c.block_at.ensures.0 c.is_good.ensures in
     let below : loop.number - 1 < args.args.blocks = omega (arith, loop.invariant.0) in
-    every_stop _ _ _ _ below good c.if-not-is_good.true
+    every_stop _ _ _ _ below good (ap not c.if-not-is_good.true)
 
 pub loop-number-preserved : goal.loop-number-preserved
 loop-number-preserved c =
@@ -27,7 +27,7 @@ loop-number-preserved c =
     let args = c in
     let good = good_part _ _ _ _ _ loop.invariant.0 args.requires.0 c.block_at.ensures.0 c.is_good.ensures in
     let up : (loop.number + 1) - 1 ≡ (loop.number - 1) + 1 = omega (arith, loop.invariant.0) in
-    let next = every_turn _ _ _ loop.invariant.1.1 good c.if-not-is_good.false in
+    let next = every_turn _ _ _ loop.invariant.1.1 good (ap not c.if-not-is_good.false) in
     (omega arith, (omega arith, ap (λ (k : ℕ). every k (good_block args.args.file.now)) up ∙ next))
 
 pub returns : goal.returns

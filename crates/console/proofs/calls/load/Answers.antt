@@ -1,5 +1,6 @@
 -- `console::calls::load` meets its contract.
-use mathlib.Core.Path.{refl}
+use mathlib.Core.Bool.{not}
+use mathlib.Core.Path.{refl, ap}
 use Prim.Native.Nat.{ℕ, ◌<◌}
 use native.Mathlib.Omega.{arith}
 use lib.ListN.{get_or}
@@ -15,7 +16,7 @@ returns-then-not-room_for c =
     let domains : (i : ℕ) → get_or c.args.domains.now i 0 < 256 = λ i. omega (arith, c.type_inv.domains i) in
     let tables : (i : ℕ) → get_or c.args.tables.now i 0 < 256 = λ i. omega (arith, c.type_inv.tables i) in
     let agenda : (i : ℕ) → get_or c.args.agenda.now i 0 < 256 = λ i. omega (arith, c.type_inv.agenda i) in
-    loads_refused (λ w. room_false _ _ _ _ _ c.room_for.ensures c.if-not-room_for.true w (λ f. f)) domains tables agenda c.load_none.ensures
+    loads_refused (λ w. room_false _ _ _ _ _ c.room_for.ensures (ap not c.if-not-room_for.true) w (λ f. f)) domains tables agenda c.load_none.ensures
 
 pub slice_bounds-three_of-end : goal.slice_bounds-three_of-end
 slice_bounds-three_of-end c = refl
@@ -93,7 +94,7 @@ returns c =
     let test = made in
     let last = called.load-loaded.new in
     let kept = called.load-loaded.auto in
-    let room = room_true _ _ _ _ test.room_for.ensures test.if-not-room_for.false in
+    let room = room_true _ _ _ _ test.room_for.ensures (ap not test.if-not-room_for.false) in
     let three = made.three_of-made.ensures in
     let (domains, agenda, tables) = said_last room refl refl refl three in
     loads_turned (room_whole room)

@@ -1,5 +1,6 @@
 -- `console::calls::open` meets its contract.
-use mathlib.Core.Path.{refl}
+use mathlib.Core.Bool.{not}
+use mathlib.Core.Path.{refl, ap}
 use native.Mathlib.Omega.{arith}
 use Rattle.word_bytes.proofs.Fitting.{count_is}
 use Rattle.console.proofs.rooms.Testing.{room_true, room_whole, room_false}
@@ -10,7 +11,7 @@ use Rattle.console.proofs.calls.open.Goals as goal
 
 pub returns-then-not-room_for : goal.returns-then-not-room_for
 returns-then-not-room_for c =
-    opens_refused (λ w. room_false _ _ _ _ _ c.room_for.ensures c.if-not-room_for.true w (λ f. f))
+    opens_refused (λ w. room_false _ _ _ _ _ c.room_for.ensures (ap not c.if-not-room_for.true) w (λ f. f))
     (λ i. omega (arith, c.type_inv.agenda i)) c.unopened.ensures
 
 pub slice_bounds-three_of-end : goal.slice_bounds-three_of-end
@@ -62,7 +63,7 @@ returns c =
     let called = c in
     let made = called in
     let test = made in
-    let room = room_true _ _ _ _ test.room_for.ensures test.if-not-room_for.false in
+    let room = room_true _ _ _ _ test.room_for.ensures (ap not test.if-not-room_for.false) in
     let (domains, agenda, tables) = said_last room refl refl refl made.three_of-made.ensures in
     opens_turned (room_whole room)
     (opens_words called.«open».new.1.1.1.1.0 domains tables agenda made.three_of-made.ensures.of_second.lent called.«open».auto.1.1.1.1.0

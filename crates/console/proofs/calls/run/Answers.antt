@@ -1,5 +1,6 @@
 -- `console::calls::run` meets its contract.
-use mathlib.Core.Path.{sym}
+use mathlib.Core.Bool.{not}
+use mathlib.Core.Path.{sym, ap}
 use native.Mathlib.Omega.{arith}
 use lib.Seq.{length-take-le}
 use Rattle.console.proofs.rooms.Testing.{room_then, room_false, listed_then, listed_even}
@@ -11,16 +12,16 @@ use Rattle.console.proofs.calls.run.Goals as goal
 
 pub returns-then-not-whole_list : goal.returns-then-not-whole_list
 returns-then-not-whole_list c =
-    runs_cut c.requires (λ i. omega (arith, c.type_inv.agenda i)) c.refused.ensures _ c.whole_list_lem.ensures c.if-not-whole_list.true
+    runs_cut c.requires (λ i. omega (arith, c.type_inv.agenda i)) c.refused.ensures _ c.whole_list_lem.ensures (ap not c.if-not-whole_list.true)
 
 pub front_of-front-requires : goal.front_of-front-requires
 front_of-front-requires c =
-    ((listed_then _ _ _ c.whole_list_lem.ensures c.if-not-whole_list.false).few, c.requires)
+    ((listed_then _ _ _ c.whole_list_lem.ensures (ap not c.if-not-whole_list.false)).few, c.requires)
 
 pub returns-then-not-room_for : goal.returns-then-not-room_for
 returns-then-not-room_for c =
     runs_long c.requires (λ i. omega (arith, c.type_inv.agenda i)) c.refused-then-not-room_for.ensures
-    (λ w. room_false _ _ _ _ _ c.room_for.ensures c.if-not-room_for.true w (front_fits c.front_of-front.ensures))
+    (λ w. room_false _ _ _ _ _ c.room_for.ensures (ap not c.if-not-room_for.true) w (front_fits c.front_of-front.ensures))
 
 pub slice_bounds-run_words-end : goal.slice_bounds-run_words-end
 slice_bounds-run_words-end c = c.front_of-front.ensures.reach.inside
@@ -30,8 +31,8 @@ slice_bounds-run_words-end-2 c = sym (length-take-le _ _ c.front_of-front.ensure
 
 pub run_words-requires : goal.run_words-requires
 run_words-requires c = (
-  front_room c.front_of-front.ensures (room_then _ c.room_for.ensures c.if-not-room_for.false),
-  (listed_then _ _ _ c.whole_list_lem.ensures c.if-not-whole_list.false, c.requires),
+  front_room c.front_of-front.ensures (room_then _ c.room_for.ensures (ap not c.if-not-room_for.false)),
+  (listed_then _ _ _ c.whole_list_lem.ensures (ap not c.if-not-whole_list.false), c.requires),
 )
 
 pub returns : goal.returns
@@ -39,8 +40,8 @@ returns c =
     let ran = c in
     let test = ran in
     let front = test.front_of-front.ensures in
-    let listed = listed_then _ _ _ test.whole_list_lem.ensures test.if-not-whole_list.false in
-    let fits = room_then _ test.room_for.ensures test.if-not-room_for.false in (
+    let listed = listed_then _ _ _ test.whole_list_lem.ensures (ap not test.if-not-whole_list.false) in
+    let fits = room_then _ test.room_for.ensures (ap not test.if-not-room_for.false) in (
       runs_turned (front_whole_problem front fits) (listed_even _ _ listed)
           (front_runs front listed ran.run_words.auto.1.1.1.1.0 ran.run_words.ensures.0),
       ran.run_words.ensures.1,

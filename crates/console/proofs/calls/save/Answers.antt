@@ -1,5 +1,6 @@
 -- `console::calls::save` meets its contract.
-use mathlib.Core.Path.{refl}
+use mathlib.Core.Bool.{not}
+use mathlib.Core.Path.{refl, ap}
 use native.Mathlib.Omega.{arith}
 use Rattle.word_bytes.proofs.Fitting.{count_is}
 use Rattle.console.proofs.rooms.Testing.{room_true, room_whole, room_false}
@@ -9,7 +10,7 @@ use borrow.Author.Rules.{rules}
 use Rattle.console.proofs.calls.save.Goals as goal
 
 pub returns-then-not-room_for : goal.returns-then-not-room_for
-returns-then-not-room_for c = saves_refused (λ w. room_false _ _ _ _ _ c.room_for.ensures c.if-not-room_for.true w (λ f. f)) c.unsaved.ensures
+returns-then-not-room_for c = saves_refused (λ w. room_false _ _ _ _ _ c.room_for.ensures (ap not c.if-not-room_for.true) w (λ f. f)) c.unsaved.ensures
 
 pub slice_bounds-three_of-end : goal.slice_bounds-three_of-end
 slice_bounds-three_of-end c = refl
@@ -48,7 +49,7 @@ pub returns : goal.returns
 returns c =
     let made = c in
     let test = made in
-    let room = room_true _ _ _ _ test.room_for.ensures test.if-not-room_for.false in
+    let room = room_true _ _ _ _ test.room_for.ensures (ap not test.if-not-room_for.false) in
     let (domains, agenda, tables) = said_last room refl refl refl made.three_of-made.ensures in
     saves_turned (room_whole room)
     (saves_words _ _ _ _ _ _ domains tables agenda (λ i. omega (arith, test.type_inv.agenda i)) c.save.ensures)

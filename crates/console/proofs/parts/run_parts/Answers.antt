@@ -1,5 +1,6 @@
 -- `console::parts::run_parts` meets its contract. The invariant: whatever is run of what the parts so far left is run after them.
-use mathlib.Core.Path.{refl}
+use mathlib.Core.Bool.{not}
+use mathlib.Core.Path.{refl, ap}
 use Prim.Native.Nat.{◌-◌}
 use native.Mathlib.Omega.{arith}
 use lib.ListN.{length}
@@ -54,7 +55,7 @@ returns-then-not-goes_on c =
     let known = c in
     let pre = known.requires in
     returns_stop c.loop-ran.invariant part ran pre.0
-    (λ i. omega (arith, known.type_inv.agenda i)) pre.1 _ c.goes_on.ensures c.if-not-goes_on.true
+    (λ i. omega (arith, known.type_inv.agenda i)) pre.1 _ c.goes_on.ensures (ap not c.if-not-goes_on.true)
 
 pub loop-ran-smaller : goal.loop-ran-smaller
 loop-ran-smaller c =
@@ -67,7 +68,7 @@ loop-ran-preserved c =
     let part = c.end_of_lem.ensures in
     let ran = c.run_part-ran.ensures in
     record {
-      far = go_again inv part ran _ c.goes_on.ensures c.if-not-goes_on.false;
+      far = go_again inv part ran _ c.goes_on.ensures (ap not c.if-not-goes_on.false);
       long = search rules;
       small = λ i. omega (arith, c.type_inv.agenda i);
       stepped = stepped_again inv part ran;

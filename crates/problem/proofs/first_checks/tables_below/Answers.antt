@@ -1,6 +1,6 @@
 -- `first::tables_below` meets its contract: of 16 values no word has a bit too many; else the loop's invariant: every row passed is below 2 ^ d.
-use mathlib.Core.Bool.{true}
-use mathlib.Core.Path.{◌≡◌, sym}
+use mathlib.Core.Bool.{true, not}
+use mathlib.Core.Path.{◌≡◌, sym, ap}
 use Prim.Native.Nat.{◌-◌, ◌≤◌}
 use native.Mathlib.Omega.{arith}
 use borrow.Author.Rules.{rules}
@@ -18,10 +18,10 @@ pub loop-i-init : goal.loop-i-init
 loop-i-init c = (search rules, every_start _)
 
 pub returns-then-not-row_below : goal.returns-then-not-row_below
-returns-then-not-row_below c = every_stop _ _ _ _ c.loop-i-test.true c.row_below.ensures c.if-not-row_below.true
+returns-then-not-row_below c = every_stop _ _ _ _ c.loop-i-test.true c.row_below.ensures (ap not c.if-not-row_below.true)
 
 pub loop-i-preserved : goal.loop-i-preserved
-loop-i-preserved c = (omega arith, every_turn _ _ _ c.loop-i.invariant.1 c.row_below.ensures c.if-not-row_below.false)
+loop-i-preserved c = (omega arith, every_turn _ _ _ c.loop-i.invariant.1 c.row_below.ensures (ap not c.if-not-row_below.false))
 
 pub returns : goal.returns
 returns c = every_end _ _ _ c.loop-i.invariant.0 c.loop-i-test.false c.loop-i.invariant.1

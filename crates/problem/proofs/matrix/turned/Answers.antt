@@ -6,4 +6,4 @@ use Rattle.problem.proofs.matrix.turned.Goals as goal
 pub returns : goal.returns
 returns c =
     turned_made _ _ _ _ c.matrix_of.ensures.1 c.matrix_of.ensures.0 c.columns.ensures
-    c.rows_of_lem.ensures
+    c.rows_of.ensures

@@ -1,6 +1,6 @@
 -- `symmetry::tables_both_ways` meets its contract: the loop's invariant: every row passed is allowed both ways or neither.
-use mathlib.Core.Bool.{true}
-use mathlib.Core.Path.{◌≡◌}
+use mathlib.Core.Bool.{true, not}
+use mathlib.Core.Path.{◌≡◌, ap}
 use Prim.Native.Nat.{◌-◌, ◌≤◌}
 use native.Mathlib.Omega.{arith}
 use borrow.Author.Rules.{rules}
@@ -14,10 +14,10 @@ pub loop-i-init : goal.loop-i-init
 loop-i-init c = (search rules, every_start _)
 
 pub returns-then-not-row_both_ways : goal.returns-then-not-row_both_ways
-returns-then-not-row_both_ways c = every_stop _ _ _ _ c.loop-i-test.true c.row_both_ways.ensures c.if-not-row_both_ways.true
+returns-then-not-row_both_ways c = every_stop _ _ _ _ c.loop-i-test.true c.row_both_ways.ensures (ap not c.if-not-row_both_ways.true)
 
 pub loop-i-preserved : goal.loop-i-preserved
-loop-i-preserved c = (omega arith, every_turn _ _ _ c.loop-i.invariant.1 c.row_both_ways.ensures c.if-not-row_both_ways.false)
+loop-i-preserved c = (omega arith, every_turn _ _ _ c.loop-i.invariant.1 c.row_both_ways.ensures (ap not c.if-not-row_both_ways.false))
 
 pub returns : goal.returns
 returns c = every_end _ _ _ c.loop-i.invariant.0 c.loop-i-test.false c.loop-i.invariant.1

@@ -15,4 +15,4 @@ returns-then-d-value c = simp (le-ltb _ _ c.if-d-value.true, and-false)
 
 pub returns : goal.returns
 unfolding inside
-returns c = simp (lt-ltb _ _ c.if-n-variable.false, lt-ltb _ _ c.if-d-value.false) c.fits2.ensures
+returns c = simp (lt-ltb _ _ c.if-n-variable.false, lt-ltb _ _ c.if-d-value.false) c.fits.ensures

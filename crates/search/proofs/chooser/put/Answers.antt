@@ -1,5 +1,6 @@
 -- `search::choice::put` meets its contract.
-use mathlib.Core.Path.{sym, ◌∙◌}
+use mathlib.Core.Bool.{not}
+use mathlib.Core.Path.{sym, ◌∙◌, ap}
 use native.Mathlib.Omega.{arith}
 use borrow.Author.Tests.{not-true, not-false}
 use Rattle.search.proofs.chooser.Settling.{put_variable}
@@ -18,7 +19,7 @@ settle-requires c =
 pub returns-then-not-is_several : goal.returns-then-not-is_several
 returns-then-not-is_several c =
     puts_left _ _ _ _ _ _ _ c.requires
-    (sym c.is_several.ensures ∙ not-true _ c.if-not-is_several.true) _ _
+    (sym c.is_several.ensures ∙ not-true _ (ap not c.if-not-is_several.true)) _ _
     c.settle.ensures
 
 pub overflow_add-free : goal.overflow_add-free
@@ -38,7 +39,7 @@ filled-requires c = tt
 pub spread-requires : goal.spread-requires
 spread-requires c =
     let several =
-    (sym c.is_several.ensures ∙ not-false _ c.if-not-is_several.false) in
+    (sym c.is_several.ensures ∙ not-false _ (ap not c.if-not-is_several.false)) in
     let count = count_three _ _ _ _ _ _ _ c.requires several _
     c.further_of-further.ensures in (
       c.requires,
@@ -53,7 +54,7 @@ pub returns-then-filled-free : goal.returns-then-filled-free
 returns-then-filled-free c =
     let several =
     (sym c.is_several.ensures ∙ not-false _
-    c.if-not-is_several.false) in
+    (ap not c.if-not-is_several.false)) in
     let count = count_three _ _ _ _ _ _ _ c.requires
     several _ c.further_of-further.ensures in
     puts_three _ _ _ _ _ _ _ c.requires several
@@ -62,7 +63,7 @@ returns-then-filled-free c =
 pub returns-then-free-lt2 : goal.returns-then-free-lt2
 returns-then-free-lt2 c =
     let several =
-    (sym c.is_several.ensures ∙ not-false _ c.if-not-is_several.false) in
+    (sym c.is_several.ensures ∙ not-false _ (ap not c.if-not-is_several.false)) in
     let count = count_three _ _ _ _ _ _ _ c.requires several _
     c.further_of-further.ensures in
     puts_none _ _ _ _ _ _ _ c.requires several
@@ -72,7 +73,7 @@ pub put_two-requires : goal.put_two-requires
 put_two-requires c =
     let several =
     (sym c.is_several.ensures ∙ not-false _
-    c.if-not-is_several.false) in (
+    (ap not c.if-not-is_several.false)) in (
       c.requires,
       (room_two _ _ _ _ _ _ _ c.requires several (omega arith), several),
     )
@@ -81,7 +82,7 @@ pub returns : goal.returns
 returns c =
     let several =
     (sym c.is_several.ensures ∙ not-false _
-    c.if-not-is_several.false) in
+    (ap not c.if-not-is_several.false)) in
     let count = count_three _ _ _ _ _ _ _
     c.requires several _
     c.further_of-further.ensures in

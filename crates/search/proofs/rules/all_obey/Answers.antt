@@ -1,5 +1,5 @@
 -- `rules::all_obey` meets its contract: the loop's invariant: the subproblem of every slot passed obeys the rules.
-use mathlib.Core.Bool.{true}
+use mathlib.Core.Bool.{true, not}
 use mathlib.Core.Path.{◌≡◌, ap, ◌∙◌}
 use Prim.Native.Nat.{◌-◌, ◌≤◌}
 use native.Mathlib.Omega.{arith}
@@ -49,7 +49,7 @@ pub returns-then-not-obeys : goal.returns-then-not-obeys
 returns-then-not-obeys c =
     every_stop _ _ _ _ c.loop-k-test.true
     (slot_obeys_lem _ _ _ _ _ _ (ap (subproblem_of _) c.slot-slot.ensures.0) c.obeys.ensures.0)
-    c.if-not-obeys.true ∙ all_slots _ _ _ _
+    (ap not c.if-not-obeys.true) ∙ all_slots _ _ _ _
 
 pub loop-k-preserved : goal.loop-k-preserved
 loop-k-preserved c = (
@@ -57,7 +57,7 @@ loop-k-preserved c = (
   (
     every_turn _ _ _ c.loop-k.invariant.1.0
         (slot_obeys_lem _ _ _ _ _ _ (ap (subproblem_of _) c.slot-slot.ensures.0) c.obeys.ensures.0)
-        c.if-not-obeys.false,
+        (ap not c.if-not-obeys.false),
     c.obeys.ensures.1,
   ),
 )

@@ -1,5 +1,6 @@
 -- `search::step::place` meets its contract. The invariant: the candidates from k on are placed.
-use mathlib.Core.Path.{◌≡◌}
+use mathlib.Core.Bool.{not}
+use mathlib.Core.Path.{◌≡◌, ap}
 use Prim.Native.Nat.{◌≤◌, ◌+◌}
 use native.Mathlib.Omega.{arith}
 use lib.ListN.{length}
@@ -36,7 +37,7 @@ write_slot-requires c =
     let inv = c.loop-k.invariant in
     gather_slot _ _ _ _ _ pre.reads _ _ _ _ _ inv.1 _ c.candidates-k.ensures
     inv.0 c.loop-k-test.true _ c.piece-piece.ensures _
-    c.is_empty.ensures c.if-not-is_empty.true (few _ _ _ _ pre.reads) pre.room
+    c.is_empty.ensures (ap not c.if-not-is_empty.true) (few _ _ _ _ pre.reads) pre.room
 
 pub overflow_add-at : goal.overflow_add-at
 overflow_add-at c =
@@ -46,7 +47,7 @@ overflow_add-at c =
     c.candidates-k.ensures inv.0
     c.loop-k-test.true _
     c.piece-piece.ensures _ c.is_empty.ensures
-    c.if-not-is_empty.true (few _ _ _ _ pre.reads) pre.room in
+    (ap not c.if-not-is_empty.true) (few _ _ _ _ pre.reads) pre.room in
     let inside : c.loop-k.at + 1 ≤ length
     c.args.agenda.now =
     omega (arith, slot_end _ _ _ slot, inv.1.same) in
@@ -62,7 +63,7 @@ loop-k-preserved-then-not-is_empty c =
           c.candidates-k.ensures inv.0
           c.loop-k-test.true _
           c.piece-piece.ensures _ c.is_empty.ensures
-          c.if-not-is_empty.true _ (few _ _ _ _ pre.reads) pre.room long c.write_slot.ensures
+          (ap not c.if-not-is_empty.true) _ (few _ _ _ _ pre.reads) pre.room long c.write_slot.ensures
           (search rules),
     )
 
@@ -73,7 +74,7 @@ loop-k-preserved-else-not-is_empty c =
       omega arith,
       gather_drop _ _ _ _ _ pre.reads _ _ _ _ _ inv.1 _ c.candidates-k.ensures inv.0
           c.loop-k-test.true _ c.piece-piece.ensures _ c.is_empty.ensures
-          c.if-not-is_empty.false,
+          (ap not c.if-not-is_empty.false),
     )
 
 pub loop-k-preserved : goal.loop-k-preserved
@@ -82,7 +83,7 @@ loop-k-preserved c =
     let inv = c.loop-k.invariant in (
       omega arith,
       gather_less _ _ _ _ _ pre.reads _ _ _ _ _ inv.1 c.loop-k-test.true
-          (c.keeps_none.ensures (not-false _ c.if-not-keeps_none.false)),
+          (c.keeps_none.ensures (not-false _ (ap not c.if-not-keeps_none.false))),
     )
 
 pub shape_of-agenda : goal.shape_of-agenda
