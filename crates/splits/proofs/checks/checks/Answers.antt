@@ -17,7 +17,7 @@ pub returns-in-1 : goal.returns-in-1
 returns-in-1 c =
     checks_1 _ _ _ _ _ _ _ c.variable-variable.ensures
     c.value-value.ensures _ c.kind.ensures
-    (sym c.within.ensures ∙ c.if-within.true) _ c.in_default-1.keys1
+    (sym c.within.ensures ∙ c.if-within.true) _ c.in-1.is
     c.look.ensures.counted
 
 pub returns-in-2 : goal.returns-in-2
@@ -25,18 +25,18 @@ returns-in-2 c =
     checks_2_3 _ _ _ _ _ _ _ c.variable-variable.ensures
     c.value-value.ensures _ c.kind.ensures
     (sym c.within.ensures ∙ c.if-within.true) _
-    c.in_default-1.rest.1 c.if-this-lt1.false c.if-this-lt4.true c.values_in_others.ensures
+    c.in-2.in_default-own.rest.1 c.in-2.if-this-lt1-own.false c.in-2.if-this-lt4-own.true c.values_in_others.ensures
 
 pub returns-in_default : goal.returns-in_default
 returns-in_default c =
     checks_none _ _ _ _ _ _ _ c.variable-variable.ensures
-    c.value-value.ensures _ c.kind.ensures c.in_default-1.rest.1 (inl c.if-this-lt1.true)
+    c.value-value.ensures _ c.kind.ensures c.in_default.in_default-own.rest.1 (inl c.in_default.if-this-lt1-own.true)
 
 pub returns-in_default-2 : goal.returns-in_default-2
 returns-in_default-2 c =
     checks_none _ _ _ _ _ _ _ c.variable-variable.ensures
     c.value-value.ensures _ c.kind.ensures
-    c.in_default-1.rest.1 (inr c.if-this-lt4.false)
+    c.in_default.in_default-own.rest.1 (inr c.in_default.if-this-lt4-own.false)
 
 pub returns-else-within : goal.returns-else-within
 returns-else-within c =

@@ -9,6 +9,7 @@ use Prim.Native.Nat.{◌≤◌, ◌-◌}
 use mathlib.Core.Bool.{false}
 use mathlib.Core.Path.{◌≡◌, refl}
 use borrow.Author.Rules.{rules}
+use Rattle.splits.proofs.checks.look.Goals.{then-i-variable+then-is_instantiated+else-does_forbid, then-i-variable+else-is_instantiated, else-i-variable}
 use Rattle.splits.proofs.checks.look.Goals as goal
 
 pub loop-i-init : goal.loop-i-init
@@ -19,22 +20,30 @@ pub loop-i-preserved : goal.loop-i-preserved
 loop-i-preserved c =
     let inv = c.loop-i.invariant.1.1 in (
       omega arith,
-      ⊎_elim
-          (λ w. (
-            omega (arith, w.5),
+      elim c.if-i-variable.branch [
+        | then-i-variable+then-is_instantiated+else-does_forbid w ↦ (
+            omega (arith, w.count-is),
             (
               inv.0,
-              rw w.5
-                  (look_more _ _ _ _ _ _ _ inv.1 _ _ (other_looked _ _ _ _ w.0.taken w.1.ensures) w.2.taken w.3.ensures w.4.left),
+              rw w.count-is
+                  (look_more _ _ _ _ _ _ _ inv.1 _ _ (other_looked _ _ _ _ w.if-i-variable.true w.is_instantiated.ensures)
+                      w.if-is_instantiated.true w.does_forbid.ensures w.if-does_forbid.false),
             ),
-          ))
-          (⊎_elim
-          (λ w. (
-            omega (arith, w.3),
-            (inv.0, rw w.3 (look_skip _ _ _ _ _ _ _ inv.1 _ (other_looked _ _ _ _ w.0.taken w.1.ensures) w.2.left)),
-          ))
-          (λ w. (omega (arith, w.1), (inv.0, rw w.1 (look_skip _ _ _ _ _ _ _ inv.1 _ (own_passed _ _ _ w.0.left) refl)))))
-          c.if-i-variable.branch,
+          )
+        | then-i-variable+else-is_instantiated w ↦ (
+            omega (arith, w.count-is),
+            (
+              inv.0,
+              rw w.count-is
+                  (look_skip _ _ _ _ _ _ _ inv.1 _ (other_looked _ _ _ _ w.if-i-variable.true w.is_instantiated.ensures)
+                      w.if-is_instantiated.false),
+            ),
+          )
+        | else-i-variable w ↦ (
+            omega (arith, w.count-is),
+            (inv.0, rw w.count-is (look_skip _ _ _ _ _ _ _ inv.1 _ (own_passed _ _ _ w.if-i-variable.false) refl)),
+          )
+      ],
     )
 
 pub returns-after-loop-i : goal.returns-after-loop-i

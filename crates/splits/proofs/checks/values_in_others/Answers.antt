@@ -9,6 +9,7 @@ use native.Mathlib.Omega.{arith}
 use Prim.Native.Nat.{◌≤◌, ◌-◌, ◌*◌}
 use mathlib.Core.Path.{◌≡◌, refl, ◌∙◌}
 use borrow.Author.Rules.{rules}
+use Rattle.splits.proofs.checks.values_in_others.Goals.{then-i-variable, else-i-variable}
 use Rattle.splits.proofs.checks.values_in_others.Goals as goal
 
 pub loop-i-init : goal.loop-i-init
@@ -16,17 +17,18 @@ unfolding values_in total
 loop-i-init c = (search rules, (refl, search rules))
 
 pub overflow_add-sum : goal.overflow_add-sum
-overflow_add-sum c = omega (arith, c.count-sum.ensures, ones-le 16 _ c.domain.type-inv)
+overflow_add-sum c = omega (arith, c.count-sum.ensures, ones-le 16 _ c.domain.type_inv)
 
 pub loop-i-preserved : goal.loop-i-preserved
 loop-i-preserved c = (
   omega arith,
-  ⊎_elim
-      (λ w. (
-        w.3 ∙ values_more _ _ _ _ c.loop-i.invariant.1.0 _ _ w.0.taken w.1.ensures w.2.ensures,
-        omega (arith, w.2.ensures, ones-le 16 _ w.1.ok),
-      ))
-      (λ w. (w.1 ∙ values_same _ _ _ _ c.loop-i.invariant.1.0 w.0.left, omega (arith, w.1))) c.if-i-variable.branch,
+  elim c.if-i-variable.branch [
+    | then-i-variable w ↦ (
+        w.sum-is ∙ values_more _ _ _ _ c.loop-i.invariant.1.0 _ _ w.if-i-variable.true w.domain.ensures w.count-sum.ensures,
+        omega (arith, w.count-sum.ensures, ones-le 16 _ w.domain.type_inv),
+      )
+    | else-i-variable w ↦ (w.sum-is ∙ values_same _ _ _ _ c.loop-i.invariant.1.0 w.if-i-variable.false, omega (arith, w.sum-is))
+  ],
 )
 
 pub returns : goal.returns

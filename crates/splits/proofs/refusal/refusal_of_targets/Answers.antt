@@ -5,6 +5,7 @@ use Prim.Native.Nat.{◌≤◌, ◌-◌}
 use native.Mathlib.Omega.{arith}
 use Rattle.splits.proofs.refusal.Refusals.{Passed, ten_past, ten_at, passed_none, passed_same, passed_other, passed_all}
 use borrow.Author.Rules.{rules}
+use Rattle.splits.proofs.refusal.refusal_of_targets.Goals.{then-target-domain, else-target-domain}
 use Rattle.splits.proofs.refusal.refusal_of_targets.Goals as goal
 
 pub returns-then-n-gt32 : goal.returns-then-n-gt32
@@ -26,8 +27,10 @@ loop-i-preserved c =
     let tested = c.is_target_bad.ensures in
     let good = c.if-is_target_bad.false in (
       omega arith,
-      ⊎_elim (λ w. passed_other _ _ _ _ _ _ _ _ inv target domain tested good w.0.taken w.1)
-          (λ w. passed_same _ _ _ _ _ _ _ _ inv target domain tested good w.0.left w.1) c.if-target-domain.branch,
+      elim c.if-target-domain.branch [
+        | then-target-domain w ↦ passed_other _ _ _ _ _ _ _ _ inv target domain tested good w.if-target-domain.true w.all_same-is
+        | else-target-domain w ↦ passed_same _ _ _ _ _ _ _ _ inv target domain tested good w.if-target-domain.false w.all_same-is
+      ],
     )
 
 pub returns-then-all_same : goal.returns-then-all_same

@@ -6,6 +6,7 @@ use native.Mathlib.Omega.{arith}
 use borrow.Author.Rules.{rules}
 use Rattle.splits.specs.Loops.Kinds.{cut_before}
 use Rattle.splits.proofs.subproblem.Rows.{before_none, before_next, before_skip}
+use Rattle.splits.proofs.subproblem.Subproblem.cut_before.Goals.{then-i-variable, else-i-variable}
 use Rattle.splits.proofs.subproblem.Subproblem.cut_before.Goals as goal
 
 pub loop-i-init : goal.loop-i-init
@@ -15,7 +16,10 @@ pub loop-i-preserved : goal.loop-i-preserved
 loop-i-preserved c =
     let inv = c.loop-i.invariant.1 in (
       omega arith,
-      ⊎_elim (λ w. w.2 ∙ before_next _ _ _ _ _ inv w.0.taken) (λ w. w.1 ∙ before_skip _ _ _ _ _ inv w.0.left) c.if-i-variable.branch,
+      elim c.if-i-variable.branch [
+        | then-i-variable w ↦ w.self-is ∙ before_next _ _ _ _ _ inv w.if-i-variable.true
+        | else-i-variable w ↦ w.self-is ∙ before_skip _ _ _ _ _ inv w.if-i-variable.false
+      ],
     )
 
 pub returns : goal.returns

@@ -4,4 +4,4 @@ use borrow.Author.Rules.{rules}
 use Rattle.splits.proofs.subproblem.Subproblem.domain.Goals as goal
 
 pub returns : goal.returns
-returns c = domain_out c.args.t1 _ (search rules) c.if-variable-lt32.false
+returns c = domain_out c.args.self _ (search rules) c.if-variable-lt32.false

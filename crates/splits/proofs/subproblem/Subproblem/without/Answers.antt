@@ -8,7 +8,7 @@ use Rattle.splits.proofs.subproblem.Subproblem.without.Goals as goal
 
 pub returns-then-variable-lt32 : goal.returns-then-variable-lt32
 returns-then-variable-lt32 c =
-    let h : Fits w16 (get_or c.args.t1.domains c.args.variable 0) = search rules in
+    let h : Fits w16 (get_or c.args.self.domains c.args.variable 0) = search rules in
     without_in _ _ _ h.fits c.ranges.mask.fits
 
 pub returns-else-variable-lt32 : goal.returns-else-variable-lt32
