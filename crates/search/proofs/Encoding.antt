@@ -181,13 +181,9 @@ stack_back n d (P ∷ S) zs few h =
     let slot : take (n + 2) (drop (length S * (n + 2)) (stack_words n S ++ (slot_words n P ++ zs))) ≡ slot_words n P =
     rw (drop_at (stack_words n S) (slot_words n P ++ zs) (length S * (n + 2)) seam)
     (take_at (slot_words n P) zs (n + 2) (length_slot n P (omega (arith, shape.long)))) in
-    rw (
-      append_assoc (stack_words n S) (slot_words n P) zs,
-      slot,
-      slot_back n d P few shape,
-      stack_back n d S (slot_words n P ++ zs) few (λ Q m. h Q (Memᴰ.tail m)),
-    )
-    refl
+    rw (append_assoc (stack_words n S) (slot_words n P) zs, slot, slot_back n d P few shape)
+    (ap (λ (t : List ℕ). P ∷ stack_of n t (length S)) (append_assoc (stack_words n S) (slot_words n P) zs)
+    ∙ ap (λ (T : List Subproblem). P ∷ T) (stack_back n d S (slot_words n P ++ zs) few (λ Q m. h Q (Memᴰ.tail m))))
 
 -- The words of the stack that words hold are those words.
 pub stack_of_words : (n : ℕ) (agenda : List ℕ) (m : ℕ) → m * (n + 2) ≤ length agenda → ((i : ℕ) → get_or agenda i 0 < 2 ^ 16)

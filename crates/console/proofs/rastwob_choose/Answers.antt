@@ -15,7 +15,7 @@ returns c =
         its_steps = refl;
         its_checks = refl;
         its_subproblems = refl;
-        its_verdict = c.number_of_lem.ensures;
+        its_verdict = c.number_of.ensures;
         its_taken = refl;
       };
     }

@@ -48,7 +48,7 @@ module _ (n d : ℕ) (t : List ℕ) (P : Subproblem) (c : Choice) (below words :
     start = gather_none n d t P r (put_reads n d t P c below words h 2 (inl refl)) before below 2 h.regular.shape.long two_named
 
     rest_is : Q ≡ without P c.variable (single (value_in P c))
-    rest_is = q ∙ ap (without P c.variable) h.found.row.own_val
+    rest_is = q ∙ ap (without P c.variable) h.found.row.own
 
     rest_piece : Piece P n d t r (2 - 1) Q
     unfolding candidate checked

@@ -208,7 +208,7 @@ module _ (n d : ℕ) (t : List ℕ) (P : Subproblem) (fit : Sized n d t) (reg : 
             ≡ cond b (cond k [] (without P c.variable (get_or c.row c.variable 0) ∷ [])) (precluded_by P c.variable c.row ∷ [])
         go true e true k s = two_none n d (table_of n d t) P c.variable (value_in P c) fit.few reg variable_is value_is e (one k)
         go true e false k s =
-            rw h.row.own_val (two_rest n d (table_of n d t) P c.variable (value_in P c) fit.few reg variable_is value_is e (more k))
+            rw h.row.own (two_rest n d (table_of n d t) P c.variable (value_in P c) fit.few reg variable_is value_is e (more k))
         go false e true k s =
             three_one n d (table_of n d t) P c.variable (value_in P c) fit.few reg variable_is value_is e (one k)
             ∙ ap (λ (Q : Subproblem). Q ∷ []) (sym precluded_is)

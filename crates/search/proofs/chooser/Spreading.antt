@@ -125,7 +125,7 @@ module _ (n d : ℕ) (t : List ℕ) (P : Subproblem) (c : Choice) (below words :
   module _ (f : Further) (its : FurtherOf P c f) where
     -- V without v; the row, with all values for V.
     rest_is : f.rest ≡ without P c.variable (single (value_in P c))
-    rest_is = its.rest ∙ ap (without P c.variable) h.found.row.own_val
+    rest_is = its.rest ∙ ap (without P c.variable) h.found.row.own
 
     rest_domains : f.rest.domains ≡ less
     unfolding less

@@ -18,7 +18,7 @@ returns-then-refusal-ne0 c = rw c.refused.ensures (ends_refused _ _ _ _ _ _ c.ru
 pub run_on-stop-requires : goal.run_on-stop-requires
 run_on-stop-requires c =
     let a = c.args in
-    let small : (i : ℕ) → get_or a.agenda.now i 0 < 2 ^ 16 = λ i. omega (arith, c.type_inv.agenda i) in
+    let small : (i : ℕ) → get_or a.agenda.now i 0 < 2 ^ 16 = λ i. omega (arith, c.slice_known-1.given i) in
     let stepped : Fits w32 a.state.counts.steps.0 = search rules in
     run_ready _ _ a.domains.now _ _ _ _ c.if-refusal-ne0.false small stepped.fits _ c.run_refusal-refusal.ensures
 

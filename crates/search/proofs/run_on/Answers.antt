@@ -39,7 +39,7 @@ overflow_add-taken c =
             c.loop-taken.taken
             (length c.args.requests.now)
             c.loop-taken-test.true,
-        c.well-formed,
+        c.well_formed,
       );
     }
 

@@ -4,6 +4,7 @@ use mathlib.Core.Bool.{not}
 use mathlib.Core.Logic.{⊎_elim}
 use borrow.Author.Rules.{rules}
 use Rattle.search.proofs.Running.{used_slot, ready_used, finished_empty, finished_is, stays, taking}
+use Rattle.search.proofs.step_by.Goals.{then-subproblems-ne0+else-not-all_instantiated, else-subproblems-ne0}
 use Rattle.search.proofs.step_by.Goals as goal
 
 pub read_slot-top-requires : goal.read_slot-top-requires
@@ -16,7 +17,7 @@ pub take-requires : goal.take-requires
 take-requires c =
     let k = c.requires in (
       taking _ _ _ _ _ k.0 _ _ c.if-subproblems-ne0.true c.read_slot-top.ensures
-          c.all_instantiated_lem.ensures (ap not c.if-not-all_instantiated.true),
+          c.all_instantiated.ensures (ap not c.if-not-all_instantiated.true),
       k.1,
     )
 
@@ -27,4 +28,8 @@ pub returns : goal.returns
 returns c =
     rw c.stopped.ensures
     (stays _ _ _ _ _ c.requires.0 _
-    (⊎_elim (λ w. finished_is _ _ _ w.0.taken _ w.2.ensures _ w.3.ensures w.4.left) (λ w. finished_empty _ _ _ w.left) c.if-subproblems-ne0.branch))
+    (elim c.if-subproblems-ne0.branch [
+      | then-subproblems-ne0+else-not-all_instantiated w ↦ finished_is _ _ _ w.if-subproblems-ne0.true _ w.read_slot-top.ensures _
+          w.all_instantiated.ensures (ap not w.if-not-all_instantiated.false)
+      | else-subproblems-ne0 w ↦ finished_empty _ _ _ w.if-subproblems-ne0.false
+    ]))

@@ -4,6 +4,7 @@ use native.Mathlib.Omega.{arith}
 use mathlib.Core.Path.{refl, ap}
 use mathlib.Core.Logic.{⊎_elim}
 use Rattle.search.proofs.Running.{used_slot, ready_used, finished_empty, finished_is, stays_chosen, taking, chosen_stops}
+use Rattle.search.proofs.step_chosen.Goals.{then-subproblems-ne0+else-not-all_instantiated, else-subproblems-ne0}
 use Rattle.search.proofs.step_chosen.Goals as goal
 
 pub read_lanes-top-requires : goal.read_lanes-top-requires
@@ -20,7 +21,7 @@ pub take_chosen-requires : goal.take_chosen-requires
 take_chosen-requires c = (
   taking _ _ _ _ _ c.requires.0 _ _
       c.if-subproblems-ne0.true c.read_lanes-top.ensures
-      c.all_instantiated_lem.ensures (ap not c.if-not-all_instantiated.true),
+      c.all_instantiated.ensures (ap not c.if-not-all_instantiated.true),
   c.requires.1.0,
 )
 
@@ -40,6 +41,10 @@ pub returns : goal.returns
 returns c = (
   rw c.stopped.ensures
       (stays_chosen _ _ _ _ _ c.requires.0
-      (⊎_elim (λ w. finished_is _ _ _ w.0.taken _ w.2.ensures _ w.3.ensures w.4.left) (λ w. finished_empty _ _ _ w.left) c.if-subproblems-ne0.branch)),
+      (elim c.if-subproblems-ne0.branch [
+        | then-subproblems-ne0+else-not-all_instantiated w ↦ finished_is _ _ _ w.if-subproblems-ne0.true _ w.read_lanes-top.ensures _
+            w.all_instantiated.ensures (ap not w.if-not-all_instantiated.false)
+        | else-subproblems-ne0 w ↦ finished_empty _ _ _ w.if-subproblems-ne0.false
+      ])),
   c.requires.1.0,
 )

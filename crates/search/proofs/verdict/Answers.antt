@@ -11,10 +11,10 @@ read_slot-top-requires c = used_slot _ _ _ c.requires c.if-subproblems-eq0.false
 
 pub returns-then-all_instantiated : goal.returns-then-all_instantiated
 returns-then-all_instantiated c =
-    verdict_solved _ _ _ c.if-subproblems-eq0.false _ c.read_slot-top.ensures _ c.all_instantiated_lem.ensures
+    verdict_solved _ _ _ c.if-subproblems-eq0.false _ c.read_slot-top.ensures _ c.all_instantiated.ensures
     c.if-all_instantiated.true
 
 pub returns : goal.returns
 returns c =
-    verdict_running _ _ _ c.if-subproblems-eq0.false _ c.read_slot-top.ensures _ c.all_instantiated_lem.ensures
+    verdict_running _ _ _ c.if-subproblems-eq0.false _ c.read_slot-top.ensures _ c.all_instantiated.ensures
     c.if-all_instantiated.false

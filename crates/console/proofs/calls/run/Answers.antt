@@ -12,11 +12,11 @@ use Rattle.console.proofs.calls.run.Goals as goal
 
 pub returns-then-not-whole_list : goal.returns-then-not-whole_list
 returns-then-not-whole_list c =
-    runs_cut c.requires (λ i. omega (arith, c.type_inv.agenda i)) c.refused.ensures _ c.whole_list_lem.ensures (ap not c.if-not-whole_list.true)
+    runs_cut c.requires (λ i. omega (arith, c.type_inv.agenda i)) c.refused.ensures _ c.whole_list.ensures (ap not c.if-not-whole_list.true)
 
 pub front_of-front-requires : goal.front_of-front-requires
 front_of-front-requires c =
-    ((listed_then _ _ _ c.whole_list_lem.ensures (ap not c.if-not-whole_list.false)).few, c.requires)
+    ((listed_then _ _ _ c.whole_list.ensures (ap not c.if-not-whole_list.false)).few, c.requires)
 
 pub returns-then-not-room_for : goal.returns-then-not-room_for
 returns-then-not-room_for c =
@@ -32,7 +32,7 @@ slice_bounds-run_words-end-2 c = sym (length-take-le _ _ c.front_of-front.ensure
 pub run_words-requires : goal.run_words-requires
 run_words-requires c = (
   front_room c.front_of-front.ensures (room_then _ c.room_for.ensures (ap not c.if-not-room_for.false)),
-  (listed_then _ _ _ c.whole_list_lem.ensures (ap not c.if-not-whole_list.false), c.requires),
+  (listed_then _ _ _ c.whole_list.ensures (ap not c.if-not-whole_list.false), c.requires),
 )
 
 pub returns : goal.returns

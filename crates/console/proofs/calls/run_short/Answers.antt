@@ -54,7 +54,7 @@ write_back-requires c =
     let agenda = said_one fits refl turned.words_of-room.ensures in
     let list = words_said (listed_even _ _ start.requires.1.1.0) start.requires.1.0 called.words_of-count.ensures in
     let runs = few_runs _ _ _ _ called.run-ran.new.1.1.1.1.0 _ _ agenda list (λ i. omega (arith, known.type_inv.agenda i))
-    (omega (arith, start.well-formed.1.1.1.1.1.1.0)) start.requires.1.1.1 start.requires.1.1.0 called.run-ran.ensures in
+    (omega (arith, start.well_formed.1.1.1.1.1.1.0)) start.requires.1.1.1 start.requires.1.1.0 called.run-ran.ensures in
     let bytes = left_bytes called.run-ran.new.1.1.1.1.0 turned.words_of-room.ensures.lent called.run-ran.auto.1.1.1.1.0
     start.args.agenda.now agenda.count fits.even in
     (start.requires.1.1.0.few, (start.requires.1.1.1, (runs.1.subproblems, bytes)))
@@ -69,9 +69,9 @@ returns c =
     let agenda = said_one fits refl turned.words_of-room.ensures in
     let list = words_said (listed_even _ _ start.requires.1.1.0) start.requires.1.0 called.words_of-count.ensures in
     let runs = few_runs _ _ _ _ called.run-ran.new.1.1.1.1.0 _ _ agenda list (λ i. omega (arith, known.type_inv.agenda i))
-    (omega (arith, start.well-formed.1.1.1.1.1.1.0)) start.requires.1.1.1 start.requires.1.1.0 called.run-ran.ensures in (
+    (omega (arith, start.well_formed.1.1.1.1.1.1.0)) start.requires.1.1.1 start.requires.1.1.0 called.run-ran.ensures in (
       runs_at called.run-ran.new.1.1.1.1.0 agenda turned.words_of-room.ensures.lent fits.even called.run-ran.auto.1.1.1.1.0
-          (λ i. omega (arith, known.type_inv.agenda i)) (omega (arith, start.well-formed.1.1.1.1.1.1.0))
+          (λ i. omega (arith, known.type_inv.agenda i)) (omega (arith, start.well_formed.1.1.1.1.1.1.0))
           start.requires.1.1.0 runs.0 c.write_back.ensures,
       runs.1,
     )

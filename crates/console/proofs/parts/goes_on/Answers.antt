@@ -10,4 +10,4 @@ returns-then-ran-ne0 c = simp (ne_eqb _ _ c.if-ran-ne0.true)
 
 pub returns : goal.returns
 unfolding goes_on
-returns c = simp (eq-eqb _ _ c.if-ran-ne0.false, c.number_of_lem.ensures)
+returns c = simp (eq-eqb _ _ c.if-ran-ne0.false, c.number_of.ensures)

@@ -11,7 +11,7 @@ overflow_mul-count c =
 pub part-requires : goal.part-requires
 part-requires c =
     let pre = c.requires in
-    slots_within _ _ _ pre.0 pre.1.0 _ _ c.agenda_from_lem.ensures.1 pre.1.1
+    slots_within _ _ _ pre.0 pre.1.0 _ _ c.agenda_from.ensures.1 pre.1.1
 
 pub returns : goal.returns
-returns c = slots_found _ _ _ _ _ _ c.agenda_from_lem.ensures.0 c.part.ensures
+returns c = slots_found _ _ _ _ _ _ c.agenda_from.ensures.0 c.part.ensures

@@ -14,6 +14,6 @@ overflow_add-result-2 c = omega (arith, slots_few c.args.n c.args.subproblems 51
 
 pub returns : goal.returns
 returns c = (
-  ap (λ (x : ℕ). x + c.args.subproblems * (c.args.n + 2)) c.agenda_from_lem.ensures.0,
+  ap (λ (x : ℕ). x + c.args.subproblems * (c.args.n + 2)) c.agenda_from.ensures.0,
   omega (arith, slots_few c.args.n c.args.subproblems 512 (omega arith) (omega arith) (omega arith)),
 )

@@ -11,7 +11,7 @@ use Rattle.search.proofs.agenda.put_domains.Goals as goal
 pub loop-i-preserved : goal.loop-i-preserved
 loop-i-preserved c =
     let inv = c.loop-i.invariant in
-    let long : length c.args.t3 ≡ 32 = search rules in
+    let long : length c.args.domains ≡ 32 = search rules in
     (omega arith, (simp length-set inv.1.0, copy_more _ _ _ _ _ inv.1.1 refl (omega arith) (omega arith)))
 
 pub returns : goal.returns

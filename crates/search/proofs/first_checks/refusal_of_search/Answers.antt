@@ -40,10 +40,10 @@ pub returns-then-all_obey : goal.returns-then-all_obey
 returns-then-all_obey c =
     rw c.if-all_obey.true at
     (search_last _ _ c.args.domains.now c.args.tables.now _ _ _ _ _ _ c.if-agenda-n.false c.if-state.false
-    (zeros_found _ _ _ c.bits_of.ensures) c.if-bits_of-ne0.false c.all_obey_lem.ensures)
+    (zeros_found _ _ _ c.bits_of.ensures) c.if-bits_of-ne0.false c.all_obey.ensures)
 
 pub returns : goal.returns
 returns c =
     rw c.if-all_obey.false at
     (search_last _ _ c.args.domains.now c.args.tables.now _ _ _ _ _ _ c.if-agenda-n.false c.if-state.false
-    (zeros_found _ _ _ c.bits_of.ensures) c.if-bits_of-ne0.false c.all_obey_lem.ensures)
+    (zeros_found _ _ _ c.bits_of.ensures) c.if-bits_of-ne0.false c.all_obey.ensures)

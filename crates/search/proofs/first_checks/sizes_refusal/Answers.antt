@@ -11,8 +11,8 @@ whole_slots-requires c = sizes_few _ _ _ _ 0 _ c.sizes_refusal-sizes.ensures c.i
 
 pub returns-then-whole_slots : goal.returns-then-whole_slots
 returns-then-whole_slots c =
-    sizes_whole _ _ _ _ _ _ c.sizes_refusal-sizes.ensures c.if-sizes-ne0.false _ c.whole_slots_lem.ensures c.if-whole_slots.true
+    sizes_whole _ _ _ _ _ _ c.sizes_refusal-sizes.ensures c.if-sizes-ne0.false _ c.whole_slots.ensures c.if-whole_slots.true
 
 pub returns : goal.returns
 returns c =
-    sizes_odd _ _ _ _ _ _ c.sizes_refusal-sizes.ensures c.if-sizes-ne0.false _ c.whole_slots_lem.ensures c.if-whole_slots.false
+    sizes_odd _ _ _ _ _ _ c.sizes_refusal-sizes.ensures c.if-sizes-ne0.false _ c.whole_slots.ensures c.if-whole_slots.false

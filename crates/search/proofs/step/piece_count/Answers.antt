@@ -1,5 +1,6 @@
 -- `search::step::piece_count` meets its contract. The invariant: the count is of the first k candidates.
-use mathlib.Core.Path.{◌≡◌, ◌∙◌}
+use mathlib.Core.Path.{◌≡◌, ap, ◌∙◌}
+use mathlib.Core.Bool.{not}
 use mathlib.Core.Logic.{⊎_elim}
 use Prim.Native.Nat.{◌≤◌, ◌-◌}
 use native.Mathlib.Omega.{arith}
@@ -9,6 +10,7 @@ use Rattle.splits.specs.Splits.{candidate}
 use Rattle.search.proofs.step.Candidates.{firsts}
 use Rattle.search.proofs.step.Gathering.{count_more, count_same, count_end}
 use borrow.Author.Rules.{rules}
+use Rattle.search.proofs.step.piece_count.Goals.{then-not-is_empty, else-not-is_empty}
 use Rattle.search.proofs.step.piece_count.Goals as goal
 
 pub loop-k-init : goal.loop-k-init
@@ -24,8 +26,16 @@ loop-k-preserved c =
     let piece = c.piece-piece.ensures in
     let told = c.is_empty.ensures in (
       omega arith,
-      ⊎_elim (λ w. (omega (arith, w.1), w.1 ∙ count_more _ _ _ _ _ pre _ _ _ _ _ named more piece inv.1.1 told w.0.taken))
-          (λ w. (omega (arith, w.1), w.1 ∙ count_same _ _ _ _ _ pre _ _ _ _ _ named more piece inv.1.1 told w.0.left)) c.if-not-is_empty.branch,
+      elim c.if-not-is_empty.branch [
+        | then-not-is_empty w ↦ (
+            omega (arith, w.count-is),
+            w.count-is ∙ count_more _ _ _ _ _ pre _ _ _ _ _ named more piece inv.1.1 told (ap not w.if-not-is_empty.true),
+          )
+        | else-not-is_empty w ↦ (
+            omega (arith, w.count-is),
+            w.count-is ∙ count_same _ _ _ _ _ pre _ _ _ _ _ named more piece inv.1.1 told (ap not w.if-not-is_empty.false),
+          )
+      ],
     )
 
 pub returns : goal.returns
