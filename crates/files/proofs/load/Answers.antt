@@ -25,13 +25,13 @@ load_content-requires c =
     (ap not c.if-not-is_sized.false) c.room_for_content-words.ensures c.put_content.ensures
 
 pub shape_of-domains : goal.shape_of-domains
-shape_of-domains c = c.load_content.auto.1.1.1.0
+shape_of-domains c = c.load_content.auto.domains
 
 pub shape_of-tables : goal.shape_of-tables
-shape_of-tables c = c.load_content.auto.1.1.1.1.0
+shape_of-tables c = c.load_content.auto.tables
 
 pub shape_of-agenda : goal.shape_of-agenda
-shape_of-agenda c = c.load_content.auto.1.1.1.1.1.0
+shape_of-agenda c = c.load_content.auto.agenda
 
 pub returns : goal.returns
 returns c = c.load_content.ensures

@@ -35,13 +35,13 @@ put_search-requires c =
     load_lent _ _ _ _ _ c.refusal-refusal.ensures c.if-refusal-ne0.false _ _ _ ready
 
 pub shape_of-domains : goal.shape_of-domains
-shape_of-domains c = c.put_search.auto.1.1.1.0
+shape_of-domains c = c.put_search.auto.domains
 
 pub shape_of-tables : goal.shape_of-tables
-shape_of-tables c = c.put_search.auto.1.1.1.1.0
+shape_of-tables c = c.put_search.auto.tables
 
 pub shape_of-agenda : goal.shape_of-agenda
-shape_of-agenda c = c.put_search.auto.1.1.1.1.1.0
+shape_of-agenda c = c.put_search.auto.agenda
 
 pub returns : goal.returns
 returns c =

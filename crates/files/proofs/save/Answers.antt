@@ -24,11 +24,11 @@ put-requires c = (save_passed _ _ _ _ _ _ _ c.search_refusal-refusal.ensures c.i
 pub slice_bounds-put_blocks-end : goal.slice_bounds-put_blocks-end
 slice_bounds-put_blocks-end c =
     let put = c in
-    let long = put.put.auto.1.1.1.1.1.1.0 ∙ zeros_long _ 25553 put.room_for_content-words.ensures in
+    let long = put.put.auto.words ∙ zeros_long _ 25553 put.room_for_content-words.ensures in
     save_part _ _ long c.words.ensures.1
 
 pub shape_of-file : goal.shape_of-file
-shape_of-file c = c.put_blocks.auto.1.0
+shape_of-file c = c.put_blocks.auto.file
 
 pub returns : goal.returns
 returns c =

@@ -50,13 +50,13 @@ choose-ran-requires c = tt
 pub slice_bounds-bytes_of-end : goal.slice_bounds-bytes_of-end
 slice_bounds-bytes_of-end c =
     let called = c in
-    left_long called.choose-ran.new.1.1.1.1.0 called.three_of-made.ensures.of_second.lent called.choose-ran.auto.1.1.1.1.0
+    left_long called.choose-ran.new.agenda called.three_of-made.ensures.of_second.lent called.choose-ran.auto.agenda
 
 pub bytes_of-requires : goal.bytes_of-requires
 bytes_of-requires c = tt
 
 pub shape_of-agenda : goal.shape_of-agenda
-shape_of-agenda c = c.bytes_of.auto.1.0
+shape_of-agenda c = c.bytes_of.auto.bytes
 
 pub returns : goal.returns
 returns c =
@@ -67,8 +67,8 @@ returns c =
     let (domains, agenda, tables) = said_last room refl refl refl made.three_of-made.ensures in
     let known = test in
     let start = known in
-    let chosen = chooses_words called.choose-ran.new.1.1.1.1.0 domains tables agenda made.three_of-made.ensures.of_second.lent
-    called.choose-ran.auto.1.1.1.1.0 room.of_agenda.even c.bytes_of.ensures called.choose-ran.ensures in (
+    let chosen = chooses_words called.choose-ran.new.agenda domains tables agenda made.three_of-made.ensures.of_second.lent
+    called.choose-ran.auto.agenda room.of_agenda.even c.bytes_of.ensures called.choose-ran.ensures in (
       chooses_turned (room_whole room) chosen,
       choose_fits (λ i. omega (arith, known.type_inv.agenda i)) (omega (arith, start.well_formed.1.1.1.1.1.1.0)) start.requires chosen,
     )

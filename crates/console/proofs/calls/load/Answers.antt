@@ -54,7 +54,7 @@ load-loaded-requires c = tt
 pub slice_bounds-bytes_of-end : goal.slice_bounds-bytes_of-end
 slice_bounds-bytes_of-end c =
     let called = c in
-    left_long called.load-loaded.new.1.0 called.three_of-made.ensures.of_first.lent called.load-loaded.auto.1.0
+    left_long called.load-loaded.new.domains called.three_of-made.ensures.of_first.lent called.load-loaded.auto.domains
 
 pub bytes_of-requires : goal.bytes_of-requires
 bytes_of-requires c = tt
@@ -62,7 +62,7 @@ bytes_of-requires c = tt
 pub slice_bounds-bytes_of-end-2 : goal.slice_bounds-bytes_of-end-2
 slice_bounds-bytes_of-end-2 c =
     let called = c in
-    left_long called.load-loaded.new.1.1.0 called.three_of-made.ensures.of_third.lent called.load-loaded.auto.1.1.0
+    left_long called.load-loaded.new.tables called.three_of-made.ensures.of_third.lent called.load-loaded.auto.tables
 
 pub bytes_of-requires-2 : goal.bytes_of-requires-2
 bytes_of-requires-2 c = tt
@@ -70,19 +70,19 @@ bytes_of-requires-2 c = tt
 pub slice_bounds-bytes_of-end-3 : goal.slice_bounds-bytes_of-end-3
 slice_bounds-bytes_of-end-3 c =
     let called = c in
-    left_long called.load-loaded.new.1.1.1.0 called.three_of-made.ensures.of_second.lent called.load-loaded.auto.1.1.1.0
+    left_long called.load-loaded.new.agenda called.three_of-made.ensures.of_second.lent called.load-loaded.auto.agenda
 
 pub bytes_of-requires-3 : goal.bytes_of-requires-3
 bytes_of-requires-3 c = tt
 
 pub shape_of-domains : goal.shape_of-domains
-shape_of-domains c = c.bytes_of.auto.1.0
+shape_of-domains c = c.bytes_of.auto.bytes
 
 pub shape_of-tables : goal.shape_of-tables
-shape_of-tables c = c.bytes_of-2.auto.1.0
+shape_of-tables c = c.bytes_of-2.auto.bytes
 
 pub shape_of-agenda : goal.shape_of-agenda
-shape_of-agenda c = c.bytes_of-3.auto.1.0
+shape_of-agenda c = c.bytes_of-3.auto.bytes
 
 pub returns : goal.returns
 returns c =

@@ -50,13 +50,13 @@ open-opened-requires c = tt
 pub slice_bounds-bytes_of-end : goal.slice_bounds-bytes_of-end
 slice_bounds-bytes_of-end c =
     let called = c in
-    left_long called.«open».new.1.1.1.1.0 called.three_of-made.ensures.of_second.lent called.«open».auto.1.1.1.1.0
+    left_long called.open-opened.new.agenda called.three_of-made.ensures.of_second.lent called.open-opened.auto.agenda
 
 pub bytes_of-requires : goal.bytes_of-requires
 bytes_of-requires c = tt
 
 pub shape_of-agenda : goal.shape_of-agenda
-shape_of-agenda c = c.bytes_of.auto.1.0
+shape_of-agenda c = c.bytes_of.auto.bytes
 
 pub returns : goal.returns
 returns c =
@@ -66,5 +66,5 @@ returns c =
     let room = room_true _ _ _ _ test.room_for.ensures (ap not test.if-not-room_for.false) in
     let (domains, agenda, tables) = said_last room refl refl refl made.three_of-made.ensures in
     opens_turned (room_whole room)
-    (opens_words called.«open».new.1.1.1.1.0 domains tables agenda made.three_of-made.ensures.of_second.lent called.«open».auto.1.1.1.1.0
-    room.of_agenda.even c.bytes_of.ensures called.«open».ensures)
+    (opens_words called.open-opened.new.agenda domains tables agenda made.three_of-made.ensures.of_second.lent called.open-opened.auto.agenda
+    room.of_agenda.even c.bytes_of.ensures called.open-opened.ensures)

@@ -43,6 +43,6 @@ returns c =
     let listed = listed_then _ _ _ test.whole_list_lem.ensures (ap not test.if-not-whole_list.false) in
     let fits = room_then _ test.room_for.ensures (ap not test.if-not-room_for.false) in (
       runs_turned (front_whole_problem front fits) (listed_even _ _ listed)
-          (front_runs front listed ran.run_words.auto.1.1.1.1.0 ran.run_words.ensures.0),
+          (front_runs front listed ran.run_words.auto.agenda ran.run_words.ensures.0),
       ran.run_words.ensures.1,
     )

@@ -24,12 +24,12 @@ run_parts-ran-requires c = c.requires.1
 pub slice_bounds-words-end-2 : goal.slice_bounds-words-end-2
 slice_bounds-words-end-2 c =
     let called = c in
-    left_fits called.run_parts-ran.new.1.1.1.1.0 called.words_of-room.ensures.lent called.run_parts-ran.auto.1.1.1.1.0
+    left_fits called.run_parts-ran.new.agenda called.words_of-room.ensures.lent called.run_parts-ran.auto.agenda
 
 pub slice_bounds-write_back-end : goal.slice_bounds-write_back-end
 slice_bounds-write_back-end c =
     let called = c in
-    left_count called.run_parts-ran.new.1.1.1.1.0 called.words_of-room.ensures.lent called.run_parts-ran.auto.1.1.1.1.0
+    left_count called.run_parts-ran.new.agenda called.words_of-room.ensures.lent called.run_parts-ran.auto.agenda
 
 pub write_back-requires : goal.write_back-requires
 write_back-requires c =
@@ -40,7 +40,7 @@ write_back-requires c =
     let fits = start.requires.0 in
     let agenda = said_one fits refl turned.words_of-room.ensures in
     let runs = called.run_parts-ran.ensures in
-    let bytes = left_bytes called.run_parts-ran.new.1.1.1.1.0 turned.words_of-room.ensures.lent called.run_parts-ran.auto.1.1.1.1.0
+    let bytes = left_bytes called.run_parts-ran.new.agenda turned.words_of-room.ensures.lent called.run_parts-ran.auto.agenda
     start.args.agenda.now agenda.count fits.even in
     (start.requires.1.0.few, (start.requires.1.1, (runs.1.subproblems, bytes)))
 
@@ -53,7 +53,7 @@ returns c =
     let fits = start.requires.0 in
     let agenda = said_one fits refl turned.words_of-room.ensures in
     let runs = called.run_parts-ran.ensures in (
-      runs_at called.run_parts-ran.new.1.1.1.1.0 agenda turned.words_of-room.ensures.lent fits.even called.run_parts-ran.auto.1.1.1.1.0
+      runs_at called.run_parts-ran.new.agenda agenda turned.words_of-room.ensures.lent fits.even called.run_parts-ran.auto.agenda
           (λ i. omega (arith, known.type_inv.agenda i)) (omega (arith, start.well_formed.1.1.1.1.1.1.0))
           start.requires.1.0 runs.0 c.write_back.ensures,
       runs.1,

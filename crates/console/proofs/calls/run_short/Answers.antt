@@ -37,12 +37,12 @@ run-ran-requires c = tt
 pub slice_bounds-words-end-2 : goal.slice_bounds-words-end-2
 slice_bounds-words-end-2 c =
     let called = c in
-    left_fits called.run-ran.new.1.1.1.1.0 called.words_of-room.ensures.lent called.run-ran.auto.1.1.1.1.0
+    left_fits called.run-ran.new.agenda called.words_of-room.ensures.lent called.run-ran.auto.agenda
 
 pub slice_bounds-write_back-end : goal.slice_bounds-write_back-end
 slice_bounds-write_back-end c =
     let called = c in
-    left_count called.run-ran.new.1.1.1.1.0 called.words_of-room.ensures.lent called.run-ran.auto.1.1.1.1.0
+    left_count called.run-ran.new.agenda called.words_of-room.ensures.lent called.run-ran.auto.agenda
 
 pub write_back-requires : goal.write_back-requires
 write_back-requires c =
@@ -53,9 +53,9 @@ write_back-requires c =
     let fits = start.requires.0 in
     let agenda = said_one fits refl turned.words_of-room.ensures in
     let list = words_said (listed_even _ _ start.requires.1.1.0) start.requires.1.0 called.words_of-count.ensures in
-    let runs = few_runs _ _ _ _ called.run-ran.new.1.1.1.1.0 _ _ agenda list (λ i. omega (arith, known.type_inv.agenda i))
+    let runs = few_runs _ _ _ _ called.run-ran.new.agenda _ _ agenda list (λ i. omega (arith, known.type_inv.agenda i))
     (omega (arith, start.well_formed.1.1.1.1.1.1.0)) start.requires.1.1.1 start.requires.1.1.0 called.run-ran.ensures in
-    let bytes = left_bytes called.run-ran.new.1.1.1.1.0 turned.words_of-room.ensures.lent called.run-ran.auto.1.1.1.1.0
+    let bytes = left_bytes called.run-ran.new.agenda turned.words_of-room.ensures.lent called.run-ran.auto.agenda
     start.args.agenda.now agenda.count fits.even in
     (start.requires.1.1.0.few, (start.requires.1.1.1, (runs.1.subproblems, bytes)))
 
@@ -68,9 +68,9 @@ returns c =
     let fits = start.requires.0 in
     let agenda = said_one fits refl turned.words_of-room.ensures in
     let list = words_said (listed_even _ _ start.requires.1.1.0) start.requires.1.0 called.words_of-count.ensures in
-    let runs = few_runs _ _ _ _ called.run-ran.new.1.1.1.1.0 _ _ agenda list (λ i. omega (arith, known.type_inv.agenda i))
+    let runs = few_runs _ _ _ _ called.run-ran.new.agenda _ _ agenda list (λ i. omega (arith, known.type_inv.agenda i))
     (omega (arith, start.well_formed.1.1.1.1.1.1.0)) start.requires.1.1.1 start.requires.1.1.0 called.run-ran.ensures in (
-      runs_at called.run-ran.new.1.1.1.1.0 agenda turned.words_of-room.ensures.lent fits.even called.run-ran.auto.1.1.1.1.0
+      runs_at called.run-ran.new.agenda agenda turned.words_of-room.ensures.lent fits.even called.run-ran.auto.agenda
           (λ i. omega (arith, known.type_inv.agenda i)) (omega (arith, start.well_formed.1.1.1.1.1.1.0))
           start.requires.1.1.0 runs.0 c.write_back.ensures,
       runs.1,

@@ -22,27 +22,27 @@ pub end_of-end-requires : goal.end_of-end-requires
 end_of-end-requires c = (c.requires.0, (c.loop-ran.invariant.far.inside, c.loop-ran.invariant.far.place))
 
 pub slice_bounds-run_part-count : goal.slice_bounds-run_part-count
-slice_bounds-run_part-count c = c.end_of.ensures.after
+slice_bounds-run_part-count c = c.end_of-end.ensures.after
 
 pub slice_bounds-run_part-start : goal.slice_bounds-run_part-start
-slice_bounds-run_part-start c = c.end_of.ensures.after
+slice_bounds-run_part-start c = c.end_of-end.ensures.after
 
 pub slice_bounds-run_part-end : goal.slice_bounds-run_part-end
-slice_bounds-run_part-end c = c.end_of.ensures.within
+slice_bounds-run_part-end c = c.end_of-end.ensures.within
 
 pub run_part-ran-requires : goal.run_part-ran-requires
-run_part-ran-requires c = part_asks _ c.end_of.ensures
+run_part-ran-requires c = part_asks _ c.end_of-end.ensures
 
 pub overflow_add-ran : goal.overflow_add-ran
 overflow_add-ran c =
-    let part = c.end_of.ensures in
+    let part = c.end_of-end.ensures in
     let inv = c.loop-ran.invariant in
     record { fits = omega (arith, part_taken inv part c.run_part-ran.ensures, part.within, part.after, inv.far.few) }
 
 pub returns-then-end-requests : goal.returns-then-end-requests
 returns-then-end-requests c =
     let ran = c.run_part-ran.ensures in
-    let part = c.end_of.ensures in
+    let part = c.end_of-end.ensures in
     let known = c in
     let pre = known.requires in
     returns_end c.loop-ran.invariant part ran pre.0
@@ -51,7 +51,7 @@ returns-then-end-requests c =
 pub returns-then-not-goes_on : goal.returns-then-not-goes_on
 returns-then-not-goes_on c =
     let ran = c.run_part-ran.ensures in
-    let part = c.end_of.ensures in
+    let part = c.end_of-end.ensures in
     let known = c in
     let pre = known.requires in
     returns_stop c.loop-ran.invariant part ran pre.0
@@ -59,13 +59,13 @@ returns-then-not-goes_on c =
 
 pub loop-ran-smaller : goal.loop-ran-smaller
 loop-ran-smaller c =
-    let part = c.end_of.ensures in
+    let part = c.end_of-end.ensures in
     omega (arith, part.more c.if-end-requests.false, part.within)
 
 pub loop-ran-preserved : goal.loop-ran-preserved
 loop-ran-preserved c =
     let inv = c.loop-ran.invariant in
-    let part = c.end_of.ensures in
+    let part = c.end_of-end.ensures in
     let ran = c.run_part-ran.ensures in
     record {
       far = go_again inv part ran _ c.goes_on.ensures (ap not c.if-not-goes_on.false);

@@ -42,7 +42,7 @@ shape_of-words c =
     let three = c in
     let two = three in
     let one = two in
-    c.put_at.auto.1.0 ∙ three.put_masks-at.auto.1.1.1.0 ∙ two.put_at-at-2.auto.1.0 ∙ one.put_at-at.auto.1.0
+    c.put_at.auto.out ∙ three.put_masks-at.auto.words ∙ two.put_at-at-2.auto.out ∙ one.put_at-at.auto.out
 
 pub returns : goal.returns
 returns c =

@@ -25,7 +25,7 @@ loop-i-preserved c =
     let pre = b4.requires in (
       omega arith,
       rows_more _ _ _ pre.1.0 _ _ _ _ _ pre.1.1 b4.loop-i.invariant.1 _ _ _ b4.loop-i-test.true found.0
-          put.ensures.0 put.ensures.1 put.auto.1.0,
+          put.ensures.0 put.ensures.1 put.auto.out,
     )
 
 pub returns : goal.returns

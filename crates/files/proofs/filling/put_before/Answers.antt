@@ -24,7 +24,7 @@ loop-j-preserved c =
     let pre = b5.requires in (
       omega arith,
       pairs_more _ _ _ _ _ _ _ _ _ b5.loop-j-test.true pre.1.1.1 b5.loop-j.invariant.1 _ _ _ _
-          b5.place.ensures.0 rows.0 rows.1 put.ensures.0 put.ensures.1 put.auto.1.0,
+          b5.place.ensures.0 rows.0 rows.1 put.ensures.0 put.ensures.1 put.auto.masks,
     )
 
 pub returns : goal.returns

@@ -13,16 +13,16 @@ put_at-end-requires c =
 pub put_zeros-requires : goal.put_zeros-requires
 put_zeros-requires c =
     let put = c.put_at-end in
-    omega (arith, put.ensures.1, put.auto.1.0, slots_room _ _ _ _ _ _ c.slots-slots.ensures c.requires.agenda_words)
+    omega (arith, put.ensures.1, put.auto.out, slots_room _ _ _ _ _ _ c.slots-slots.ensures c.requires.agenda_words)
 
 pub shape_of-domains : goal.shape_of-domains
-shape_of-domains c = c.put_words.auto.1.0
+shape_of-domains c = c.put_words.auto.out
 
 pub shape_of-tables : goal.shape_of-tables
-shape_of-tables c = c.put_words-2.auto.1.0
+shape_of-tables c = c.put_words-2.auto.out
 
 pub shape_of-agenda : goal.shape_of-agenda
-shape_of-agenda c = c.put_zeros.auto.0 ∙ c.put_at-end.auto.1.0
+shape_of-agenda c = c.put_zeros.auto.words ∙ c.put_at-end.auto.out
 
 pub returns : goal.returns
 returns c =
@@ -32,6 +32,6 @@ returns c =
     let first = second in
     let pre = c.requires in
     let room = slots_room _ _ _ _ _ _ slots.slots-slots.ensures pre.agenda_words in
-    let padded = padded_put _ _ _ _ _ room put.put_at-end.ensures put.put_at-end.auto.1.0 c.put_zeros.ensures in
+    let padded = padded_put _ _ _ _ _ room put.put_at-end.ensures put.put_at-end.auto.out c.put_zeros.ensures in
     let domains = domains_put _ _ _ _ _ first.part.ensures.0 first.put_words.ensures pre.domains_words in
     (domains, (second.put_words-2.ensures, slots_put _ _ _ _ _ _ slots.slots-slots.ensures _ padded))

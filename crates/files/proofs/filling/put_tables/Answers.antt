@@ -28,7 +28,7 @@ put_at-end-requires c =
     let b6 = c in
     let pre = b6.requires in
     after_room _ _ _ _ _ _ _ pre.1.1 pre.0 b6.loop-i-test.true b6.loop-i.invariant.1 _ put.ensures.1 _ _
-    put.auto.1.1.1.1.0 c.after.ensures.1
+    put.auto.masks c.after.ensures.1
 
 pub loop-i-preserved : goal.loop-i-preserved
 loop-i-preserved c =
@@ -39,8 +39,8 @@ loop-i-preserved c =
     let pre = b9.requires in (
       omega arith,
       rows_more _ _ _ _ _ _ _ pre.1.1 pre.0 b9.loop-i-test.true b9.loop-i.invariant.1 _ first.ensures.1 _ _ _ _
-          first.ensures.0 b4.after.ensures.0 b4.after.ensures.1 last.ensures.0 last.ensures.1 first.auto.1.1.1.1.0
-          last.auto.1.0,
+          first.ensures.0 b4.after.ensures.0 b4.after.ensures.1 last.ensures.0 last.ensures.1 first.auto.masks
+          last.auto.out,
     )
 
 pub returns : goal.returns
