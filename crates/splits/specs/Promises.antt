@@ -1,7 +1,6 @@
 -- What the five splits promise, of any proper problem, any subproblem P on the agenda and any accepted request.
 use Rattle.std.specs.Prelude.{◌≡◌, ◌↔◌, List, map, ℕ, ◌≤◌, ◌<◌, length}
 use Rattle.problem.specs.Problem.{Table, Words, AgreeApart}
-use Rattle.splits.specs.Subproblems.{domain}
 use Rattle.splits.specs.Requests.{kind_of, variable_of, value_of, target_of}
 use Rattle.problem.specs.Lists.{below}
 use Rattle.splits.specs.Splits.{precluded, filled, pieces, precluded_by, candidates, candidate}

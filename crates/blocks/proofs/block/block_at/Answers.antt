@@ -1,5 +1,4 @@
 -- `block::block_at` meets its contract.
-use borrow.Author.Rules.{rules}
 use mathlib.Core.Path.{refl}
 use Rattle.blocks.proofs.block.Places.{block_cut, block_long}
 use Rattle.blocks.proofs.block.block_at.Goals as goal

@@ -1,5 +1,4 @@
 -- `block::byte` meets its contract.
-use borrow.Author.Rules.{rules}
 use mathlib.Core.Path.{sym}
 use lib.ListN.{get_or-eq_default}
 use Rattle.blocks.proofs.block.byte.Goals as goal

@@ -1,5 +1,4 @@
 -- `block::low_word` meets its contract.
-use borrow.Author.Rules.{rules}
 use Rattle.blocks.proofs.block.Places.{low_made}
 use Rattle.blocks.proofs.block.low_word.Goals as goal
 

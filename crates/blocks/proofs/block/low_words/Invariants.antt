@@ -1,13 +1,10 @@
 -- `block::low_words` meets its contract. The invariant: the words passed are read, and zeros follow.
-use borrow.Author.Rules.{rules}
 use mathlib.Core.Path.{◌≡◌}
 use mathlib.Core.List.{◌++◌, map}
-use Prim.Native.Nat.{ℕ, ◌-◌, ◌≤◌}
-use native.Mathlib.Omega.{arith}
-use lib.ListN.{length, drop, replicate, length-replicate}
+use Prim.Native.Nat.{◌-◌, ◌≤◌}
+use lib.ListN.{drop, replicate}
 use Rattle.problem.specs.Lists.{below}
 use Rattle.blocks.specs.Loops.Read.{low_word}
-use Rattle.blocks.proofs.block.Fronts.{front_none, front_more, front_end}
 use Rattle.blocks.proofs.block.low_words.Given as goal
 
 abbrev pub invariant-loop-k : goal.invariant-loop-k

@@ -2,13 +2,9 @@
 use mathlib.Core.Path.{◌≡◌}
 use mathlib.Core.List.{◌++◌, map}
 use Prim.Native.Nat.{◌+◌, ◌-◌, ◌≤◌}
-use native.Mathlib.Omega.{arith}
-use borrow.Author.Rules.{rules}
 use lib.ListN.{length, drop}
 use Rattle.problem.specs.Lists.{below}
-use Rattle.blocks.specs.Reading.{content_word, content_from}
-use Rattle.blocks.proofs.block.Places.{low_exchanged, content_in}
-use Rattle.blocks.proofs.block.Fronts.{front_none, front_more, front_end}
+use Rattle.blocks.specs.Reading.{content_word}
 use Rattle.blocks.proofs.block.put_content.Given as goal
 
 abbrev pub invariant-loop-k : goal.invariant-loop-k

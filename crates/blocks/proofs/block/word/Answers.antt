@@ -1,5 +1,4 @@
 -- `block::word` meets its contract.
-use borrow.Author.Rules.{rules}
 use mathlib.Core.Path.{◌∙◌}
 use Rattle.blocks.proofs.block.Places.{word_made, word_past}
 use Rattle.blocks.proofs.block.word.Goals as goal

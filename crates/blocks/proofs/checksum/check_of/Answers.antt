@@ -1,5 +1,4 @@
 -- `checksum::check_of` meets its contract.
-use borrow.Author.Rules.{rules}
 use mathlib.Core.Path.{refl, ◌∙◌}
 use native.Mathlib.Omega.{arith}
 use Rattle.blocks.proofs.block.Places.{check_made}

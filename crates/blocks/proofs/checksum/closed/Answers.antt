@@ -1,5 +1,4 @@
 -- `checksum::closed` meets its contract.
-use borrow.Author.Rules.{rules}
 use mathlib.Core.Path.{refl}
 use Rattle.blocks.proofs.checksum.closed.Goals as goal
 

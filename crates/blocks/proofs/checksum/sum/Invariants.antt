@@ -1,12 +1,8 @@
 -- `checksum::sum` meets its contract. The invariant: the words passed are summed, each at most 65535.
-use borrow.Author.Rules.{rules}
-use mathlib.Core.Path.{◌≡◌, refl}
+use mathlib.Core.Path.{◌≡◌}
 use Prim.Native.Nat.{◌-◌, ◌*◌, ◌≤◌}
-use native.Mathlib.Omega.{arith}
 use Rattle.problem.specs.Lists.{total}
-use Rattle.problem.proofs.Products.{total_turn}
 use Rattle.blocks.specs.Loops.Read.{value_at}
-use Rattle.blocks.proofs.block.Places.{total_none, total_end, value_of}
 use Rattle.blocks.proofs.checksum.sum.Given as goal
 
 abbrev pub invariant-loop-k : goal.invariant-loop-k

@@ -1,11 +1,6 @@
 -- `checksum::sum_of` meets its contract. The invariant: the words passed are summed, each at most 65535.
-use borrow.Author.Rules.{rules}
-use mathlib.Core.Path.{◌≡◌}
-use Prim.Native.Nat.{◌-◌, ◌*◌, ◌≤◌}
 use native.Mathlib.Omega.{arith}
-use Rattle.problem.specs.Lists.{total}
 use Rattle.problem.proofs.Products.{total_turn}
-use Rattle.blocks.specs.Reading.{block_word}
 use Rattle.blocks.proofs.block.Places.{word_here, total_none, total_end}
 use Rattle.blocks.proofs.checksum.sum_of.Goals as goal
 

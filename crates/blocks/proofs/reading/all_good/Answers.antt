@@ -1,8 +1,7 @@
 -- `reading::all_good` meets its contract. The invariant: the blocks before this number are good.
-use borrow.Author.Rules.{rules}
 use mathlib.Core.Path.{◌≡◌, ap, ◌∙◌}
-use mathlib.Core.Bool.{true, not}
-use Prim.Native.Nat.{ℕ, ◌+◌, ◌-◌, ◌≤◌, ◌<◌}
+use mathlib.Core.Bool.{not}
+use Prim.Native.Nat.{ℕ, ◌+◌, ◌-◌, ◌<◌}
 use native.Mathlib.Omega.{arith}
 use Rattle.problem.specs.Lists.{every}
 use Rattle.problem.proofs.FirstLoops.{every_start, every_stop, every_turn, every_end}

@@ -1,13 +1,9 @@
 -- `reading::all_good` meets its contract. The invariant: the blocks before this number are good.
-use borrow.Author.Rules.{rules}
-use mathlib.Core.Path.{◌≡◌, ap, ◌∙◌}
+use mathlib.Core.Path.{◌≡◌}
 use mathlib.Core.Bool.{true}
-use Prim.Native.Nat.{ℕ, ◌+◌, ◌-◌, ◌≤◌, ◌<◌}
-use native.Mathlib.Omega.{arith}
+use Prim.Native.Nat.{◌+◌, ◌-◌, ◌≤◌}
 use Rattle.problem.specs.Lists.{every}
-use Rattle.problem.proofs.FirstLoops.{every_start, every_stop, every_turn, every_end}
 use Rattle.blocks.specs.Tests.Whole.{good_block}
-use Rattle.blocks.proofs.reading.Found.{good_part}
 use Rattle.blocks.proofs.reading.all_good.Given as goal
 
 abbrev pub invariant-loop-number : goal.invariant-loop-number

@@ -1,5 +1,4 @@
 -- `reading::content_word` meets its contract.
-use borrow.Author.Rules.{rules}
 use Rattle.blocks.specs.Reading.{block_word, content_word}
 use Rattle.blocks.proofs.reading.Filled.{content_far}
 use Rattle.blocks.proofs.reading.content_word.Goals as goal

@@ -1,5 +1,4 @@
 -- `reading::is_good` meets its contract.
-use borrow.Author.Rules.{rules}
 use Rattle.blocks.proofs.block.Places.{word_here}
 use Rattle.blocks.proofs.reading.Found.{bad_number, bad_count, good_check}
 use Rattle.blocks.proofs.reading.is_good.Goals as goal

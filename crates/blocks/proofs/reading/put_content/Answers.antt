@@ -1,5 +1,4 @@
 -- `reading::put_content` meets its contract.
-use borrow.Author.Rules.{rules}
 use Rattle.blocks.proofs.reading.Filled.{content_left, content_put}
 use Rattle.blocks.proofs.reading.put_content.Goals as goal
 

@@ -1,12 +1,8 @@
 -- `reading::put_each` meets its contract. The invariant: the blocks passed are read.
-use mathlib.Core.Path.{◌≡◌, refl, ◌∙◌}
-use Prim.Native.Nat.{◌+◌, ◌-◌, ◌*◌, ◌≤◌}
-use native.Mathlib.Omega.{arith}
-use borrow.Author.Rules.{rules}
+use mathlib.Core.Path.{◌≡◌}
+use Prim.Native.Nat.{◌-◌, ◌≤◌}
 use lib.ListN.{length}
-use borrow.Rule.Slice.PartMut.{mid_len}
 use Rattle.blocks.specs.Loops.Read.{content_part}
-use Rattle.blocks.proofs.reading.Filled.{content_none, content_more, content_kept, content_end}
 use Rattle.blocks.proofs.reading.put_each.Given as goal
 
 abbrev pub invariant-loop-b : goal.invariant-loop-b

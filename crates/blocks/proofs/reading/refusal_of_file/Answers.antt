@@ -1,5 +1,4 @@
 -- `reading::refusal_of_file` meets its contract.
-use borrow.Author.Rules.{rules}
 use Rattle.blocks.proofs.reading.Found.{file_length, file_none, file_many, file_good, file_bad}
 use Rattle.blocks.proofs.Whole.{refusal_made}
 use Rattle.blocks.proofs.reading.refusal_of_file.Goals as goal

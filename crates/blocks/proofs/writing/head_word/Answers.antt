@@ -1,5 +1,4 @@
 -- `writing::head_word` meets its contract.
-use borrow.Author.Rules.{rules}
 use mathlib.Core.Path.{refl}
 use Rattle.blocks.proofs.writing.Written.{head_number, head_count, head_content}
 use Rattle.blocks.proofs.writing.head_word.Goals as goal

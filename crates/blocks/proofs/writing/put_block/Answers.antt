@@ -1,5 +1,4 @@
 -- `writing::put_block` meets its contract.
-use borrow.Author.Rules.{rules}
 use native.Mathlib.Omega.{arith}
 use Rattle.blocks.proofs.writing.Written.{check_written, block_more, block_end}
 use Rattle.blocks.proofs.writing.put_block.Goals as goal

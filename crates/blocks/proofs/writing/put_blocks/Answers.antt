@@ -1,5 +1,4 @@
 -- `writing::put_blocks` meets its contract.
-use borrow.Author.Rules.{rules}
 use Rattle.blocks.proofs.writing.Written.{blocks_cut, blocks_many, blocks_short, blocks_put}
 use Rattle.blocks.proofs.writing.put_blocks.Goals as goal
 

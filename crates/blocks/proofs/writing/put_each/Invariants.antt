@@ -1,12 +1,8 @@
 -- `writing::put_each` meets its contract. The invariant: the blocks passed are written.
-use borrow.Author.Rules.{rules}
-use mathlib.Core.Path.{◌≡◌, refl, ◌∙◌}
-use Prim.Native.Nat.{◌+◌, ◌-◌, ◌*◌, ◌≤◌}
-use native.Mathlib.Omega.{arith}
+use mathlib.Core.Path.{◌≡◌}
+use Prim.Native.Nat.{◌-◌, ◌≤◌}
 use lib.ListN.{length}
-use borrow.Rule.Slice.PartMut.{mid_len}
 use Rattle.blocks.specs.Loops.Written.{file_part}
-use Rattle.blocks.proofs.writing.Written.{file_none, file_more, file_kept, file_end}
 use Rattle.blocks.proofs.writing.put_each.Given as goal
 
 abbrev pub invariant-loop-b : goal.invariant-loop-b

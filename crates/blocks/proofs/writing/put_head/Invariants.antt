@@ -1,11 +1,8 @@
 -- `writing::put_head` meets its contract. The invariant: the words passed are written.
-use borrow.Author.Rules.{rules}
 use mathlib.Core.Path.{◌≡◌}
 use Prim.Native.Nat.{◌-◌, ◌≤◌}
-use native.Mathlib.Omega.{arith}
 use lib.ListN.{length}
 use Rattle.blocks.specs.Loops.Written.{block_part}
-use Rattle.blocks.proofs.writing.Written.{block_none, block_more, part_length, head_word, head_end}
 use Rattle.blocks.proofs.writing.put_head.Given as goal
 
 abbrev pub invariant-loop-k : goal.invariant-loop-k

@@ -70,5 +70,5 @@ returns c =
     let chosen = chooses_words called.choose-ran.new.agenda domains tables agenda made.three_of-made.ensures.of_second.lent
     called.choose-ran.auto.agenda room.of_agenda.even c.bytes_of.ensures called.choose-ran.ensures in (
       chooses_turned (room_whole room) chosen,
-      choose_fits (λ i. omega (arith, known.type_inv.agenda i)) (omega (arith, start.well_formed.1.1.1.1.1.1.0)) start.requires chosen,
+      choose_fits (λ i. omega (arith, known.slice_known-1.given i)) (omega (arith, start.well_formed.1.1.1.1.1.1.0)) start.requires chosen,
     )

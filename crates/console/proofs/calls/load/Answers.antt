@@ -98,6 +98,6 @@ returns c =
     let three = made.three_of-made.ensures in
     let (domains, agenda, tables) = said_last room refl refl refl three in
     loads_turned (room_whole room)
-    (loads_words last.1.0 last.1.1.0 last.1.1.1.0 domains tables agenda three.of_first.lent three.of_third.lent three.of_second.lent kept.1.0
-    kept.1.1.0 kept.1.1.1.0 called.load-loaded.ensures (room_whole room) domains-back.bytes_of.ensures tables-back.bytes_of-2.ensures
+    (loads_words last.domains last.tables last.agenda domains tables agenda three.of_first.lent three.of_third.lent three.of_second.lent kept.domains
+    kept.tables kept.agenda called.load-loaded.ensures (room_whole room) domains-back.bytes_of.ensures tables-back.bytes_of-2.ensures
     agenda_back.bytes_of-3.ensures)

@@ -20,7 +20,7 @@ front_of-front-requires c =
 
 pub returns-then-not-room_for : goal.returns-then-not-room_for
 returns-then-not-room_for c =
-    runs_long c.requires (λ i. omega (arith, c.type_inv.agenda i)) c.refused-then-not-room_for.ensures
+    runs_long c.requires (λ i. omega (arith, c.slice_known-1.given i)) c.refused-then-not-room_for.ensures
     (λ w. room_false _ _ _ _ _ c.room_for.ensures (ap not c.if-not-room_for.true) w (front_fits c.front_of-front.ensures))
 
 pub slice_bounds-run_words-end : goal.slice_bounds-run_words-end
@@ -40,7 +40,7 @@ returns c =
     let ran = c in
     let test = ran in
     let front = test.front_of-front.ensures in
-    let listed = listed_then _ _ _ test.whole_list_lem.ensures (ap not test.if-not-whole_list.false) in
+    let listed = listed_then _ _ _ test.whole_list.ensures (ap not test.if-not-whole_list.false) in
     let fits = room_then _ test.room_for.ensures (ap not test.if-not-room_for.false) in (
       runs_turned (front_whole_problem front fits) (listed_even _ _ listed)
           (front_runs front listed ran.run_words.auto.agenda ran.run_words.ensures.0),

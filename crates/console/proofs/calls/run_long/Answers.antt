@@ -54,7 +54,7 @@ returns c =
     let agenda = said_one fits refl turned.words_of-room.ensures in
     let runs = called.run_parts-ran.ensures in (
       runs_at called.run_parts-ran.new.agenda agenda turned.words_of-room.ensures.lent fits.even called.run_parts-ran.auto.agenda
-          (λ i. omega (arith, known.type_inv.agenda i)) (omega (arith, start.well_formed.1.1.1.1.1.1.0))
+          (λ i. omega (arith, known.slice_known-1.given i)) (omega (arith, start.well_formed.1.1.1.1.1.1.0))
           start.requires.1.0 runs.0 c.write_back.ensures,
       runs.1,
     )

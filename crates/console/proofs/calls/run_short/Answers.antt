@@ -53,7 +53,7 @@ write_back-requires c =
     let fits = start.requires.0 in
     let agenda = said_one fits refl turned.words_of-room.ensures in
     let list = words_said (listed_even _ _ start.requires.1.1.0) start.requires.1.0 called.words_of-count.ensures in
-    let runs = few_runs _ _ _ _ called.run-ran.new.agenda _ _ agenda list (λ i. omega (arith, known.type_inv.agenda i))
+    let runs = few_runs _ _ _ _ called.run-ran.new.agenda _ _ agenda list (λ i. omega (arith, known.slice_known-1.given i))
     (omega (arith, start.well_formed.1.1.1.1.1.1.0)) start.requires.1.1.1 start.requires.1.1.0 called.run-ran.ensures in
     let bytes = left_bytes called.run-ran.new.agenda turned.words_of-room.ensures.lent called.run-ran.auto.agenda
     start.args.agenda.now agenda.count fits.even in
@@ -68,10 +68,10 @@ returns c =
     let fits = start.requires.0 in
     let agenda = said_one fits refl turned.words_of-room.ensures in
     let list = words_said (listed_even _ _ start.requires.1.1.0) start.requires.1.0 called.words_of-count.ensures in
-    let runs = few_runs _ _ _ _ called.run-ran.new.agenda _ _ agenda list (λ i. omega (arith, known.type_inv.agenda i))
+    let runs = few_runs _ _ _ _ called.run-ran.new.agenda _ _ agenda list (λ i. omega (arith, known.slice_known-1.given i))
     (omega (arith, start.well_formed.1.1.1.1.1.1.0)) start.requires.1.1.1 start.requires.1.1.0 called.run-ran.ensures in (
       runs_at called.run-ran.new.agenda agenda turned.words_of-room.ensures.lent fits.even called.run-ran.auto.agenda
-          (λ i. omega (arith, known.type_inv.agenda i)) (omega (arith, start.well_formed.1.1.1.1.1.1.0))
+          (λ i. omega (arith, known.slice_known-1.given i)) (omega (arith, start.well_formed.1.1.1.1.1.1.0))
           start.requires.1.1.0 runs.0 c.write_back.ensures,
       runs.1,
     )

@@ -46,7 +46,7 @@ returns-then-end-requests c =
     let known = c in
     let pre = known.requires in
     returns_end c.loop-ran.invariant part ran pre.0
-    (λ i. omega (arith, known.type_inv.agenda i)) pre.1 c.if-end-requests.true
+    (λ i. omega (arith, known.slice_known-1.given i)) pre.1 c.if-end-requests.true
 
 pub returns-then-not-goes_on : goal.returns-then-not-goes_on
 returns-then-not-goes_on c =
@@ -55,7 +55,7 @@ returns-then-not-goes_on c =
     let known = c in
     let pre = known.requires in
     returns_stop c.loop-ran.invariant part ran pre.0
-    (λ i. omega (arith, known.type_inv.agenda i)) pre.1 _ c.goes_on.ensures (ap not c.if-not-goes_on.true)
+    (λ i. omega (arith, known.slice_known-1.given i)) pre.1 _ c.goes_on.ensures (ap not c.if-not-goes_on.true)
 
 pub loop-ran-smaller : goal.loop-ran-smaller
 loop-ran-smaller c =

@@ -1,6 +1,5 @@
 -- `beside::row` meets its contract.
 use mathlib.Core.Path.{refl, sym, ◌∙◌}
-use borrow.Author.Rules.{rules}
 use Rattle.problem.proofs.Tests.{true_false}
 use Rattle.problem.proofs.tables.Ranges.{inside_true}
 use Rattle.problem.proofs.beside.row.Goals as goal

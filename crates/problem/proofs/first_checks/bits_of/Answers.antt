@@ -1,9 +1,7 @@
 -- `first::bits_of` meets its contract: the loop's invariant: the bits of the words passed are together.
-use mathlib.Core.Path.{◌≡◌, refl}
-use Prim.Native.Nat.{◌-◌, ◌≤◌}
+use mathlib.Core.Path.{refl}
 use native.Mathlib.Omega.{arith}
-use lib.ListN.{length}
-use Rattle.problem.specs.Lists.{row_in, joined}
+use Rattle.problem.specs.Lists.{row_in}
 use Rattle.problem.proofs.first_checks.Joining.{joined_none, joined_more, joined_end}
 use borrow.Author.Rules.{rules}
 use Rattle.problem.proofs.first_checks.bits_of.Goals as goal

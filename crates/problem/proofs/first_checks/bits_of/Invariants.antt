@@ -1,11 +1,8 @@
 -- `first::bits_of` meets its contract: the loop's invariant: the bits of the words passed are together.
-use mathlib.Core.Path.{◌≡◌, refl}
+use mathlib.Core.Path.{◌≡◌}
 use Prim.Native.Nat.{◌-◌, ◌≤◌}
-use native.Mathlib.Omega.{arith}
 use lib.ListN.{length}
 use Rattle.problem.specs.Lists.{row_in, joined}
-use Rattle.problem.proofs.first_checks.Joining.{joined_none, joined_more, joined_end}
-use borrow.Author.Rules.{rules}
 use Rattle.problem.proofs.first_checks.bits_of.Given as goal
 
 abbrev pub invariant-loop-k : goal.invariant-loop-k

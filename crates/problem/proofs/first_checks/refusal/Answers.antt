@@ -1,6 +1,5 @@
 -- `first_checks::refusal` meets its contract: the sizes, then the masks.
 use mathlib.Core.Path.{sym, ◌∙◌}
-use borrow.Author.Rules.{rules}
 use Rattle.problem.specs.Tests.FirstChecks.{problem_refusal}
 use Rattle.problem.proofs.first_checks.Parts.{else_first, else_rest, problem_fits}
 use Rattle.problem.proofs.first_checks.refusal.Goals as goal

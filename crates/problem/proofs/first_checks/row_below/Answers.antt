@@ -2,7 +2,6 @@
 use mathlib.Core.Path.{ap}
 use mathlib.Core.Bool.{not}
 use Rattle.problem.proofs.first_checks.Joining.{row_stop, row_last}
-use borrow.Author.Rules.{rules}
 use Rattle.problem.proofs.first_checks.row_below.Goals as goal
 
 pub returns-then-not-span_below : goal.returns-then-not-span_below

@@ -4,7 +4,6 @@ use mathlib.Core.Bool.{and-false}
 use native.Mathlib.Nat.{mul-le-mul}
 use native.Mathlib.Omega.{arith}
 use borrow.Author.Tests.{eq-eqb, ne_eqb}
-use borrow.Author.Rules.{rules}
 use Rattle.problem.specs.Tests.FirstChecks.{problem_sizes}
 use Rattle.problem.proofs.first_checks.Parts.{numbers_pass, else_first, else_rest}
 use Rattle.problem.proofs.first_checks.sizes_refusal.Goals as goal

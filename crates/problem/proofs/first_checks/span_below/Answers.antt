@@ -1,7 +1,6 @@
 -- `first::span_below` meets its contract: all bits of the masks together, which stand in a row.
 use native.Mathlib.Omega.{arith}
 use Rattle.problem.proofs.first_checks.Joining.{in_span, span_found}
-use borrow.Author.Rules.{rules}
 use Rattle.problem.proofs.first_checks.span_below.Goals as goal
 
 pub overflow_mul-start : goal.overflow_mul-start

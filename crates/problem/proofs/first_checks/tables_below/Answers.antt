@@ -1,12 +1,8 @@
 -- `first::tables_below` meets its contract: of 16 values no word has a bit too many; else the loop's invariant: every row passed is below 2 ^ d.
-use mathlib.Core.Bool.{true, not}
-use mathlib.Core.Path.{◌≡◌, sym, ap}
-use Prim.Native.Nat.{◌-◌, ◌≤◌}
+use mathlib.Core.Bool.{not}
+use mathlib.Core.Path.{sym, ap}
 use native.Mathlib.Omega.{arith}
 use borrow.Author.Rules.{rules}
-use Rattle.problem.specs.Problem.{table_of}
-use Rattle.problem.specs.Lists.{every}
-use Rattle.problem.specs.Loops.FirstTests.{row_below}
 use Rattle.problem.proofs.FirstLoops.{every_start, every_stop, every_turn, every_end}
 use Rattle.problem.proofs.symmetry.Pairs.{words_below}
 use Rattle.problem.proofs.first_checks.tables_below.Goals as goal

@@ -1,7 +1,6 @@
 -- `splits::mask::count` meets its contract.
 use lib.Count.{ones-le}
 use native.Mathlib.Omega.{arith}
-use borrow.Author.Rules.{rules}
 use Rattle.problem.proofs.mask.count.Goals as goal
 
 pub overflow_cast-result : goal.overflow_cast-result

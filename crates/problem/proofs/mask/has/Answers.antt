@@ -2,7 +2,6 @@
 use Rattle.problem.proofs.mask.Masks.{bit_above}
 use Rattle.problem.specs.Masks.{bit}
 use mathlib.Core.Path.{refl}
-use borrow.Author.Rules.{rules}
 use Rattle.problem.proofs.mask.has.Goals as goal
 
 pub returns-then-value-lt16 : goal.returns-then-value-lt16

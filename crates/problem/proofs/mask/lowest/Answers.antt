@@ -1,7 +1,6 @@
 -- `splits::mask::lowest` meets its contract.
 use lib.Count.{trailing_le}
 use native.Mathlib.Omega.{arith}
-use borrow.Author.Rules.{rules}
 use Rattle.problem.proofs.mask.lowest.Goals as goal
 
 pub overflow_cast-result : goal.overflow_cast-result

@@ -1,6 +1,5 @@
 -- `mask::only` meets its contract.
 use native.Mathlib.Nat.{one-mul, mod-eq_of_lt}
-use borrow.Author.Rules.{rules}
 use borrow.Author.Tests.{lt-ltb, le-ltb}
 use Rattle.problem.proofs.mask.Masks.{single_lt}
 use Rattle.problem.proofs.mask.only.Goals as goal

@@ -4,7 +4,6 @@ use lib.Count.{ones-le}
 use Prim.Native.Nat.{ℕ, ◌+◌, ◌/◌}
 use mathlib.Core.Path.{◌∙◌, ap}
 use native.Mathlib.Omega.{arith}
-use borrow.Author.Rules.{rules}
 use Rattle.problem.proofs.mask.smaller_half.Goals as goal
 
 pub overflow_add-count : goal.overflow_add-count

@@ -4,8 +4,7 @@ use Rattle.problem.proofs.mask.Halves.{turn_lt, turn_kept}
 use Rattle.problem.proofs.mask.Masks.{only_is}
 use Rattle.problem.specs.Masks.{smallest_of}
 use native.Mathlib.Omega.{arith}
-use Prim.Native.Nat.{◌≤◌, ◌-◌}
-use mathlib.Core.Path.{◌≡◌, refl}
+use mathlib.Core.Path.{refl}
 use borrow.Author.Rules.{rules}
 use Rattle.problem.proofs.mask.smallest_of.Goals as goal
 

@@ -1,6 +1,5 @@
 -- `matrix::by_eight` meets its contract: the definition follows the calls.
 use Rattle.problem.proofs.matrix.Packing.{words_are}
-use borrow.Author.Rules.{rules}
 use Rattle.problem.specs.Loops.Matrices.{by_eight}
 use Rattle.problem.proofs.matrix.by_eight.Goals as goal
 

@@ -1,6 +1,5 @@
 -- `matrix::by_four` meets its contract: the definition follows the calls.
 use Rattle.problem.proofs.matrix.Packing.{words_are}
-use borrow.Author.Rules.{rules}
 use Rattle.problem.specs.Loops.Matrices.{by_four}
 use Rattle.problem.proofs.matrix.by_four.Goals as goal
 

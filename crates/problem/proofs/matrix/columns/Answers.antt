@@ -1,6 +1,5 @@
 -- `matrix::columns` meets its contract: the definition follows the calls.
 use mathlib.Core.Path.{ap, ◌∙◌}
-use borrow.Author.Rules.{rules}
 use Rattle.problem.specs.Loops.Matrices.{by_four, by_eight, columns}
 use Rattle.problem.proofs.matrix.columns.Goals as goal
 

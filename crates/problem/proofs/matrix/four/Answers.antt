@@ -4,7 +4,6 @@ use Rattle.problem.specs.Loops.Matrices.{four}
 use mathlib.Core.Path.{refl}
 use Prim.Native.Nat.{◌+◌}
 use native.Mathlib.Omega.{arith}
-use borrow.Author.Rules.{rules}
 use Rattle.problem.proofs.matrix.Packing.{second_fits, third_fits, fourth_fits, two_fit, three_fit, four_fit}
 use Rattle.problem.proofs.matrix.four.Goals as goal
 

@@ -1,7 +1,6 @@
 -- `matrix::matrix_of` meets its contract: the definition follows the calls.
 use Rattle.problem.proofs.matrix.Packing.{words_are}
 use Rattle.problem.specs.Loops.Matrices.{matrix_of}
-use borrow.Author.Rules.{rules}
 use Rattle.problem.proofs.matrix.matrix_of.Goals as goal
 
 pub returns : goal.returns

@@ -1,5 +1,4 @@
 -- `matrix::risen` meets its contract: what differs is exchanged.
-use borrow.Author.Rules.{rules}
 use Rattle.problem.proofs.matrix.Exchanging.{risen_made}
 use Rattle.problem.proofs.matrix.risen.Goals as goal
 

@@ -2,7 +2,6 @@
 use mathlib.Core.Path.{refl}
 use Rattle.problem.proofs.matrix.Packing.{rows_are}
 use Rattle.problem.specs.Loops.Matrices.{four_of, rows_of}
-use borrow.Author.Rules.{rules}
 use Rattle.problem.proofs.matrix.rows_of.Goals as goal
 
 pub returns : goal.returns

@@ -1,5 +1,4 @@
 -- `matrix::sunk` meets its contract: what differs is exchanged.
-use borrow.Author.Rules.{rules}
 use Rattle.problem.proofs.matrix.Exchanging.{sunk_made}
 use Rattle.problem.proofs.matrix.sunk.Goals as goal
 

@@ -1,5 +1,4 @@
 -- `matrix::swapped` meets its contract: what differs is exchanged.
-use borrow.Author.Rules.{rules}
 use Rattle.problem.proofs.matrix.Exchanging.{swapped_made}
 use Rattle.problem.proofs.matrix.swapped.Goals as goal
 

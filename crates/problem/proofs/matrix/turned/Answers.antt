@@ -1,5 +1,4 @@
 -- `matrix::turned` meets its contract: what is packed, turned and taken apart again is turned.
-use borrow.Author.Rules.{rules}
 use Rattle.problem.proofs.matrix.Turning.{turned_made}
 use Rattle.problem.proofs.matrix.turned.Goals as goal
 

@@ -1,6 +1,5 @@
 -- `matrix::unlike` meets its contract: the definition follows the code.
 use mathlib.Core.Path.{refl}
-use borrow.Author.Rules.{rules}
 use Rattle.problem.specs.Loops.Matrices.{unlike}
 use Rattle.problem.proofs.matrix.unlike.Goals as goal
 

@@ -1,7 +1,6 @@
 -- `matrix::within` meets its contract: the definition follows the calls.
 use mathlib.Core.Path.{ap, ◌∙◌}
 use Rattle.problem.proofs.matrix.Packing.{words_are}
-use borrow.Author.Rules.{rules}
 use Rattle.problem.specs.Loops.Matrices.{by_two, within}
 use Rattle.problem.proofs.matrix.within.Goals as goal
 

@@ -2,7 +2,6 @@
 use native.Mathlib.Omega.{arith}
 use Rattle.problem.proofs.tables.Ranges.{in_row}
 use Rattle.problem.proofs.symmetry.Pairs.{masks_within, matrix_part}
-use borrow.Author.Rules.{rules}
 use Rattle.problem.proofs.symmetry.matrix_at.Goals as goal
 
 pub overflow_mul-at : goal.overflow_mul-at

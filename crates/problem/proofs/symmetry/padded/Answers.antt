@@ -1,10 +1,8 @@
 -- `symmetry::padded` meets its contract. The invariant: the rows before a are copied, and zeros follow.
 use mathlib.Core.Path.{◌≡◌, refl}
-use mathlib.Core.List.{◌++◌}
-use Prim.Native.Nat.{ℕ, ◌≤◌, ◌-◌}
+use Prim.Native.Nat.{ℕ}
 use native.Mathlib.Omega.{arith}
-use lib.ListN.{length, drop, take, replicate}
-use borrow.Author.Rules.{rules}
+use lib.ListN.{length, replicate}
 use Rattle.problem.proofs.Copies.{copy_more}
 use Rattle.problem.proofs.symmetry.Pairs.{padded_made}
 use Rattle.problem.proofs.symmetry.padded.Goals as goal

@@ -1,10 +1,5 @@
 -- `symmetry::part_both_ways` meets its contract: the loop's invariant: what is allowed one way only of every pair passed is together.
-use mathlib.Core.Path.{◌≡◌}
-use Prim.Native.Nat.{◌-◌, ◌≤◌}
 use native.Mathlib.Omega.{arith}
-use Rattle.problem.specs.Problem.{table_of}
-use Rattle.problem.specs.Lists.{joined}
-use Rattle.problem.specs.Loops.FirstTests.{one_way}
 use Rattle.problem.proofs.first_checks.Joining.{joined_none, joined_more, joined_end}
 use Rattle.problem.proofs.symmetry.Pairs.{row_found}
 use borrow.Author.Rules.{rules}

@@ -1,6 +1,5 @@
 -- `symmetry::row_both_ways` meets its contract: 16 values, or any number.
 use Rattle.problem.proofs.symmetry.Pairs.{whole_narrow, whole_row}
-use borrow.Author.Rules.{rules}
 use Rattle.problem.proofs.symmetry.row_both_ways.Goals as goal
 
 pub whole_both_ways-requires : goal.whole_both_ways-requires

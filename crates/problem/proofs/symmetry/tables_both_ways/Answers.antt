@@ -1,12 +1,8 @@
 -- `symmetry::tables_both_ways` meets its contract: the loop's invariant: every row passed is allowed both ways or neither.
-use mathlib.Core.Bool.{true, not}
-use mathlib.Core.Path.{◌≡◌, ap}
-use Prim.Native.Nat.{◌-◌, ◌≤◌}
+use mathlib.Core.Bool.{not}
+use mathlib.Core.Path.{ap}
 use native.Mathlib.Omega.{arith}
 use borrow.Author.Rules.{rules}
-use Rattle.problem.specs.Problem.{table_of}
-use Rattle.problem.specs.Lists.{every}
-use Rattle.problem.specs.Loops.FirstTests.{row_both_ways}
 use Rattle.problem.proofs.FirstLoops.{every_start, every_stop, every_turn, every_end}
 use Rattle.problem.proofs.symmetry.tables_both_ways.Goals as goal
 

@@ -2,12 +2,9 @@
 use mathlib.Core.Bool.{true}
 use mathlib.Core.Path.{◌≡◌}
 use Prim.Native.Nat.{◌-◌, ◌≤◌}
-use native.Mathlib.Omega.{arith}
-use borrow.Author.Rules.{rules}
 use Rattle.problem.specs.Problem.{table_of}
 use Rattle.problem.specs.Lists.{every}
 use Rattle.problem.specs.Loops.FirstTests.{row_both_ways}
-use Rattle.problem.proofs.FirstLoops.{every_start, every_stop, every_turn, every_end}
 use Rattle.problem.proofs.symmetry.tables_both_ways.Given as goal
 
 abbrev pub invariant-loop-i : goal.invariant-loop-i

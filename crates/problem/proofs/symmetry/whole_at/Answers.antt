@@ -3,7 +3,6 @@ use mathlib.Core.Path.{refl}
 use native.Mathlib.Omega.{arith}
 use Rattle.problem.proofs.tables.Ranges.{in_row}
 use Rattle.problem.proofs.symmetry.Pairs.{masks_within, matrix_whole}
-use borrow.Author.Rules.{rules}
 use Rattle.problem.proofs.symmetry.whole_at.Goals as goal
 
 pub overflow_mul-at : goal.overflow_mul-at

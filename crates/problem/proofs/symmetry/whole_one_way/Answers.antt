@@ -1,6 +1,5 @@
 -- `symmetry::whole_one_way` meets its contract: the masks of i with j, rows for columns, beside those of j with i.
 use Rattle.problem.proofs.symmetry.Pairs.{one_way_found}
-use borrow.Author.Rules.{rules}
 use Rattle.problem.proofs.symmetry.whole_one_way.Goals as goal
 
 pub returns : goal.returns

@@ -3,7 +3,6 @@ use mathlib.Core.Bool.{not}
 use mathlib.Core.Path.{refl, ap}
 use native.Mathlib.Omega.{arith}
 use Rattle.problem.proofs.tables.Ranges.{in_table, given_over, given_misfit, given_inside, given_place, given_same, given_word}
-use borrow.Author.Rules.{rules}
 use Rattle.problem.proofs.tables.allowed.Goals as goal
 
 pub returns-then-n-j : goal.returns-then-n-j

@@ -2,7 +2,6 @@
 use Rattle.problem.specs.Ranges.{inside}
 use borrow.Author.Tests.{le-ltb, lt-ltb}
 use mathlib.Core.Bool.{and-false}
-use borrow.Author.Rules.{rules}
 use Rattle.problem.proofs.tables.within.Goals as goal
 
 pub returns-then-n-variable : goal.returns-then-n-variable

@@ -1,6 +1,5 @@
 -- `at_once::filled` meets its contract. The invariant: the sum is of the first i.
 use mathlib.Core.Path.{◌≡◌, refl}
-use Prim.Native.Nat.{◌≤◌, ◌-◌}
 use native.Mathlib.Omega.{arith}
 use Rattle.problem.specs.Lists.{total}
 use Rattle.splits.specs.AtOnce.{filled}

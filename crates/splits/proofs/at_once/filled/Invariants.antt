@@ -1,10 +1,7 @@
 -- `at_once::filled` meets its contract. The invariant: the sum is of the first i.
-use mathlib.Core.Path.{◌≡◌, refl}
+use mathlib.Core.Path.{◌≡◌}
 use Prim.Native.Nat.{◌≤◌, ◌-◌}
-use native.Mathlib.Omega.{arith}
-use Rattle.problem.specs.Lists.{total}
 use Rattle.splits.specs.AtOnce.{filled}
-use Rattle.problem.proofs.Products.{total_turn}
 use Rattle.splits.proofs.at_once.filled.Given as goal
 
 abbrev pub invariant-loop-i : goal.invariant-loop-i

@@ -1,12 +1,8 @@
 -- `at_once::loses` meets its contract. The invariant: the marks joined are not 0 where one of the first i is lost.
 use mathlib.Core.Path.{◌≡◌, refl}
-use mathlib.Core.Bool.{not}
-use Prim.Native.Nat.{◌≤◌, ◌-◌}
 use native.Mathlib.Omega.{arith}
-use lib.ListN.{get_or}
-use lib.Dec.{eqb}
 use Rattle.problem.specs.Lists.{some}
-use Rattle.splits.specs.AtOnce.{lost, loses}
+use Rattle.splits.specs.AtOnce.{loses}
 use Rattle.splits.proofs.at_once.Turns.{some_turn}
 use Rattle.splits.proofs.at_once.loses.Goals as goal
 

@@ -1,6 +1,5 @@
 -- `at_once::outsides` meets its contract. The invariant: the first i are done.
 use mathlib.Core.Path.{◌≡◌, refl}
-use Prim.Native.Nat.{◌≤◌, ◌-◌}
 use native.Mathlib.Omega.{arith}
 use Rattle.problem.specs.Lists.{changed}
 use Rattle.splits.specs.AtOnce.{outside_to}

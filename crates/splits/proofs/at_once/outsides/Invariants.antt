@@ -1,10 +1,7 @@
 -- `at_once::outsides` meets its contract. The invariant: the first i are done.
-use mathlib.Core.Path.{◌≡◌, refl}
+use mathlib.Core.Path.{◌≡◌}
 use Prim.Native.Nat.{◌≤◌, ◌-◌}
-use native.Mathlib.Omega.{arith}
-use Rattle.problem.specs.Lists.{changed}
 use Rattle.splits.specs.AtOnce.{outside_to}
-use Rattle.splits.proofs.at_once.Turns.{outside_more}
 use Rattle.splits.proofs.at_once.outsides.Given as goal
 
 abbrev pub invariant-loop-i : goal.invariant-loop-i

@@ -1,11 +1,9 @@
 -- `at_once::values` meets its contract. The invariant: the sum is that of the first i, at most 16 each.
-use mathlib.Core.Path.{◌≡◌, refl}
+use mathlib.Core.Path.{◌≡◌}
 use Prim.Native.Nat.{◌≤◌, ◌-◌, ◌*◌}
-use native.Mathlib.Omega.{arith}
 use lib.ListN.{get_or}
 use Rattle.problem.specs.Masks.{size}
 use Rattle.problem.specs.Lists.{total}
-use Rattle.problem.proofs.Products.{total_turn}
 use Rattle.splits.proofs.at_once.values.Given as goal
 
 abbrev pub invariant-loop-i : goal.invariant-loop-i

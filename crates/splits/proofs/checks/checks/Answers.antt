@@ -3,7 +3,6 @@ use mathlib.Core.Path.{sym, ◌∙◌}
 use mathlib.Core.Logic.{inl, inr}
 use Rattle.problem.proofs.tables.Ranges.{inside_true}
 use Rattle.splits.proofs.split.ByKind.{checks_out, checks_1, checks_2_3, checks_none}
-use borrow.Author.Rules.{rules}
 use Rattle.splits.proofs.checks.checks.Goals as goal
 
 pub look-requires : goal.look-requires

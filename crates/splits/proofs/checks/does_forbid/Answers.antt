@@ -1,7 +1,6 @@
 -- `checks::does_forbid` meets its contract.
 use Rattle.problem.proofs.tables.Ranges.{allowed_any}
 use Rattle.splits.proofs.checks.Counting.{forbids_is}
-use borrow.Author.Rules.{rules}
 use Rattle.splits.proofs.checks.does_forbid.Goals as goal
 
 pub returns : goal.returns

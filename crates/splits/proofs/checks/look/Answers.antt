@@ -1,13 +1,9 @@
 -- `splits::checks::look` meets its contract.
-use Rattle.splits.proofs.checks.Counting.{other_looked, own_passed, Looking, look_more, look_skip, look_stop, look_end}
-use mathlib.Core.Logic.{⊎_elim}
+use Rattle.splits.proofs.checks.Counting.{other_looked, own_passed, look_more, look_skip, look_stop, look_end}
 use Rattle.problem.specs.Lists.{below, keep, some}
 use Rattle.splits.specs.Splits.{forbidden}
-use Rattle.problem.specs.Problem.{table_of}
 use native.Mathlib.Omega.{arith}
-use Prim.Native.Nat.{◌≤◌, ◌-◌}
-use mathlib.Core.Bool.{false}
-use mathlib.Core.Path.{◌≡◌, refl}
+use mathlib.Core.Path.{refl}
 use borrow.Author.Rules.{rules}
 use Rattle.splits.proofs.checks.look.Goals.{then-i-variable+then-is_instantiated+else-does_forbid, then-i-variable+else-is_instantiated, else-i-variable}
 use Rattle.splits.proofs.checks.look.Goals as goal
@@ -22,27 +18,27 @@ loop-i-preserved c =
       omega arith,
       elim c.if-i-variable.branch [
         | then-i-variable+then-is_instantiated+else-does_forbid w ↦ (
-            omega (arith, w.count-is),
-            (
-              inv.0,
-              rw w.count-is
-                  (look_more _ _ _ _ _ _ _ inv.1 _ _ (other_looked _ _ _ _ w.if-i-variable.true w.is_instantiated.ensures)
-                      w.if-is_instantiated.true w.does_forbid.ensures w.if-does_forbid.false),
-            ),
-          )
+          omega (arith, w.count-is),
+          (
+            inv.0,
+            rw w.count-is
+                (look_more _ _ _ _ _ _ _ inv.1 _ _ (other_looked _ _ _ _ w.if-i-variable.true w.is_instantiated.ensures)
+                w.if-is_instantiated.true w.does_forbid.ensures w.if-does_forbid.false),
+          ),
+        )
         | then-i-variable+else-is_instantiated w ↦ (
-            omega (arith, w.count-is),
-            (
-              inv.0,
-              rw w.count-is
-                  (look_skip _ _ _ _ _ _ _ inv.1 _ (other_looked _ _ _ _ w.if-i-variable.true w.is_instantiated.ensures)
-                      w.if-is_instantiated.false),
-            ),
-          )
+          omega (arith, w.count-is),
+          (
+            inv.0,
+            rw w.count-is
+                (look_skip _ _ _ _ _ _ _ inv.1 _ (other_looked _ _ _ _ w.if-i-variable.true w.is_instantiated.ensures)
+                w.if-is_instantiated.false),
+          ),
+        )
         | else-i-variable w ↦ (
-            omega (arith, w.count-is),
-            (inv.0, rw w.count-is (look_skip _ _ _ _ _ _ _ inv.1 _ (own_passed _ _ _ w.if-i-variable.false) refl)),
-          )
+          omega (arith, w.count-is),
+          (inv.0, rw w.count-is (look_skip _ _ _ _ _ _ _ inv.1 _ (own_passed _ _ _ w.if-i-variable.false) refl)),
+        )
       ],
     )
 

@@ -1,14 +1,9 @@
 -- `splits::checks::look` meets its contract.
-use Rattle.splits.proofs.checks.Counting.{other_looked, own_passed, Looking, look_more, look_skip, look_stop, look_end}
-use mathlib.Core.Logic.{⊎_elim}
-use Rattle.problem.specs.Lists.{below, keep, some}
-use Rattle.splits.specs.Splits.{forbidden}
+use Rattle.splits.proofs.checks.Counting.{Looking}
 use Rattle.problem.specs.Problem.{table_of}
-use native.Mathlib.Omega.{arith}
 use Prim.Native.Nat.{◌≤◌, ◌-◌}
 use mathlib.Core.Bool.{false}
-use mathlib.Core.Path.{◌≡◌, refl}
-use borrow.Author.Rules.{rules}
+use mathlib.Core.Path.{◌≡◌}
 use Rattle.splits.proofs.checks.look.Given as goal
 
 abbrev pub invariant-loop-i : goal.invariant-loop-i

@@ -2,12 +2,10 @@
 use Rattle.splits.proofs.checks.Counting.{values_more, values_same}
 use native.Mathlib.Nat.{le_antisymm}
 use lib.Count.{ones-le}
-use mathlib.Core.Logic.{⊎_elim}
-use Rattle.splits.specs.Checks.{values_in, others}
+use Rattle.splits.specs.Checks.{values_in}
 use Rattle.problem.specs.Lists.{total}
 use native.Mathlib.Omega.{arith}
-use Prim.Native.Nat.{◌≤◌, ◌-◌, ◌*◌}
-use mathlib.Core.Path.{◌≡◌, refl, ◌∙◌}
+use mathlib.Core.Path.{refl, ◌∙◌}
 use borrow.Author.Rules.{rules}
 use Rattle.splits.proofs.checks.values_in_others.Goals.{then-i-variable, else-i-variable}
 use Rattle.splits.proofs.checks.values_in_others.Goals as goal
@@ -24,9 +22,9 @@ loop-i-preserved c = (
   omega arith,
   elim c.if-i-variable.branch [
     | then-i-variable w ↦ (
-        w.sum-is ∙ values_more _ _ _ _ c.loop-i.invariant.1.0 _ _ w.if-i-variable.true w.domain.ensures w.count-sum.ensures,
-        omega (arith, w.count-sum.ensures, ones-le 16 _ w.domain.type_inv),
-      )
+      w.sum-is ∙ values_more _ _ _ _ c.loop-i.invariant.1.0 _ _ w.if-i-variable.true w.domain.ensures w.count-sum.ensures,
+      omega (arith, w.count-sum.ensures, ones-le 16 _ w.domain.type_inv),
+    )
     | else-i-variable w ↦ (w.sum-is ∙ values_same _ _ _ _ c.loop-i.invariant.1.0 w.if-i-variable.false, omega (arith, w.sum-is))
   ],
 )

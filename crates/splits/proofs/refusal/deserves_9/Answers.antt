@@ -2,7 +2,6 @@
 use borrow.Author.Tests.{le-leb, lt-leb, ne_eqb}
 use Rattle.splits.specs.Loops.Kinds.{deserves9}
 use Rattle.splits.proofs.refusal.Refusals.{lacks}
-use borrow.Author.Rules.{rules}
 use Rattle.splits.proofs.refusal.deserves_9.Goals as goal
 
 pub returns-then-kind-eq4 : goal.returns-then-kind-eq4

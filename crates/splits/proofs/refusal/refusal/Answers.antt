@@ -3,7 +3,6 @@ use mathlib.Core.Path.{refl, sym, ◌∙◌}
 use mathlib.Core.Bool.{or-true}
 use native.Mathlib.Omega.{arith}
 use borrow.Author.Tests.{lt-ltb}
-use borrow.Author.Rules.{rules}
 use Rattle.splits.specs.Tests.Refusals.{refusal_of, refused_7}
 use Rattle.splits.proofs.refusal.Refusals.{of_targets, of_variable}
 use Rattle.splits.proofs.refusal.refusal.Goals as goal

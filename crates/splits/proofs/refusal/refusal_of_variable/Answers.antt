@@ -4,7 +4,6 @@ use mathlib.Core.Bool.{or-true}
 use borrow.Author.Tests.{le-leb}
 use Rattle.splits.specs.Loops.Kinds.{refusal_of_variable}
 use Rattle.splits.proofs.refusal.Refusals.{past_8}
-use borrow.Author.Rules.{rules}
 use Rattle.splits.proofs.refusal.refusal_of_variable.Goals as goal
 
 pub returns-then-n-variable : goal.returns-then-n-variable

@@ -5,7 +5,6 @@ use mathlib.Core.Path.{sym, ◌∙◌, ap}
 use borrow.Author.Tests.{not-true, not-false}
 use Rattle.problem.proofs.tables.Ranges.{inside_true}
 use Rattle.splits.proofs.split.ByKind.{around_out, around_1, around_2, around_3, the_third, peel_place}
-use borrow.Author.Rules.{rules}
 use Rattle.splits.proofs.split.around_value.Goals as goal
 
 pub returns-then-not-within : goal.returns-then-not-within

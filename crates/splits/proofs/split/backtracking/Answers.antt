@@ -1,6 +1,5 @@
 -- `splits::split::backtracking` meets its contract.
 use Rattle.splits.proofs.split.Places.{backtracked_none, backtracked_first, backtracked_rest, its_only}
-use borrow.Author.Rules.{rules}
 use Rattle.splits.proofs.split.backtracking.Goals as goal
 
 pub returns-then-k-ne0 : goal.returns-then-k-ne0

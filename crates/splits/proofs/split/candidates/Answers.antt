@@ -6,7 +6,6 @@ use native.Mathlib.Omega.{arith}
 use borrow.Author.Tests.{le-leb, lt-leb}
 use Rattle.splits.specs.Splits.{candidates}
 use Rattle.splits.proofs.split.ByKind.{no_kind, two_pieces}
-use borrow.Author.Rules.{rules}
 use Rattle.splits.proofs.split.candidates.Goals as goal
 
 pub returns-then-n-gt32 : goal.returns-then-n-gt32

@@ -1,6 +1,5 @@
 -- `splits::split::extraction` meets its contract.
 use Rattle.splits.proofs.split.Places.{extracted_first, extracted_later}
-use borrow.Author.Rules.{rules}
 use Rattle.splits.proofs.split.extraction.Goals as goal
 
 pub returns-then-k-eq0 : goal.returns-then-k-eq0

@@ -1,7 +1,6 @@
 -- `splits::split::halving` meets its contract.
 use borrow.Author.Tests.{le-ltb, lt-ltb}
 use Rattle.splits.proofs.split.Places.{halved_first, halved_rest}
-use borrow.Author.Rules.{rules}
 use Rattle.splits.proofs.split.halving.Goals as goal
 
 pub returns-then-n-variable : goal.returns-then-n-variable

@@ -1,7 +1,6 @@
 -- `splits::words::word` meets its contract.
 use lib.ListN.{get_or-eq_default}
 use mathlib.Core.Path.{sym}
-use borrow.Author.Rules.{rules}
 use Rattle.splits.proofs.words.word.Goals as goal
 
 pub returns-else-at-words : goal.returns-else-at-words

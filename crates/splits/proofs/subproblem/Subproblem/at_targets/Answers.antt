@@ -3,7 +3,6 @@ use Rattle.splits.proofs.subproblem.Subproblems.{target_next}
 use Rattle.splits.specs.Splits.{at_targets}
 use Rattle.problem.specs.Lists.{changed}
 use native.Mathlib.Omega.{arith}
-use Prim.Native.Nat.{◌≤◌, ◌-◌}
 use mathlib.Core.Path.{◌≡◌, refl}
 use borrow.Author.Rules.{rules}
 use Rattle.splits.proofs.subproblem.Subproblem.at_targets.Goals as goal

@@ -1,11 +1,7 @@
 -- `splits::subproblem::Subproblem::at_targets` meets its contract.
-use Rattle.splits.proofs.subproblem.Subproblems.{target_next}
 use Rattle.splits.specs.Splits.{at_targets}
-use Rattle.problem.specs.Lists.{changed}
-use native.Mathlib.Omega.{arith}
 use Prim.Native.Nat.{◌≤◌, ◌-◌}
-use mathlib.Core.Path.{◌≡◌, refl}
-use borrow.Author.Rules.{rules}
+use mathlib.Core.Path.{◌≡◌}
 use Rattle.splits.proofs.subproblem.Subproblem.at_targets.Given as goal
 
 abbrev pub invariant-loop-i : goal.invariant-loop-i

@@ -1,10 +1,6 @@
 -- `subproblem::Subproblem::cut_before` meets its contract.
 use mathlib.Core.Path.{◌≡◌, ◌∙◌}
-use mathlib.Core.Logic.{⊎_elim}
-use Prim.Native.Nat.{◌≤◌, ◌-◌}
 use native.Mathlib.Omega.{arith}
-use borrow.Author.Rules.{rules}
-use Rattle.splits.specs.Loops.Kinds.{cut_before}
 use Rattle.splits.proofs.subproblem.Rows.{before_none, before_next, before_skip}
 use Rattle.splits.proofs.subproblem.Subproblem.cut_before.Goals.{then-i-variable, else-i-variable}
 use Rattle.splits.proofs.subproblem.Subproblem.cut_before.Goals as goal

@@ -1,11 +1,7 @@
 -- `subproblem::Subproblem::cut_before` meets its contract.
-use mathlib.Core.Path.{◌≡◌, ◌∙◌}
-use mathlib.Core.Logic.{⊎_elim}
+use mathlib.Core.Path.{◌≡◌}
 use Prim.Native.Nat.{◌≤◌, ◌-◌}
-use native.Mathlib.Omega.{arith}
-use borrow.Author.Rules.{rules}
 use Rattle.splits.specs.Loops.Kinds.{cut_before}
-use Rattle.splits.proofs.subproblem.Rows.{before_none, before_next, before_skip}
 use Rattle.splits.proofs.subproblem.Subproblem.cut_before.Given as goal
 
 abbrev pub invariant-loop-i : goal.invariant-loop-i

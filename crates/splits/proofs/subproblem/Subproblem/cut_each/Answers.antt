@@ -1,9 +1,7 @@
 -- `splits::subproblem::Subproblem::cut_each` meets its contract. The invariant: the first i domains are cut.
 use mathlib.Core.Path.{◌≡◌, ◌∙◌}
-use Prim.Native.Nat.{◌≤◌, ◌-◌}
 use native.Mathlib.Omega.{arith}
-use Rattle.splits.proofs.subproblem.Rows.{cut_to, cut_none, cut_more, cut_all}
-use borrow.Author.Rules.{rules}
+use Rattle.splits.proofs.subproblem.Rows.{cut_none, cut_more, cut_all}
 use Rattle.splits.proofs.subproblem.Subproblem.cut_each.Goals as goal
 
 pub loop-i-init : goal.loop-i-init

@@ -3,7 +3,6 @@ use Rattle.splits.proofs.subproblem.Subproblems.{instantiate_in}
 use borrow.Author.Tests.{le-ltb}
 use mathlib.Core.Bool.{and-false}
 use Rattle.problem.proofs.mask.Masks.{only_is}
-use borrow.Author.Rules.{rules}
 use Rattle.splits.proofs.subproblem.Subproblem.instantiate.Goals as goal
 
 pub returns-then-value-lt16 : goal.returns-then-value-lt16

@@ -3,8 +3,6 @@ use Rattle.splits.proofs.subproblem.Subproblems.{empty_at, empty_over, empty_mor
 use Rattle.splits.specs.Subproblems.{empty}
 use Rattle.problem.specs.Lists.{some}
 use native.Mathlib.Omega.{arith}
-use Prim.Native.Nat.{◌≤◌, ◌-◌}
-use mathlib.Core.Bool.{false}
 use mathlib.Core.Path.{◌≡◌, refl, sym}
 use borrow.Author.Rules.{rules}
 use Rattle.splits.proofs.subproblem.Subproblem.is_empty.Goals as goal

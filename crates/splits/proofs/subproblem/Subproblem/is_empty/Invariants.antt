@@ -1,12 +1,8 @@
 -- `splits::subproblem::Subproblem::is_empty` meets its contract.
-use Rattle.splits.proofs.subproblem.Subproblems.{empty_at, empty_over, empty_more}
 use Rattle.splits.specs.Subproblems.{empty}
-use Rattle.problem.specs.Lists.{some}
-use native.Mathlib.Omega.{arith}
 use Prim.Native.Nat.{◌≤◌, ◌-◌}
 use mathlib.Core.Bool.{false}
-use mathlib.Core.Path.{◌≡◌, refl, sym}
-use borrow.Author.Rules.{rules}
+use mathlib.Core.Path.{◌≡◌}
 use Rattle.splits.proofs.subproblem.Subproblem.is_empty.Given as goal
 
 abbrev pub invariant-loop-i : goal.invariant-loop-i

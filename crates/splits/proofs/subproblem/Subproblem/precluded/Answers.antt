@@ -1,7 +1,6 @@
 -- `subproblem::Subproblem::precluded` meets its contract.
 use borrow.Author.Tests.{le-ltb}
 use Rattle.splits.proofs.subproblem.Rows.{marked_by}
-use borrow.Author.Rules.{rules}
 use Rattle.splits.proofs.subproblem.Subproblem.precluded.Goals as goal
 
 pub returns-then-variable-ge32 : goal.returns-then-variable-ge32
