@@ -10,7 +10,7 @@ use native.Mathlib.Nat.{zero-add}
 use Rattle.problem.specs.Masks.{bit, size}
 use Rattle.problem.specs.Problem.{Problem, Proper, possibilities}
 use Rattle.problem.specs.Lists.{total, sum}
-use Rattle.splits.specs.Subproblems.{domain, Instantiated, Rules, SolutionOf}
+use Rattle.splits.specs.Subproblems.{Instantiated, Rules, SolutionOf}
 use Rattle.splits.specs.Splits.{pieces}
 use Rattle.splitting.specs.Measure.{unmarked, measure}
 use Rattle.splitting.specs.Promises.{Splits, Solvable}

@@ -1,11 +1,7 @@
 -- `search::choose_on` meets its contract. The invariant: the chooser from here on is the whole chooser, and the rows kept are rows.
-use mathlib.Core.Path.{◌∙◌}
 use Prim.Native.Nat.{◌≤◌, ◌-◌}
-use native.Mathlib.Omega.{arith}
 use Rattle.search.specs.Loops.Lanes.{Rows}
-use Rattle.search.proofs.kept.Kept.{rows_none}
-use Rattle.search.proofs.Running.{GoingChosen, choosing_none, choosing_on, choosing_stops, choosing_end}
-use borrow.Author.Rules.{rules}
+use Rattle.search.proofs.Running.{GoingChosen}
 use Rattle.search.proofs.choose_on.Given as goal
 
 abbrev pub invariant-loop-taken : goal.invariant-loop-taken

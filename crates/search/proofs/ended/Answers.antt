@@ -1,5 +1,4 @@
 -- `search::ended` meets its contract.
-use borrow.Author.Rules.{rules}
 use Rattle.search.proofs.Ending.{ended_made}
 use Rattle.search.proofs.ended.Goals as goal
 

@@ -13,7 +13,7 @@ use lib.Count.{ones-le}
 use lib.Pow.{pow_mono}
 use borrow.Author.Tests.{eq-eqb, ne_eqb}
 use Rattle.problem.specs.Masks.{bit, size}
-use Rattle.problem.specs.Lists.{total, some}
+use Rattle.problem.specs.Lists.{total}
 use Rattle.splits.specs.Subproblems.{domain}
 use Rattle.splits.specs.Checks.{values_in, others}
 use Rattle.splits.specs.declared.subproblem.Subproblem.{Subproblem}

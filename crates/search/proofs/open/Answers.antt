@@ -1,5 +1,4 @@
 -- `search::open` meets its contract.
-use borrow.Author.Rules.{rules}
 use Rattle.search.proofs.first_checks.Admitting.{openable}
 use Rattle.search.proofs.Ending.{opens_refused, opens_made}
 use Rattle.search.proofs.open.Goals as goal

@@ -1,10 +1,6 @@
 -- `search::run_on` meets its contract. The invariant: the run from here on is the whole run.
-use mathlib.Core.Path.{◌∙◌}
 use Prim.Native.Nat.{◌≤◌, ◌-◌}
-use native.Mathlib.Omega.{arith}
-use lib.ListN.{length}
-use borrow.Author.Rules.{rules}
-use Rattle.search.proofs.Running.{Going, going_none, going_on, going_stops, going_end, request_within}
+use Rattle.search.proofs.Running.{Going}
 use Rattle.search.proofs.run_on.Given as goal
 
 abbrev pub invariant-loop-taken : goal.invariant-loop-taken

@@ -1,8 +1,6 @@
 -- `search::step_by` meets its contract.
 use mathlib.Core.Path.{ap}
 use mathlib.Core.Bool.{not}
-use mathlib.Core.Logic.{⊎_elim}
-use borrow.Author.Rules.{rules}
 use Rattle.search.proofs.Running.{used_slot, ready_used, finished_empty, finished_is, stays, taking}
 use Rattle.search.proofs.step_by.Goals.{then-subproblems-ne0+else-not-all_instantiated, else-subproblems-ne0}
 use Rattle.search.proofs.step_by.Goals as goal

@@ -1,8 +1,6 @@
 -- `search::step_chosen` meets its contract.
 use mathlib.Core.Bool.{not}
-use native.Mathlib.Omega.{arith}
 use mathlib.Core.Path.{refl, ap}
-use mathlib.Core.Logic.{⊎_elim}
 use Rattle.search.proofs.Running.{used_slot, ready_used, finished_empty, finished_is, stays_chosen, taking, chosen_stops}
 use Rattle.search.proofs.step_chosen.Goals.{then-subproblems-ne0+else-not-all_instantiated, else-subproblems-ne0}
 use Rattle.search.proofs.step_chosen.Goals as goal

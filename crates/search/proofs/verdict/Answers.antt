@@ -1,5 +1,4 @@
 -- `search::verdict` meets its contract.
-use borrow.Author.Rules.{rules}
 use Rattle.search.proofs.Running.{used_slot, verdict_empty, verdict_solved, verdict_running}
 use Rattle.search.proofs.verdict.Goals as goal
 

@@ -2,7 +2,6 @@
 use Rattle.std.specs.Prelude.{◌≡◌, ◌⊎◌, cond, List, [], ℕ, ◌+◌, ◌*◌, ◌/◌, ◌≤◌, ◌<◌, length, get_or, ltb}
 use Rattle.problem.specs.Masks.{bit, common, size}
 use Rattle.problem.specs.Problem.{table_of}
-use Rattle.problem.specs.Lists.{some}
 use Rattle.problem.specs.Beside.{RowOf}
 
 -- Sixteen variables of a set, from one on.

@@ -3,7 +3,6 @@ use mathlib.Core.Path.{sym, ◌∙◌, ap}
 use mathlib.Core.Bool.{and-false, not}
 use borrow.Author.Tests.{not-true, not-false}
 use Rattle.word_bytes.specs.Bytes.{all_fit}
-use borrow.Author.Rules.{rules}
 use Rattle.word_bytes.proofs.all_fit.Goals as goal
 
 pub returns-then-not-fits : goal.returns-then-not-fits

@@ -1,12 +1,9 @@
 -- `word_bytes::bytes_of` meets its contract. The invariant: the bytes of the words passed are written.
-use mathlib.Core.Path.{◌≡◌, refl}
+use mathlib.Core.Path.{◌≡◌}
 use mathlib.Core.List.{◌++◌}
 use Prim.Native.Nat.{◌-◌, ◌*◌, ◌/◌, ◌≤◌, min}
-use native.Mathlib.Omega.{arith}
-use lib.ListN.{length, take, drop, length-set}
+use lib.ListN.{length, take, drop}
 use Rattle.word_bytes.specs.Bytes.{bytes_of}
-use Rattle.word_bytes.proofs.Words.{bytes_more, bytes_end}
-use borrow.Author.Rules.{rules}
 use Rattle.word_bytes.proofs.bytes_of.Given as goal
 
 abbrev pub invariant-loop-i : goal.invariant-loop-i

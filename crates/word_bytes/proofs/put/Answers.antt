@@ -1,12 +1,8 @@
 -- `word_bytes::put` meets its contract. The invariant: the words passed stand at the front.
-use mathlib.Core.Path.{◌≡◌, refl}
-use mathlib.Core.List.{◌++◌}
-use Prim.Native.Nat.{◌-◌, ◌/◌, ◌<◌}
+use mathlib.Core.Path.{refl}
 use native.Mathlib.Omega.{arith}
-use lib.ListN.{length, take, drop, length-set}
-use Rattle.word_bytes.specs.Bytes.{words_of}
+use lib.ListN.{length-set}
 use Rattle.word_bytes.proofs.Words.{word_more, put_end}
-use borrow.Author.Rules.{rules}
 use Rattle.word_bytes.proofs.put.Goals as goal
 
 pub loop-i-init : goal.loop-i-init

@@ -1,12 +1,9 @@
 -- `word_bytes::put` meets its contract. The invariant: the words passed stand at the front.
-use mathlib.Core.Path.{◌≡◌, refl}
+use mathlib.Core.Path.{◌≡◌}
 use mathlib.Core.List.{◌++◌}
 use Prim.Native.Nat.{◌-◌, ◌/◌, ◌<◌}
-use native.Mathlib.Omega.{arith}
-use lib.ListN.{length, take, drop, length-set}
+use lib.ListN.{length, take, drop}
 use Rattle.word_bytes.specs.Bytes.{words_of}
-use Rattle.word_bytes.proofs.Words.{word_more, put_end}
-use borrow.Author.Rules.{rules}
 use Rattle.word_bytes.proofs.put.Given as goal
 
 abbrev pub invariant-loop-i : goal.invariant-loop-i

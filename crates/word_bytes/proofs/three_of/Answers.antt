@@ -3,7 +3,6 @@ use mathlib.Core.Bool.{not}
 use mathlib.Core.Path.{sym, ◌∙◌, ap}
 use borrow.Author.Tests.{not-true, not-false}
 use Rattle.word_bytes.proofs.Fitting.{all_true, puts_none, puts_so}
-use borrow.Author.Rules.{rules}
 use Rattle.word_bytes.proofs.three_of.Goals as goal
 
 pub returns-then-not-all_fit : goal.returns-then-not-all_fit

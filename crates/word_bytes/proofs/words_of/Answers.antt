@@ -3,7 +3,6 @@ use mathlib.Core.Bool.{not}
 use mathlib.Core.Path.{sym, ◌∙◌, ap}
 use borrow.Author.Tests.{not-true, not-false}
 use Rattle.word_bytes.proofs.Fitting.{some_not, fits_true, puts_none, puts_empty, puts_so}
-use borrow.Author.Rules.{rules}
 use Rattle.word_bytes.proofs.words_of.Goals as goal
 
 pub returns-then-not-fits : goal.returns-then-not-fits

@@ -1,9 +1,7 @@
 -- `word_bytes::zeros` meets its contract. The invariant: the bits are none if the bytes passed are 0.
 use Prim.Native.Nat.{◌-◌, ◌≤◌}
-use native.Mathlib.Omega.{arith}
 use lib.ListN.{length}
-use Rattle.word_bytes.proofs.Zero.{ZerosTo, zeros_none, zeros_more, zeros_all}
-use borrow.Author.Rules.{rules}
+use Rattle.word_bytes.proofs.Zero.{ZerosTo}
 use Rattle.word_bytes.proofs.zeros.Given as goal
 
 abbrev pub invariant-loop-i : goal.invariant-loop-i

@@ -1,9 +1,7 @@
 -- `search::agenda::clear` meets its contract. The invariant: the words before k are zeros.
 use mathlib.Core.Path.{◌≡◌, refl}
-use mathlib.Core.List.{◌++◌}
-use Prim.Native.Nat.{◌≤◌, ◌-◌}
 use native.Mathlib.Omega.{arith}
-use lib.ListN.{length, drop, replicate, length-set}
+use lib.ListN.{length, length-set}
 use Rattle.problem.proofs.Copies.{zeros_end, zeros_more}
 use Rattle.search.proofs.agenda.clear.Goals as goal
 

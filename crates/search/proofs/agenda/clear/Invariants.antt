@@ -1,10 +1,8 @@
 -- `search::agenda::clear` meets its contract. The invariant: the words before k are zeros.
-use mathlib.Core.Path.{◌≡◌, refl}
+use mathlib.Core.Path.{◌≡◌}
 use mathlib.Core.List.{◌++◌}
 use Prim.Native.Nat.{◌≤◌, ◌-◌}
-use native.Mathlib.Omega.{arith}
-use lib.ListN.{length, drop, replicate, length-set}
-use Rattle.problem.proofs.Copies.{zeros_end, zeros_more}
+use lib.ListN.{length, drop, replicate}
 use Rattle.search.proofs.agenda.clear.Given as goal
 
 abbrev pub invariant-loop-k : goal.invariant-loop-k

@@ -1,5 +1,4 @@
 -- `search::agenda::clear_slot` meets its contract.
-use native.Mathlib.Omega.{arith}
 use mathlib.Core.Path.{ap, ◌∙◌}
 use Rattle.problem.specs.Lists.{splice}
 use Rattle.search.proofs.Encoding.{slot_none}

@@ -1,12 +1,8 @@
 -- `search::agenda::holding` meets its contract. The invariant: the words before i are copied, and zeros follow.
-use mathlib.Core.Path.{◌≡◌, refl}
+use mathlib.Core.Path.{◌≡◌}
 use mathlib.Core.List.{◌++◌}
-use Prim.Native.Nat.{ℕ, ◌≤◌, ◌-◌}
-use native.Mathlib.Omega.{arith}
-use lib.ListN.{length, drop, take, replicate}
-use borrow.Author.Rules.{rules}
-use Rattle.problem.proofs.Copies.{copy_more}
-use Rattle.search.proofs.Encoding.{holding_made}
+use Prim.Native.Nat.{◌≤◌, ◌-◌}
+use lib.ListN.{drop, take, replicate}
 use Rattle.search.proofs.agenda.holding.Given as goal
 
 abbrev pub invariant-loop-i : goal.invariant-loop-i

@@ -1,9 +1,7 @@
 -- `search::agenda::put_domains` meets its contract. The invariant: the domains before i are copied.
 use mathlib.Core.Path.{◌≡◌, refl}
-use mathlib.Core.List.{◌++◌}
-use Prim.Native.Nat.{◌≤◌, ◌-◌}
 use native.Mathlib.Omega.{arith}
-use lib.ListN.{length, drop, take, length-set}
+use lib.ListN.{length, length-set}
 use Rattle.problem.proofs.Copies.{copy_more}
 use borrow.Author.Rules.{rules}
 use Rattle.search.proofs.agenda.put_domains.Goals as goal

@@ -1,11 +1,8 @@
 -- `search::agenda::put_domains` meets its contract. The invariant: the domains before i are copied.
-use mathlib.Core.Path.{◌≡◌, refl}
+use mathlib.Core.Path.{◌≡◌}
 use mathlib.Core.List.{◌++◌}
 use Prim.Native.Nat.{◌≤◌, ◌-◌}
-use native.Mathlib.Omega.{arith}
-use lib.ListN.{length, drop, take, length-set}
-use Rattle.problem.proofs.Copies.{copy_more}
-use borrow.Author.Rules.{rules}
+use lib.ListN.{length, drop, take}
 use Rattle.search.proofs.agenda.put_domains.Given as goal
 
 abbrev pub invariant-loop-i : goal.invariant-loop-i

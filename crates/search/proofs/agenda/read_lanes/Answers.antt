@@ -1,7 +1,6 @@
 -- `search::agenda::read_lanes` meets its contract.
 use native.Mathlib.Omega.{arith}
 use Rattle.search.proofs.lanes.Halves.{slot_lanes}
-use borrow.Author.Rules.{rules}
 use Rattle.search.proofs.agenda.read_lanes.Goals as goal
 
 pub read_slot-requires : goal.read_slot-requires

@@ -1,6 +1,5 @@
 -- `search::agenda::slot` meets its contract.
 use mathlib.Core.Path.{◌∙◌, ap}
-use native.Mathlib.Omega.{arith}
 use lib.ListN.{length}
 use Rattle.search.proofs.Encoding.{slot_part, slot_long}
 use Rattle.search.proofs.agenda.slot.Goals as goal

@@ -1,6 +1,5 @@
 -- `chooser::further_piece` meets its contract.
 use Rattle.search.proofs.chooser.Spreading.{piece_made}
-use borrow.Author.Rules.{rules}
 use Rattle.search.proofs.chooser.further_piece.Goals as goal
 
 pub returns : goal.returns

@@ -1,6 +1,5 @@
 -- `search::choice::look` meets its contract.
 use borrow.Author.Rules.{rules}
-use native.Mathlib.Omega.{arith}
 use mathlib.Core.Path.{refl}
 use Rattle.search.proofs.kept.Kept.{its_place, row_at, row_more}
 use Rattle.search.proofs.chooser.Settling.{found_inside, found_is}

@@ -1,6 +1,5 @@
 -- `search::choice::settle` meets its contract.
 use mathlib.Core.Path.{◌≡◌}
-use native.Mathlib.Omega.{arith}
 use lib.ListN.{length}
 use Rattle.search.proofs.chooser.Settling.{settle_kept, settle_none, settle_rest}
 use borrow.Author.Rules.{rules}

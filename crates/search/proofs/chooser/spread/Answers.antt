@@ -1,15 +1,11 @@
 -- `search::choice::spread` meets its contract. The invariant: the pieces of the variables from j on are placed.
 use mathlib.Core.Path.{◌≡◌}
-use Prim.Native.Nat.{◌≤◌, ◌+◌}
 use native.Mathlib.Omega.{arith}
 use lib.ListN.{length}
-use Rattle.searches.specs.Chooser.{request}
 use Rattle.search.proofs.agenda.Slots.{slot_end}
-use Rattle.search.proofs.step.Gathering.{Gathered}
 use Rattle.search.proofs.chooser.Settling.{put_variable}
 use Rattle.search.proofs.chooser.Spreading.{spread_drop, spread_slot, spread_keep, spread_none, spread_last, spread_end}
 use borrow.Author.Rules.{rules}
-use Rattle.search.specs.Loops.Found.{value_in}
 use Rattle.search.proofs.chooser.spread.Goals as goal
 
 pub sides-sides-requires : goal.sides-sides-requires

@@ -1,6 +1,5 @@
 -- `first::search_refusal` meets its contract: opening's first checks, then the search.
 use mathlib.Core.Path.{sym, ◌∙◌}
-use borrow.Author.Rules.{rules}
 use Rattle.search.specs.Tests.FirstChecks.{search_refusal}
 use Rattle.problem.proofs.first_checks.Parts.{else_first, else_rest}
 use Rattle.search.proofs.first_checks.FirstParts.{open_parts, open_pass}

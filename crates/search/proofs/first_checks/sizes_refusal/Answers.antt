@@ -1,5 +1,4 @@
 -- `first_checks::sizes_refusal` meets its contract: those of the problem, then the agenda.
-use borrow.Author.Rules.{rules}
 use Rattle.search.proofs.first_checks.FirstParts.{sizes_given, sizes_few, sizes_whole, sizes_odd}
 use Rattle.search.proofs.first_checks.sizes_refusal.Goals as goal
 

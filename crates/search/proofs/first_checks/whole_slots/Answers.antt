@@ -1,7 +1,6 @@
 -- `first::whole_slots` meets its contract: the remainder, then the quotient.
 use mathlib.Core.Bool.{and-false}
 use borrow.Author.Tests.{le-leb, lt-leb, eq-eqb, ne_eqb}
-use borrow.Author.Rules.{rules}
 use Rattle.search.specs.Tests.FirstChecks.{whole_slots}
 use Rattle.search.proofs.first_checks.whole_slots.Goals as goal
 

@@ -1,5 +1,4 @@
 -- `kept::row` meets its contract: the row is in its place, or is made and put there.
-use mathlib.Core.Logic.{⊎_elim}
 use mathlib.Core.Path.{refl}
 use lib.ListN.{length-set}
 use Rattle.search.proofs.kept.Kept.{row_there, row_put}

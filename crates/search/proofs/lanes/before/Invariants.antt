@@ -1,10 +1,6 @@
 -- `lanes::before` meets its contract. The invariant: the first i masks are made.
-use mathlib.Core.Path.{◌≡◌}
 use Prim.Native.Nat.{◌≤◌, ◌-◌}
-use native.Mathlib.Omega.{arith}
 use Rattle.search.specs.Loops.Lanes.{BeforeTo}
-use Rattle.search.proofs.lanes.Halves.{before_none, before_more}
-use borrow.Author.Rules.{rules}
 use Rattle.search.proofs.lanes.before.Given as goal
 
 abbrev pub invariant-loop-i : goal.invariant-loop-i

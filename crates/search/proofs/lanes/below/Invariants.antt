@@ -1,9 +1,6 @@
 -- `search::lanes::below` meets its contract. The invariant: the first i lanes are all bits, the others none.
-use mathlib.Core.Path.{◌≡◌}
 use Prim.Native.Nat.{◌≤◌, ◌-◌}
-use native.Mathlib.Omega.{arith}
 use Rattle.search.specs.Loops.Lanes.{Below}
-use Rattle.search.proofs.lanes.Halves.{below_none, below_more}
 use Rattle.search.proofs.lanes.below.Given as goal
 
 abbrev pub invariant-loop-i : goal.invariant-loop-i

@@ -1,7 +1,6 @@
 -- `search::lanes::beyond` meets its contract.
 use mathlib.Core.Path.{sym, subst}
 use Prim.Native.Nat.{ℕ, ◌-◌}
-use native.Mathlib.Omega.{arith}
 use Rattle.problem.proofs.mask.Masks.{shifted}
 use Rattle.search.specs.Loops.Lanes.{Beyond}
 use Rattle.search.proofs.lanes.Halves.{shift_small, beyond_is}

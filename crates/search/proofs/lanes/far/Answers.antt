@@ -1,5 +1,4 @@
 -- `search::lanes::far` meets its contract.
-use native.Mathlib.Omega.{arith}
 use Rattle.problem.specs.Masks.{bit}
 use borrow.Author.Rules.{rules}
 use Rattle.search.proofs.lanes.far.Goals as goal

@@ -1,6 +1,4 @@
 -- `search::lanes::half` meets its contract.
-use native.Mathlib.Omega.{arith}
-use borrow.Author.Rules.{rules}
 use Rattle.search.proofs.lanes.Halves.{half_is}
 use Rattle.search.proofs.lanes.half.Goals as goal
 

@@ -1,10 +1,6 @@
 -- `search::lanes::least_key` meets its contract. The invariant: the best is the least of the keys of the first i and of the i from 16 on.
-use mathlib.Core.Path.{◌≡◌}
 use Prim.Native.Nat.{◌≤◌, ◌-◌}
-use native.Mathlib.Omega.{arith}
 use Rattle.search.specs.Loops.Lanes.{LeastKey}
-use Rattle.search.proofs.lanes.AtOnce.{least_none, least_more}
-use Rattle.search.proofs.lanes.Halves.{key_in}
 use Rattle.search.proofs.lanes.least_key.Given as goal
 
 abbrev pub invariant-loop-i : goal.invariant-loop-i

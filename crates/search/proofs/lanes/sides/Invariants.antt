@@ -1,9 +1,6 @@
 -- `search::lanes::sides` meets its contract. The invariant: the lanes from 32 up to i are all bits.
-use mathlib.Core.Path.{◌≡◌}
 use Prim.Native.Nat.{◌≤◌, ◌-◌}
-use native.Mathlib.Omega.{arith}
 use Rattle.search.specs.Loops.Lanes.{Sides}
-use Rattle.search.proofs.lanes.Halves.{sides_none, sides_more}
 use Rattle.search.proofs.lanes.sides.Given as goal
 
 abbrev pub invariant-loop-i : goal.invariant-loop-i

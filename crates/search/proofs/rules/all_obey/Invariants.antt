@@ -1,18 +1,11 @@
 -- `rules::all_obey` meets its contract: the loop's invariant: the subproblem of every slot passed obeys the rules.
 use mathlib.Core.Bool.{true}
-use mathlib.Core.Path.{◌≡◌, ap, ◌∙◌}
+use mathlib.Core.Path.{◌≡◌}
 use Prim.Native.Nat.{◌-◌, ◌≤◌}
-use native.Mathlib.Omega.{arith}
 use Rattle.problem.specs.Lists.{every}
 use Rattle.problem.specs.Problem.{problem_of}
-use Rattle.search.specs.Agenda.{subproblem_of}
-use Rattle.search.proofs.agenda.Slots.{slot_below}
-use Rattle.problem.proofs.FirstLoops.{every_start, every_stop, every_turn, every_end}
-use Rattle.search.proofs.first_checks.FirstParts.{slot_obeys, all_slots, slot_obeys_lem}
+use Rattle.search.proofs.first_checks.FirstParts.{slot_obeys}
 use Rattle.search.specs.Loops.Lanes.{Rows}
-use Rattle.search.proofs.kept.Kept.{rows_none}
-use Rattle.search.proofs.rules.Alike.{marks_known}
-use borrow.Author.Rules.{rules}
 use Rattle.search.proofs.rules.all_obey.Given as goal
 
 abbrev pub invariant-loop-k : goal.invariant-loop-k

@@ -1,10 +1,7 @@
 -- `rules::held_of` meets its contract. The invariant: the domains of the instantiated variables before the next one are taken.
-use mathlib.Core.Path.{◌≡◌, refl}
-use Prim.Native.Nat.{◌-◌, ◌<◌}
+use mathlib.Core.Path.{refl}
 use native.Mathlib.Omega.{arith}
-use Rattle.problem.specs.Masks.{bit}
-use Rattle.search.proofs.rules.Marked.{HeldTo, held_start, held_next, held_end}
-use borrow.Author.Rules.{rules}
+use Rattle.search.proofs.rules.Marked.{held_start, held_next, held_end}
 use Rattle.search.proofs.rules.held_of.Goals as goal
 
 pub loop-i-init : goal.loop-i-init

@@ -1,10 +1,8 @@
 -- `rules::held_of` meets its contract. The invariant: the domains of the instantiated variables before the next one are taken.
-use mathlib.Core.Path.{◌≡◌, refl}
+use mathlib.Core.Path.{◌≡◌}
 use Prim.Native.Nat.{◌-◌, ◌<◌}
-use native.Mathlib.Omega.{arith}
 use Rattle.problem.specs.Masks.{bit}
-use Rattle.search.proofs.rules.Marked.{HeldTo, held_start, held_next, held_end}
-use borrow.Author.Rules.{rules}
+use Rattle.search.proofs.rules.Marked.{HeldTo}
 use Rattle.search.proofs.rules.held_of.Given as goal
 
 abbrev pub invariant-loop-i : goal.invariant-loop-i

@@ -1,16 +1,9 @@
 -- `rules::marks_obey` meets its contract: the loop's invariant: every variable before the next instantiated one is as it must be.
-use mathlib.Core.Bool.{true, not}
-use mathlib.Core.Path.{◌≡◌, ap}
-use Prim.Native.Nat.{◌-◌, ◌<◌}
+use mathlib.Core.Bool.{not}
+use mathlib.Core.Path.{ap}
 use native.Mathlib.Nat.{div-one}
 use native.Mathlib.Omega.{arith}
 use borrow.Author.Tests.{eq-eqb, ne_eqb}
-use Rattle.problem.specs.Masks.{bit}
-use Rattle.problem.specs.Problem.{table_of}
-use Rattle.problem.specs.Lists.{every}
-use Rattle.search.specs.Agenda.{subproblem_of}
-use Rattle.search.specs.Loops.FirstTests.{mark_obeys}
-use Rattle.search.specs.Loops.Lanes.{Rows}
 use Rattle.search.proofs.kept.Kept.{row_at, row_more}
 use Rattle.problem.proofs.FirstLoops.{every_start, every_stop, every_turn}
 use Rattle.search.proofs.rules.Marked.{every_past, marks_next, mark_read}

@@ -1,11 +1,8 @@
 -- `rules::missing` meets its contract. The invariant: what is missing of the first j masks is together.
 use mathlib.Core.Path.{◌≡◌}
 use Prim.Native.Nat.{◌-◌, ◌≤◌}
-use native.Mathlib.Omega.{arith}
 use Rattle.problem.specs.Lists.{joined}
 use Rattle.search.specs.Loops.FirstTests.{missing_in}
-use Rattle.problem.proofs.first_checks.Joining.{joined_none, joined_end}
-use Rattle.search.proofs.rules.Marked.{missing_more}
 use Rattle.search.proofs.rules.missing.Given as goal
 
 abbrev pub invariant-loop-j : goal.invariant-loop-j

@@ -4,7 +4,6 @@ use Prim.Native.Nat.{◌/◌, ◌^◌}
 use native.Mathlib.Omega.{arith}
 use lib.Count.{trailing_le}
 use Rattle.search.proofs.rules.Marked.{next_found}
-use borrow.Author.Rules.{rules}
 use Rattle.search.proofs.rules.next_in.Goals as goal
 
 pub overflow_cast-result-2 : goal.overflow_cast-result-2

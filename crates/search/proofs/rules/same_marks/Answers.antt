@@ -1,10 +1,8 @@
 -- `rules::same_marks` meets its contract. The invariant: the marked variables before the next one have the same words.
 use mathlib.Core.Bool.{true≢false}
 use mathlib.Core.Path.{sym}
-use Prim.Native.Nat.{◌-◌}
 use native.Mathlib.Omega.{arith}
-use Rattle.search.proofs.rules.Alike.{AlikeTo, alike_start, alike_next, alike_end}
-use borrow.Author.Rules.{rules}
+use Rattle.search.proofs.rules.Alike.{alike_start, alike_next, alike_end}
 use Rattle.search.proofs.rules.same_marks.Goals as goal
 
 pub returns-then-marked-marked_at : goal.returns-then-marked-marked_at

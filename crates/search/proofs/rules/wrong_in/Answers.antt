@@ -1,9 +1,5 @@
 -- `rules::wrong_in` meets its contract: the loop's invariant: what is wrong with the domains passed is together.
-use mathlib.Core.Path.{◌≡◌}
-use Prim.Native.Nat.{◌-◌, ◌≤◌}
 use native.Mathlib.Omega.{arith}
-use lib.ListN.{length}
-use Rattle.problem.specs.Lists.{joined}
 use Rattle.search.specs.Loops.FirstTests.{wrong_in}
 use Rattle.problem.proofs.first_checks.Joining.{joined_none, joined_more, joined_end}
 use borrow.Author.Rules.{rules}

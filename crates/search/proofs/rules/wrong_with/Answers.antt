@@ -2,7 +2,6 @@
 use Prim.Native.Nat.{◌-◌}
 use native.Mathlib.Omega.{arith}
 use Rattle.search.proofs.rules.Marked.{wrong_front}
-use borrow.Author.Rules.{rules}
 use Rattle.search.proofs.rules.wrong_with.Goals as goal
 
 pub returns-then-n-eq32 : goal.returns-then-n-eq32

@@ -1,12 +1,8 @@
 -- `search::step::piece_count` meets its contract. The invariant: the count is of the first k candidates.
 use mathlib.Core.Path.{◌≡◌, ap, ◌∙◌}
 use mathlib.Core.Bool.{not}
-use mathlib.Core.Logic.{⊎_elim}
-use Prim.Native.Nat.{◌≤◌, ◌-◌}
 use native.Mathlib.Omega.{arith}
 use lib.ListN.{length}
-use Rattle.problem.specs.Problem.{table_of}
-use Rattle.splits.specs.Splits.{candidate}
 use Rattle.search.proofs.step.Candidates.{firsts}
 use Rattle.search.proofs.step.Gathering.{count_more, count_same, count_end}
 use borrow.Author.Rules.{rules}
@@ -28,13 +24,13 @@ loop-k-preserved c =
       omega arith,
       elim c.if-not-is_empty.branch [
         | then-not-is_empty w ↦ (
-            omega (arith, w.count-is),
-            w.count-is ∙ count_more _ _ _ _ _ pre _ _ _ _ _ named more piece inv.1.1 told (ap not w.if-not-is_empty.true),
-          )
+          omega (arith, w.count-is),
+          w.count-is ∙ count_more _ _ _ _ _ pre _ _ _ _ _ named more piece inv.1.1 told (ap not w.if-not-is_empty.true),
+        )
         | else-not-is_empty w ↦ (
-            omega (arith, w.count-is),
-            w.count-is ∙ count_same _ _ _ _ _ pre _ _ _ _ _ named more piece inv.1.1 told (ap not w.if-not-is_empty.false),
-          )
+          omega (arith, w.count-is),
+          w.count-is ∙ count_same _ _ _ _ _ pre _ _ _ _ _ named more piece inv.1.1 told (ap not w.if-not-is_empty.false),
+        )
       ],
     )
 

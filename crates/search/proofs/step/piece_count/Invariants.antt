@@ -1,14 +1,10 @@
 -- `search::step::piece_count` meets its contract. The invariant: the count is of the first k candidates.
-use mathlib.Core.Path.{◌≡◌, ◌∙◌}
-use mathlib.Core.Logic.{⊎_elim}
+use mathlib.Core.Path.{◌≡◌}
 use Prim.Native.Nat.{◌≤◌, ◌-◌}
-use native.Mathlib.Omega.{arith}
 use lib.ListN.{length}
 use Rattle.problem.specs.Problem.{table_of}
 use Rattle.splits.specs.Splits.{candidate}
 use Rattle.search.proofs.step.Candidates.{firsts}
-use Rattle.search.proofs.step.Gathering.{count_more, count_same, count_end}
-use borrow.Author.Rules.{rules}
 use Rattle.search.proofs.step.piece_count.Given as goal
 
 abbrev pub invariant-loop-k : goal.invariant-loop-k

@@ -8,7 +8,7 @@ use borrow.Author.Tests.{not-false}
 use borrow.Author.Rules.{rules}
 use Rattle.splits.proofs.split.ByKind.{few}
 use Rattle.search.proofs.agenda.Slots.{slot_end}
-use Rattle.search.proofs.step.Gathering.{named_is, Gathered, gather_none, gather_less, gather_drop, gather_slot, gather_keep, gather_end}
+use Rattle.search.proofs.step.Gathering.{named_is, gather_none, gather_less, gather_drop, gather_slot, gather_keep, gather_end}
 use Rattle.search.proofs.step.place.Goals as goal
 
 pub loop-k-init : goal.loop-k-init

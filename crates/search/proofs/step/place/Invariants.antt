@@ -1,13 +1,6 @@
 -- `search::step::place` meets its contract. The invariant: the candidates from k on are placed.
-use mathlib.Core.Path.{◌≡◌}
-use Prim.Native.Nat.{◌≤◌, ◌+◌}
-use native.Mathlib.Omega.{arith}
-use lib.ListN.{length}
-use borrow.Author.Tests.{not-false}
-use borrow.Author.Rules.{rules}
-use Rattle.splits.proofs.split.ByKind.{few}
-use Rattle.search.proofs.agenda.Slots.{slot_end}
-use Rattle.search.proofs.step.Gathering.{named_is, Gathered, gather_none, gather_less, gather_drop, gather_slot, gather_keep, gather_end}
+use Prim.Native.Nat.{◌≤◌}
+use Rattle.search.proofs.step.Gathering.{Gathered}
 use Rattle.search.proofs.step.place.Given as goal
 
 abbrev pub invariant-loop-k : goal.invariant-loop-k

@@ -1,6 +1,5 @@
 -- `search::step::refusal_of` meets its contract.
 use mathlib.Core.Path.{sym, ◌∙◌}
-use borrow.Author.Rules.{rules}
 use Rattle.search.proofs.step.Accepting.{accepted_reads, refused_at_11, refused_by_top, refused_at_12, refused_by_none}
 use Rattle.search.proofs.step.refusal_of.Goals as goal
 

@@ -1,6 +1,5 @@
 -- `search::step::taken` meets its contract.
 use mathlib.Core.Path.{refl}
-use borrow.Author.Rules.{rules}
 use Rattle.search.proofs.step.taken.Goals as goal
 
 pub returns : goal.returns
