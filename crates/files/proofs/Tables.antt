@@ -3,7 +3,7 @@
 use mathlib.Core.Path.{sym}
 use Prim.Native.Nat.{ℕ, ◌<◌, ◌^◌}
 use Rattle.problem.specs.Problem.{Problem, Proper, Table, AllowSame}
-use Rattle.splits.specs.Subproblems.{domain, Rules}
+use Rattle.splits.specs.Subproblems.{Rules}
 use Rattle.splits.specs.declared.subproblem.Subproblem.{Subproblem}
 use Rattle.problem.proofs.mask.Masks.{member_lt}
 

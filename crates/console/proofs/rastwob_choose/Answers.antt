@@ -1,7 +1,6 @@
 -- `console::rastwob_choose` meets its contract.
 use mathlib.Core.Path.{refl}
 use Rattle.console.proofs.calls.Refusing.{chooses_state}
-use borrow.Author.Rules.{rules}
 use Rattle.console.proofs.rastwob_choose.Goals as goal
 
 pub returns : goal.returns

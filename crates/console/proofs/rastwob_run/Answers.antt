@@ -1,7 +1,6 @@
 -- `console::rastwob_run` meets its contract.
 use mathlib.Core.Path.{refl}
 use Rattle.console.proofs.calls.Refusing.{runs_state}
-use borrow.Author.Rules.{rules}
 use Rattle.console.proofs.rastwob_run.Goals as goal
 
 pub returns : goal.returns

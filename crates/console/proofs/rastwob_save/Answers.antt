@@ -1,7 +1,6 @@
 -- `console::rastwob_save` meets its contract.
 use mathlib.Core.Path.{refl}
 use Rattle.console.proofs.calls.Refusing.{saves_state}
-use borrow.Author.Rules.{rules}
 use Rattle.console.proofs.rastwob_save.Goals as goal
 
 pub returns : goal.returns

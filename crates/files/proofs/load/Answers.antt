@@ -2,7 +2,6 @@
 use mathlib.Core.Bool.{not}
 use mathlib.Core.Path.{sym, ◌∙◌, ap}
 use native.Mathlib.Omega.{arith}
-use borrow.Author.Rules.{rules}
 use Rattle.blocks.proofs.Whole.{refusal_is}
 use Rattle.files.proofs.reading.Refused.{refused_14, refused_sizes}
 use Rattle.files.proofs.LoadOutcomes.{load_refused, load_read}

@@ -1,6 +1,5 @@
 -- `load_content` meets its contract: refused, nothing is changed; else the search is written.
 use native.Mathlib.Omega.{arith}
-use borrow.Author.Rules.{rules}
 use Rattle.files.proofs.reading.Refused.{read_numbers}
 use Rattle.files.proofs.LoadOutcomes.{load_refused, made_ready, made_count, made_fits, load_lent, load_accepted}
 use Rattle.files.proofs.load_content.Goals as goal

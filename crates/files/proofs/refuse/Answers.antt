@@ -1,6 +1,5 @@
 -- `refuse` meets its contract.
 use mathlib.Core.Path.{refl, ap}
-use borrow.Author.Rules.{rules}
 use Rattle.search.specs.declared.state.State.{State}
 use Rattle.files.proofs.refuse.Goals as goal
 

@@ -1,7 +1,6 @@
 -- `save` meets its contract: refused, nothing is changed; else the blocks are written.
 use mathlib.Core.Path.{refl, ◌∙◌}
 use native.Mathlib.Omega.{arith}
-use borrow.Author.Rules.{rules}
 use Rattle.files.proofs.SaveOutcomes.{save_passed, save_refused, save_short, save_written, save_part}
 use Rattle.files.proofs.filling.Filled.{zeros_long}
 use Rattle.files.proofs.save.Goals as goal

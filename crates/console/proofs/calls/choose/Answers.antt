@@ -6,7 +6,6 @@ use Rattle.word_bytes.proofs.Fitting.{count_is}
 use Rattle.console.proofs.rooms.Testing.{room_true, room_whole, room_false}
 use Rattle.console.proofs.calls.Lending.{said_last, left_long, chooses_words, choose_fits}
 use Rattle.console.proofs.calls.Refusing.{chooses_turned, chooses_long}
-use borrow.Author.Rules.{rules}
 use Rattle.console.proofs.calls.choose.Goals as goal
 
 pub returns-then-not-room_for : goal.returns-then-not-room_for

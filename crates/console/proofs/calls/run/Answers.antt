@@ -7,7 +7,6 @@ use Rattle.console.proofs.rooms.Testing.{room_then, room_false, listed_then, lis
 use Rattle.console.proofs.fronts.Measuring.{front_fits, front_room, front_whole_problem}
 use Rattle.console.proofs.calls.Refusing.{runs_long, runs_turned, runs_cut}
 use Rattle.console.proofs.calls.Lending.{front_runs}
-use borrow.Author.Rules.{rules}
 use Rattle.console.proofs.calls.run.Goals as goal
 
 pub returns-then-not-whole_list : goal.returns-then-not-whole_list

@@ -3,7 +3,6 @@ use mathlib.Core.Path.{refl}
 use native.Mathlib.Omega.{arith}
 use Rattle.word_bytes.proofs.Fitting.{count_is}
 use Rattle.console.proofs.calls.Lending.{said_one, left_fits, left_count, left_bytes, runs_at}
-use borrow.Author.Rules.{rules}
 use Rattle.console.proofs.calls.run_long.Goals as goal
 
 pub slice_bounds-words_of-end : goal.slice_bounds-words_of-end

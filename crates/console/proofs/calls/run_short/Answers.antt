@@ -4,7 +4,6 @@ use native.Mathlib.Omega.{arith}
 use Rattle.word_bytes.proofs.Fitting.{count_is, words_said}
 use Rattle.console.proofs.rooms.Testing.{listed_even}
 use Rattle.console.proofs.calls.Lending.{said_one, left_fits, left_count, left_bytes, few_runs, runs_at}
-use borrow.Author.Rules.{rules}
 use Rattle.console.proofs.calls.run_short.Goals as goal
 
 pub slice_bounds-words_of-end : goal.slice_bounds-words_of-end

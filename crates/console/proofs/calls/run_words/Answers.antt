@@ -3,7 +3,6 @@ use mathlib.Core.Path.{refl}
 use Rattle.word_bytes.proofs.Fitting.{count_is}
 use Rattle.console.proofs.rooms.Testing.{few_short}
 use Rattle.console.proofs.calls.Lending.{said_one, runs_words}
-use borrow.Author.Rules.{rules}
 use Rattle.console.proofs.calls.run_words.Goals as goal
 
 pub slice_bounds-words_of-end : goal.slice_bounds-words_of-end

@@ -2,7 +2,6 @@
 use mathlib.Core.Path.{refl}
 use native.Mathlib.Omega.{arith}
 use Rattle.console.proofs.fronts.Measuring.{front_few, front_used, front_all}
-use borrow.Author.Rules.{rules}
 use Rattle.console.proofs.fronts.front.Goals as goal
 
 pub overflow_mul-used : goal.overflow_mul-used

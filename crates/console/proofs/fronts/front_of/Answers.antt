@@ -1,6 +1,5 @@
 -- `console::fronts::front_of` meets its contract.
 use Rattle.console.proofs.fronts.Measuring.{front_zeros, front_whole}
-use borrow.Author.Rules.{rules}
 use Rattle.console.proofs.fronts.front_of.Goals as goal
 
 pub returns-then-zeros : goal.returns-then-zeros

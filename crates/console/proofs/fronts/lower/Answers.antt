@@ -1,7 +1,6 @@
 -- `console::fronts::lower` meets its contract.
 use native.Mathlib.Omega.{arith}
 use Rattle.console.proofs.fronts.Measuring.{lower_few}
-use borrow.Author.Rules.{rules}
 use Rattle.console.proofs.fronts.lower.Goals as goal
 
 pub overflow_mul-words : goal.overflow_mul-words

@@ -2,7 +2,6 @@
 use mathlib.Core.Path.{refl}
 use native.Mathlib.Omega.{arith}
 use Rattle.console.proofs.fronts.Measuring.{reach_few, reach_bytes, reach_shorter, reach_all}
-use borrow.Author.Rules.{rules}
 use Rattle.console.proofs.fronts.reach.Goals as goal
 
 pub returns-then-agenda-slot-ne0 : goal.returns-then-agenda-slot-ne0

@@ -1,6 +1,5 @@
 -- `console::fronts::write_back` meets its contract.
 use Rattle.console.proofs.fronts.Measuring.{written_back}
-use borrow.Author.Rules.{rules}
 use Rattle.console.proofs.fronts.write_back.Goals as goal
 
 pub returns : goal.returns

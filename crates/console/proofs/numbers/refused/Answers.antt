@@ -3,7 +3,6 @@ use mathlib.Core.Path.{ap}
 use Prim.Native.Nat.{ℕ}
 use Rattle.search.specs.declared.state.Ran.{Ran}
 use Rattle.searches.specs.declared.verdict.Verdict.TheVariants.{None}
-use borrow.Author.Rules.{rules}
 use Rattle.console.proofs.numbers.refused.Goals as goal
 
 pub returns : goal.returns

@@ -2,7 +2,6 @@
 use mathlib.Core.Path.{ap}
 use Prim.Native.Nat.{ℕ}
 use Rattle.files.specs.declared.saved.Saved.{Saved}
-use borrow.Author.Rules.{rules}
 use Rattle.console.proofs.numbers.unsaved.Goals as goal
 
 pub returns : goal.returns

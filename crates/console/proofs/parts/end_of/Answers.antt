@@ -1,6 +1,5 @@
 -- `console::parts::end_of` meets its contract.
 use Rattle.console.proofs.parts.SoFar.{part_last, part_full}
-use borrow.Author.Rules.{rules}
 use Rattle.console.proofs.parts.end_of.Goals as goal
 
 pub returns-then-bytes-at : goal.returns-then-bytes-at

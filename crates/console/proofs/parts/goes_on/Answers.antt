@@ -1,7 +1,6 @@
 -- `console::parts::goes_on` meets its contract.
 use borrow.Author.Tests.{eq-eqb, ne_eqb}
 use Rattle.console.specs.Loops.Parts.{goes_on}
-use borrow.Author.Rules.{rules}
 use Rattle.console.proofs.parts.goes_on.Goals as goal
 
 pub returns-then-ran-ne0 : goal.returns-then-ran-ne0

@@ -2,7 +2,6 @@
 use mathlib.Core.Path.{refl}
 use Rattle.word_bytes.proofs.Fitting.{count_is, words_said}
 use Rattle.console.proofs.parts.Runs.{runs_list}
-use borrow.Author.Rules.{rules}
 use Rattle.console.proofs.parts.run_part.Goals as goal
 
 pub slice_bounds-words_of-end : goal.slice_bounds-words_of-end

@@ -1,10 +1,8 @@
 -- `console::parts::run_parts` meets its contract. The invariant: whatever is run of what the parts so far left is run after them.
 use mathlib.Core.Bool.{not}
 use mathlib.Core.Path.{refl, ap}
-use Prim.Native.Nat.{◌-◌}
 use native.Mathlib.Omega.{arith}
-use lib.ListN.{length}
-use Rattle.console.proofs.parts.SoFar.{Going, part_asks, so_far_none, part_taken, go_again, stepped_again, returns_end, returns_stop}
+use Rattle.console.proofs.parts.SoFar.{part_asks, so_far_none, part_taken, go_again, stepped_again, returns_end, returns_stop}
 use borrow.Author.Rules.{rules}
 use Rattle.console.proofs.parts.run_parts.Goals as goal
 

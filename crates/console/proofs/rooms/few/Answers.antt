@@ -1,7 +1,6 @@
 -- `console::rooms::few` meets its contract.
 use borrow.Author.Tests.{le-leb, lt-leb}
 use Rattle.console.specs.Loops.Rooms.{few}
-use borrow.Author.Rules.{rules}
 use Rattle.console.proofs.rooms.few.Goals as goal
 
 pub returns-then-agenda : goal.returns-then-agenda

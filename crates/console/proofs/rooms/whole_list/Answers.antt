@@ -1,7 +1,6 @@
 -- `console::rooms::whole_list` meets its contract.
 use borrow.Author.Tests.{le-leb, lt-leb}
 use Rattle.console.specs.Loops.Rooms.{whole_list}
-use borrow.Author.Rules.{rules}
 use Rattle.console.proofs.rooms.whole_list.Goals as goal
 
 pub returns-then-n-gt32 : goal.returns-then-n-gt32

@@ -1,5 +1,4 @@
 -- `content::agenda_from` meets its contract.
-use borrow.Author.Rules.{rules}
 use mathlib.Core.Path.{refl}
 use native.Mathlib.Omega.{arith}
 use Rattle.files.proofs.filling.Mirrors.{square_few, triangle_few}

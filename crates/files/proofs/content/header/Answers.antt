@@ -1,5 +1,4 @@
 -- `content::header` meets its contract.
-use borrow.Author.Rules.{rules}
 use mathlib.Core.Path.{refl}
 use Rattle.files.specs.Loops.Saved.{header}
 use Rattle.files.proofs.content.header.Goals as goal

@@ -1,5 +1,4 @@
 -- `content::masks_after` meets its contract.
-use borrow.Author.Rules.{rules}
 use Rattle.files.proofs.content.Written.{row_in}
 use Rattle.files.proofs.content.masks_after.Goals as goal
 

@@ -1,5 +1,4 @@
 -- `content::put` meets its contract: its parts are written one after the other.
-use borrow.Author.Rules.{rules}
 use mathlib.Core.Path.{sym, ◌∙◌}
 use native.Mathlib.Omega.{arith}
 use Rattle.files.proofs.filling.Filled.{zeros_long}

@@ -1,11 +1,8 @@
 -- `content::put_masks` meets its contract. The invariant: the rows passed are written.
-use borrow.Author.Rules.{rules}
 use Prim.Native.Nat.{◌-◌, ◌≤◌}
-use native.Mathlib.Omega.{arith}
 use Rattle.problem.specs.Problem.{table_of}
 use Rattle.files.proofs.Triangle.{row}
-use Rattle.files.proofs.filling.Filled.{Passed, passed_none}
-use Rattle.files.proofs.content.Written.{row_room, rows_more, rows_end}
+use Rattle.files.proofs.filling.Filled.{Passed}
 use Rattle.files.proofs.content.put_masks.Given as goal
 
 abbrev pub invariant-loop-i : goal.invariant-loop-i

@@ -1,5 +1,4 @@
 -- `content::slots` meets its contract.
-use borrow.Author.Rules.{rules}
 use Rattle.files.proofs.filling.Mirrors.{slots_fit, slots_within, slots_found}
 use Rattle.files.proofs.content.slots.Goals as goal
 

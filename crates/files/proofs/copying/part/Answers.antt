@@ -1,5 +1,4 @@
 -- `copying::part` meets its contract.
-use borrow.Author.Rules.{rules}
 use mathlib.Core.Path.{refl}
 use Rattle.files.proofs.filling.Mirrors.{part_in_lem, part_long}
 use Rattle.files.proofs.copying.part.Goals as goal

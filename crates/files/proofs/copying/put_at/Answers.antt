@@ -1,5 +1,4 @@
 -- `copying::put_at` meets its contract.
-use borrow.Author.Rules.{rules}
 use mathlib.Core.Path.{refl}
 use Rattle.problem.proofs.Copies.{put_part}
 use Rattle.files.proofs.copying.put_at.Goals as goal

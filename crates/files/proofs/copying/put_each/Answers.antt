@@ -1,10 +1,7 @@
 -- `copying::put_each` meets its contract. The invariant: the words passed are copied.
-use borrow.Author.Rules.{rules}
 use mathlib.Core.Path.{◌≡◌, refl, sym, ◌∙◌}
-use mathlib.Core.List.{◌++◌}
-use Prim.Native.Nat.{◌-◌, ◌≤◌}
 use native.Mathlib.Omega.{arith}
-use lib.ListN.{length, take, drop, length-set}
+use lib.ListN.{length, length-set}
 use Rattle.problem.proofs.Copies.{copy_more}
 use Rattle.files.proofs.filling.Filled.{copy_whole}
 use Rattle.files.proofs.copying.put_each.Goals as goal

@@ -1,12 +1,8 @@
 -- `copying::put_each` meets its contract. The invariant: the words passed are copied.
-use borrow.Author.Rules.{rules}
-use mathlib.Core.Path.{◌≡◌, refl, sym, ◌∙◌}
+use mathlib.Core.Path.{◌≡◌}
 use mathlib.Core.List.{◌++◌}
 use Prim.Native.Nat.{◌-◌, ◌≤◌}
-use native.Mathlib.Omega.{arith}
-use lib.ListN.{length, take, drop, length-set}
-use Rattle.problem.proofs.Copies.{copy_more}
-use Rattle.files.proofs.filling.Filled.{copy_whole}
+use lib.ListN.{length, take, drop}
 use Rattle.files.proofs.copying.put_each.Given as goal
 
 abbrev pub invariant-loop-i : goal.invariant-loop-i

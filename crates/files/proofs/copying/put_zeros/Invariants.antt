@@ -1,9 +1,7 @@
 -- `copying::put_zeros` meets its contract. The invariant: the words passed are zero.
-use borrow.Author.Rules.{rules}
 use Prim.Native.Nat.{◌-◌}
-use native.Mathlib.Omega.{arith}
 use lib.ListN.{length}
-use Rattle.files.proofs.filling.Filled.{Zeroed, zeroed_none, zeroed_more, zeroed_end}
+use Rattle.files.proofs.filling.Filled.{Zeroed}
 use Rattle.files.proofs.copying.put_zeros.Given as goal
 
 abbrev pub invariant-loop-i : goal.invariant-loop-i

@@ -1,5 +1,4 @@
 -- `filling::after` meets its contract.
-use borrow.Author.Rules.{rules}
 use native.Mathlib.Omega.{arith}
 use Rattle.files.proofs.filling.Filled.{after_read, after_fits}
 use Rattle.files.proofs.filling.after.Goals as goal

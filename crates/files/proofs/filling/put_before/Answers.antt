@@ -1,9 +1,6 @@
 -- `filling::put_before` meets its contract. The invariant: the pairs passed are written.
-use borrow.Author.Rules.{rules}
-use Prim.Native.Nat.{◌-◌, ◌≤◌}
 use native.Mathlib.Omega.{arith}
-use Rattle.files.specs.Loops.Said.{pair_part}
-use Rattle.files.proofs.filling.Filled.{Passed, passed_none, pair_room, pairs_more, pairs_end}
+use Rattle.files.proofs.filling.Filled.{passed_none, pair_room, pairs_more, pairs_end}
 use Rattle.files.proofs.filling.put_before.Goals as goal
 
 pub loop-j-init : goal.loop-j-init

@@ -1,7 +1,6 @@
 -- `filling::put_search` meets its contract.
 use mathlib.Core.Path.{◌∙◌}
 use native.Mathlib.Omega.{arith}
-use borrow.Author.Rules.{rules}
 use Rattle.files.proofs.filling.Filled.{padded_put}
 use Rattle.files.proofs.filling.Mirrors.{domains_put, slots_room, slots_put}
 use Rattle.files.proofs.filling.put_search.Goals as goal

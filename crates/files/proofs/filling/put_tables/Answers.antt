@@ -1,9 +1,6 @@
 -- `filling::put_tables` meets its contract. The invariant: the rows passed are written.
-use borrow.Author.Rules.{rules}
-use Prim.Native.Nat.{◌-◌, ◌≤◌}
 use native.Mathlib.Omega.{arith}
-use Rattle.files.specs.Loops.Said.{row_part}
-use Rattle.files.proofs.filling.Filled.{Passed, passed_none, before_room, own_fits, after_room, rows_more, tables_end}
+use Rattle.files.proofs.filling.Filled.{passed_none, before_room, own_fits, after_room, rows_more, tables_end}
 use Rattle.files.proofs.filling.put_tables.Goals as goal
 
 pub loop-i-init : goal.loop-i-init

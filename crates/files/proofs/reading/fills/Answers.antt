@@ -1,5 +1,4 @@
 -- `reading::fills` meets its contract.
-use borrow.Author.Rules.{rules}
 use Rattle.files.proofs.reading.Found.{filled_not, filled_zeros}
 use Rattle.files.proofs.reading.fills.Goals as goal
 

@@ -1,7 +1,6 @@
 -- `reading::is_sized` meets its contract.
 use mathlib.Core.Path.{ap}
 use mathlib.Core.Bool.{not}
-use borrow.Author.Rules.{rules}
 use Rattle.files.proofs.reading.Refused.{numbers_found, sized_numbers_not, sized_blocks}
 use Rattle.files.proofs.reading.is_sized.Goals as goal
 

@@ -1,5 +1,4 @@
 -- `reading::numbers_fit` meets its contract.
-use borrow.Author.Rules.{rules}
 use Rattle.files.proofs.reading.Found.{numbers_bad, numbers_good}
 use Rattle.files.proofs.reading.numbers_fit.Goals as goal
 

@@ -1,7 +1,6 @@
 -- `reading::refusal` meets its contract.
 use mathlib.Core.Path.{sym, ◌∙◌}
 use native.Mathlib.Omega.{arith}
-use borrow.Author.Rules.{rules}
 use Rattle.files.proofs.reading.Refused.{refused_15, refused_3, slots_last, twelve, none_left, read_numbers}
 use Rattle.files.proofs.reading.refusal.Goals as goal
 

@@ -1,6 +1,5 @@
 -- `reading::refusal_of_rules` meets its contract.
 use native.Mathlib.Omega.{arith}
-use borrow.Author.Rules.{rules}
 use Rattle.files.proofs.reading.Refused.{read_numbers}
 use Rattle.files.proofs.reading.Checked.{rules_kept, rules_broken}
 use Rattle.files.proofs.reading.refusal_of_rules.Goals as goal

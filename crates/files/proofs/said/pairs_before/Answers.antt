@@ -1,5 +1,4 @@
 -- `said::pairs_before` meets its contract.
-use borrow.Author.Rules.{rules}
 use native.Mathlib.Omega.{arith}
 use Rattle.files.proofs.filling.Mirrors.{pairs}
 use Rattle.files.proofs.said.pairs_before.Goals as goal

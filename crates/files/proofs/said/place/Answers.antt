@@ -1,5 +1,4 @@
 -- `said::place` meets its contract.
-use borrow.Author.Rules.{rules}
 use native.Mathlib.Omega.{arith}
 use Rattle.files.proofs.filling.Mirrors.{place_within, place_made}
 use Rattle.files.proofs.said.place.Goals as goal

@@ -5,20 +5,7 @@ use Rattle.answer.proofs.Short.{counts_short}
 use native.Mathlib.Omega.{arith}
 use Rattle.answer.proofs.Writing.{adds_both}
 use borrow.Author.Rules.{rules}
-use Rattle.answer.proofs.text.Text.with_counts.Reads as reads
-use Rattle.answer.proofs.text.Text.with_counts.Lts as lts
-use Rattle.answer.proofs.text.Text.with_byte.Reads as with-byte-reads
-use Rattle.answer.proofs.text.Text.with_number.Reads as with-number-reads
-use Rattle.answer.proofs.text.Text.with_word.Reads as with-word-reads
 use Rattle.answer.proofs.text.Text.with_counts.Goals as goal
-
--- UNMATCHED
-slice-aggregate-with-word : tie.Need-slice-aggregate-with-word
-slice-aggregate-with-word c = search rules
-
--- UNMATCHED
-slice-aggregate-with-word-2 : tie.Need-slice-aggregate-with-word-2
-slice-aggregate-with-word-2 c = search rules
 
 pub returns : goal.returns
 unfolding counts_line ascii

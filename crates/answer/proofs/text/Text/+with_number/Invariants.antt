@@ -1,0 +1,5 @@
+-- The recursion's measure is the number.
+use Rattle.answer.proofs.text.Text.+with_number.Given as goal
+
+abbrev pub decreases-with_number : goal.decreases-with_number
+decreases-with_number l = l.number
