@@ -1,6 +1,6 @@
 #!/usr/bin/env bash
-# include/rastwob.h, examples/ and ./plan, tried as their users would. Needs target/bin/planner (rt check planner, rt ci),
-# target/staticlib/libconsole.a (rt staticlib console), python3, gcc and g++; on Arm gcc for x86-64 too.
+# include/rastwob.h, examples/ and ./plan, tried as their users would. Needs target/bin/planner and target/staticlib/libconsole.a
+# (tools/build), python3, gcc and g++; on Arm gcc for x86-64 too.
 # Prints a line for each thing, FAILED where it is wrong, and ends with status 1 if any was.
 set -uo pipefail
 cd "$(dirname "$0")/.." || exit 1
@@ -20,7 +20,7 @@ judge() { # STATUS NAME
 }
 
 if [ ! -x target/bin/planner ]; then
-    bad "target/bin/planner is not there; 'rt check planner' makes it"
+    bad "target/bin/planner is not there; 'tools/build planner' makes it"
     exit 1
 fi
 
@@ -81,7 +81,7 @@ if [ -f target/staticlib/libconsole.a ]; then
         ${emulator:+"$emulator"} "$room/mine" >"$room/out" 2>>"$room/log" && echo '1 2' | diff - "$room/out" >>"$room/log"
     judge $? "README.md's C is compiled without a warning and prints 1 2"
 else
-    bad "target/staticlib/libconsole.a is not there; 'rt staticlib console' makes it"
+    bad "target/staticlib/libconsole.a is not there; 'tools/build console_c' makes it"
 fi
 
 # ---- The saved searches
@@ -194,21 +194,23 @@ fi
 
 # ---- ./plan builds: in a tree of its own, with a false kit whose rt makes a program that prints 'solved'
 tree=$room/tree kit=$room/kit
-mkdir -p "$tree/crates/planner/src" "$kit/bin" "$kit/on/aarch64/toolchain/bin" "$kit/on/aarch64/toolchain/lib" "$room/bin"
+mkdir -p "$tree/crates/planner/src" "$tree/tools" "$kit/bin" "$kit/on/aarch64/toolchain/bin" "$kit/on/aarch64/toolchain/lib" "$room/bin"
 install -m 755 plan "$tree/plan"
+install -m 755 tools/build "$tree/tools/build"
 echo 'planner:' >"$tree/crates.txt"
 echo 'fn main() {}' >"$tree/crates/planner/src/main.rt"
+echo solved >"$tree/crates/planner/stdin"
+echo solved >"$tree/crates/planner/stdout"
 cat >"$kit/bin/rt" <<'EOF'
 #!/bin/sh
-# Called as 'rt check planner' at the top of the tree; says no where the file 'unproved' is there.
-[ "$*" = "check planner" ] && [ -f crates.txt ] || exit 9
-echo "rt was here" >>calls
-rm -f target/stamp/planner
-[ ! -e unproved ] || { echo "rt: FAILED: planner"; exit 1; }
-mkdir -p target/bin target/stamp
-printf '#!/bin/sh\nexec cat\n' >target/bin/planner
-chmod +x target/bin/planner
-echo proved >target/stamp/planner
+# Called as 'rt run' in the planner's folder; says no where the file 'unproved' is there, and else runs what it made.
+[ "$*" = run ] && [ -f ../../crates.txt ] && [ "${PWD##*/}" = planner ] || exit 9
+echo "rt was here" >>../../calls
+[ ! -e ../../unproved ] || { echo "rt: FAILED: planner" >&2; exit 1; }
+mkdir -p out
+printf '#!/bin/sh\nexec cat\n' >out/planner
+chmod +x out/planner
+exec out/planner
 EOF
 cat >"$kit/on/aarch64/toolchain/bin/qemu-x86_64" <<'EOF'
 #!/bin/sh
@@ -237,6 +239,8 @@ rm -r "$tree/target"
 ln -s ../kit/bin/rt "$room/bin/rt"
 says "a missing program is built, and a line says so" 0 "$room/solved" 'building the planner' in_tree "$tree/plan" "$room/solved"
 says "a program that is there is only run" 0 "$room/solved" '' in_tree "$tree/plan" "$room/solved"
+touch "$tree/crates/planner/out/planner"
+says "what rt leaves in a crate's out/ is no source" 0 "$room/solved" '' in_tree "$tree/plan" "$room/solved"
 touch "$tree/crates/planner/src/main.rt"
 says "a program older than its source is built again" 0 "$room/solved" 'building the planner' in_tree "$tree/plan" "$room/solved"
 touch "$tree/crates/planner/src/main.rt" "$tree/unproved"

@@ -1,4 +1,4 @@
-// The planner for C: the five calls on numbers and byte slices, over the covered calls on words.
+// The planner for C: the five calls on numbers and byte slices, over the covered calls on words. The crate console_c exports them.
 #![tactic(auto)]
 
 mod calls;
@@ -10,8 +10,7 @@ mod rooms;
 ghost use Rattle.console.specs.Calls.{OpensForC, RunsForC, ChoosesForC, SavesForC, LoadsForC};
 
 // Opens a search.
-#[unsafe(no_mangle)]
-pub extern "C" fn rastwob_open(
+pub fn rastwob_open(
     n: u32,
     d: u32,
     domains: &[u8],
@@ -31,8 +30,7 @@ pub extern "C" fn rastwob_open(
 }
 
 // Runs a list of requests.
-#[unsafe(no_mangle)]
-pub extern "C" fn rastwob_run(
+pub fn rastwob_run(
     n: u32,
     d: u32,
     domains: &[u8],
@@ -61,8 +59,7 @@ pub extern "C" fn rastwob_run(
 }
 
 // Runs up to `limit` steps by the house chooser.
-#[unsafe(no_mangle)]
-pub extern "C" fn rastwob_choose(
+pub fn rastwob_choose(
     n: u32,
     d: u32,
     domains: &[u8],
@@ -97,8 +94,7 @@ pub extern "C" fn rastwob_choose(
 }
 
 // Writes the blocks of a search into the file buffer.
-#[unsafe(no_mangle)]
-pub extern "C" fn rastwob_save(
+pub fn rastwob_save(
     n: u32,
     d: u32,
     domains: &[u8],
@@ -119,8 +115,7 @@ pub extern "C" fn rastwob_save(
 }
 
 // Hands out what the file says and writes it into the lent memory.
-#[unsafe(no_mangle)]
-pub extern "C" fn rastwob_load(
+pub fn rastwob_load(
     file: &[u8],
     domains: &mut [u8],
     tables: &mut [u8],
