@@ -2,7 +2,7 @@
  * goes on there and here to the same end. Prints each stage, and ends with status 1 where a call returns anything else
  * than it should. From the top of the repository:
  *
- *   rt staticlib console
+ *   tools/build
  *   gcc -std=c99 -Iinclude examples/console.c target/staticlib/libconsole.a -o target/console && target/console
  *
  * The library is for x86-64, whose uint16_t is a word as rastwob.h wants it: the arrays below are lent as they are. */

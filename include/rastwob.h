@@ -2,7 +2,7 @@
  *
  * A path is a variable, a window a value. There are n paths and d windows, both numbered from 0. The calls work on
  * memory that the caller lends and keep nothing between calls. Link target/staticlib/libconsole.a, made by
- * 'rt staticlib console' for x86-64.
+ * tools/build for x86-64.
  *
  * In memory, by 16-bit words, each low byte first (a uint16_t of x86-64, so that C lends its own arrays):
  *   domains   n words: bit v of word i is set if window v is in the list of path i
