@@ -2,12 +2,13 @@
 
 docs/RULES.md has a number in brackets before each sentence; docs/PROMISES.md has one line for each number, which says what holds it.
 A name that docs/PROMISES.md cites, as `file:name`, is declared by that file. A place that docs/DECISIONS.md cites, as `file:line word`, has that word.
-A file or folder that the papers name in backticks is there, and a law that README.md and these two name, with a hyphen in it, is declared.
-Every `pub fn` of every library has no `requires`, and an `ensures` that cites one definition; its uniqueness theorem, NAME-one, says of that
+A file or folder that the papers name in backticks is there, and a law that README.md and these two name, with a _ in it, is declared, or is a crate, a
+function or file of src/, or a function of the language's library; a name with a hyphen is none of these.
+Every `pub fn` of every library has no `requires`, and an `ensures` that cites one definition; its uniqueness theorem, NAME_one, says of that
 definition, in its crate's specs/Promises.antt, that two results are equal, and is proved, as that statement, in its proofs/Promises.antt.
-Every promise that a specs/Promises.antt states, of Type 0 or of Type 1, is proved in its crate's proofs/Promises.antt under its own name, and what that
-proves is the statement. What mirrors a loop of the code stands in specs/Loops: no other crate cites it, no file of specs outside it does, and no
-contract of a `pub fn`.
+Every promise that a specs/Promises.antt states, of Type 0 or of Type 1, is proved in its crate's proofs/Promises.antt under its own name (with _lem at
+the end where specs/ has a definition of that name), and what that proves is the statement. What mirrors a loop of the code stands in specs/Loops: no
+other crate cites it, no file of specs outside it does, and no contract of a `pub fn`.
 """
 import pathlib
 import re
@@ -17,8 +18,19 @@ TOP = pathlib.Path(__file__).resolve().parent.parent
 MARKS = r"(?:(?:unfoldable|abbrev|axiom|pub) )*"
 NUMBER = r"\d+|D\d\.\d"
 LAWS_NAMED = ("README.md", "docs/DECISIONS.md", "docs/PROMISES.md")
-ENSURES = r"ensures \{ λ r\. ⌜ (?:r ≡ )?([^\s()]+) "
+LIBRARY = ("count_ones", "trailing_zeros")
+ENSURES = r"ensures (?:\w+ )?\{ (?:result ≡ )?([^\s(){}]+) "
 HELD = ("none owed: ", "by the language: ", "run: ", "to be read: ", "as [", "`crates/")
+
+
+def sources(pattern):
+    """The files of every crate, without what the prover keeps in out/."""
+    return [path for path in sorted((TOP / "crates").glob(pattern)) if path.relative_to(TOP).parts[2] != "out"]
+
+
+def camel(name):
+    """The statement that a proof of this name has: the same words with capitals and no _."""
+    return "".join(word[:1].upper() + word[1:] for word in name.split("_"))
 
 
 def text_of(path):
@@ -75,10 +87,13 @@ def cited_places(faults):
 
 
 def named_in_papers(faults):
-    """Paths and names with a hyphen, in backticks, of the papers that a reader is sent by."""
-    declared = {"must-fail"}
-    for path in sorted((TOP / "crates").rglob("*.antt")):
+    """Paths and names with a _ or a hyphen, in backticks, of the papers that a reader is sent by."""
+    declared = {"must-fail", *LIBRARY, *(folder.name for folder in (TOP / "crates").iterdir())}
+    for path in sources("*/**/*.antt"):
         declared.update(re.findall(rf"(?m)^\s*{MARKS}([^\s:({{]+)(?: \{{[^}}]*\}})? :", path.read_text()))
+    for path in sources("*/src/**/*.rt"):
+        declared.add(path.stem)
+        declared.update(re.findall(r"(?m)^\s*(?:pub(?:\(crate\))? )?(?:extern \"C\" )?fn (\w+)", path.read_text()))
     for paper in ("README.md", "docs/DECISIONS.md", "docs/PROMISES.md", "docs/FORMAT.md", "bench/README.md", "examples/README.md"):
         for word in re.findall(r"`([^`\s]+)`", text_of(TOP / paper)):
             path = word.split(":")[0]
@@ -87,8 +102,8 @@ def named_in_papers(faults):
                     faults.append(f"{paper} names {path}, which is not there")
                 elif re.search(r"\.(?:antt|rt)$", path) and re.match(r"[^:]*:\s*$", word):
                     faults.append(f"{paper} cites {word} and no name")
-            elif paper in LAWS_NAMED and re.fullmatch(r"[a-z]+(?:-[a-z0-9]+)+", word) and word not in declared:
-                faults.append(f"{paper} names {word}, which no file of specs/ or proofs/ declares")
+            elif paper in LAWS_NAMED and re.fullmatch(r"[a-z]+(?:[-_][a-z0-9]+)+", word) and word not in declared:
+                faults.append(f"{paper} names {word}, which no file of specs/, proofs/ or src/ declares")
     if re.search(r"`[\w/.]+\.(?:antt|rt):\s", text_of(TOP / "docs/PROMISES.md")):
         faults.append("docs/PROMISES.md cites a file with a space before the name")
 
@@ -112,8 +127,8 @@ def uniqueness(faults):
     count = 0
     for folder, source, function, header in public_functions():
         count += 1
-        where, name = f"{source}: {function}", function.replace("_", "-") + "-one"
-        stated = name[0].upper() + name[1:]
+        where, name = f"{source}: {function}", function + "_one"
+        stated = camel(name)
         specs, proofs = folder / "specs/Promises.antt", folder / "proofs/Promises.antt"
         if re.search(r"\brequires\b", header):
             faults.append(f"{where} has a requires")
@@ -137,8 +152,12 @@ def promises_proved(faults):
         stated = set(re.findall(r"(?m)^abbrev pub (\S+) : Type [01]$", specs.read_text()))
         proved = dict(re.findall(r"(?m)^pub (\S+) : (\S+)$", text_of(proofs)))
         count += len(proved)
+        defined = "\n".join(text_of(path) for path in sources("*/specs/**/*.antt"))
         for name, of in sorted(proved.items()):
-            if name.lower() != of.lower() or of not in stated:
+            plain = name.removesuffix("_lem")
+            if plain != name and not re.search(rf"(?m)^{MARKS}{re.escape(plain)} :", defined):
+                faults.append(f"{proofs.relative_to(TOP)} has {name}, and no file of specs/ has a definition {plain}")
+            if camel(plain) != of or of not in stated:
                 faults.append(f"{proofs.relative_to(TOP)} has {name} : {of}, which is not the promise of that name")
         for name in sorted(stated.difference(proved.values())):
             faults.append(f"{specs.relative_to(TOP)} states {name}, and nothing proves it")
@@ -154,14 +173,15 @@ def taken_from(text, name):
 
 
 def loops_cited(faults):
-    for path in sorted(TOP.glob("crates/*/**/*")):
+    for path in sources("*/**/*"):
         if path.suffix not in (".antt", ".rt"):
             continue
         name, text = path.relative_to(TOP), path.read_text()
-        for crate in sorted(set(re.findall(r"Rattle·(\w+)\.specs\.Loops\b", text))):
-            faults.append(f"{name} cites the specs/Loops of {crate}")
-        if name.parts[2] == "specs" and "Loops" not in name.parts and re.search(r"specs\.specs\.Loops\b", text):
-            faults.append(f"{name} cites specs/Loops")
+        for crate in sorted(set(re.findall(r"\bRattle\.(\w+)\.specs\.Loops\b", text))):
+            if crate != name.parts[1]:
+                faults.append(f"{name} cites the specs/Loops of {crate}")
+            elif name.parts[2] == "specs" and "Loops" not in name.parts:
+                faults.append(f"{name} cites specs/Loops")
     for _, source, function, header in public_functions():
         ensures = re.search(ENSURES, header)
         if ensures and ".specs.Loops" in taken_from((TOP / source).read_text(), ensures.group(1)):

@@ -98,7 +98,7 @@ Deserves15 file =
 unfoldable pub table_words : ℕ → ℕ → Table → List ℕ
 table_words n d allowed = each (λ i. each (λ j. map (λ a. cond (eqb i j) 0 (allowed i j a)) (below d)) (below n)) (below n)
 
--- The test of 15, worked out: what it gives is said exactly by Load-15 of Promises, so that it need not be believed. The parts of the first checks
+-- The test of 15, worked out: what it gives is said exactly by Load15 of Promises, so that it need not be believed. The parts of the first checks
 -- are search's.
 unfoldable pub refusal_of_words : List ℕ → ℕ
 refusal_of_words file =

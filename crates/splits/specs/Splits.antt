@@ -101,7 +101,7 @@ pieces n allowed P r = filled n (named n allowed P r)
 
 -- For the calls that make pieces one by one, or by a row: the rules' splits end above.
 
--- By the row of v of V: every other domain cut to its own mask, V's is the row's, which is v alone, and V marked. It is the precluded piece (By-row).
+-- By the row of v of V: every other domain cut to its own mask, V's is the row's, which is v alone, and V marked. It is the precluded piece (ByRow).
 unfoldable pub precluded_by : Subproblem → ℕ → List ℕ → Subproblem
 precluded_by P V' row = record { domains = set (cut_each P row).domains V' (get_or row V' 0); marked = bit_or P.marked (single V') }
 
@@ -110,7 +110,7 @@ unfoldable pub candidates : ℕ → List ℕ → ℕ
 candidates n r = by_kind (kind_of r) 2 2 (n + 1) 2 (n + 1) 0
 
 -- The k-th candidate, kind by kind. One that names no piece is empty (kind 1 (a) where v is forbidden and kind 3's for V itself of
--- V's domain, kind 5's where the target is the domain of that one), so that the pieces placed are all these in order, empty ones dropped (One-by-one).
+-- V's domain, kind 5's where the target is the domain of that one), so that the pieces placed are all these in order, empty ones dropped (OneByOne).
 unfoldable pub backtracked : ℕ → Table → Subproblem → ℕ → ℕ → ℕ → Subproblem
 backtracked n allowed P V' v k =
     cond (eqb k 0) (cond (forbidden n allowed P V' v) (cut P V' 0) (instantiate P V' v)) (without P V' (single v))

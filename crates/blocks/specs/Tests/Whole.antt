@@ -1,4 +1,4 @@
--- Whether a file deserves 14, worked out: Refused-14 and Refused-none of Promises say exactly what it gives.
+-- Whether a file deserves 14, worked out: Refused14 and RefusedNone of Promises say exactly what it gives.
 use Rattle.std.specs.Prelude.{Bool, cond, ◌&&◌, List, ℕ, ◌+◌, ◌*◌, length, eqb, leb}
 use Rattle.problem.specs.Lists.{every}
 use Rattle.blocks.specs.Blocks.{check_of}

@@ -1,4 +1,4 @@
--- The refusal of a request, worked out: Request-refusals of Promises says exactly which number it gives.
+-- The refusal of a request, worked out: RequestRefusals of Promises says exactly which number it gives.
 use Rattle.std.specs.Prelude.{Bool, cond, List, [], ◌∷◌, ℕ, eqb}
 use Rattle.problem.specs.Problem.{Problem}
 use Rattle.splits.specs.Tests.Refusals.{refusal_of}

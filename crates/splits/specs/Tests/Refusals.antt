@@ -6,7 +6,7 @@ use Rattle.problem.specs.Lists.{some, every}
 use Rattle.splits.specs.Requests.{kind_of, variable_of, value_of, target_of}
 use Rattle.splits.specs.declared.subproblem.Subproblem.{Subproblem}
 
--- The four tests, worked out. What they give is said exactly by Request-refusals of Promises, so that they need not be believed.
+-- The four tests, worked out. What they give is said exactly by RequestRefusals of Promises, so that they need not be believed.
 unfoldable pub refused_7 : List ℕ → Bool
 refused_7 r = ltb (kind_of r) 1 || ltb 5 (kind_of r)
 
