@@ -5,7 +5,8 @@ A name that docs/PROMISES.md cites, as `file:name`, is declared by that file. A 
 A file or folder that the papers name in backticks is there, and a law that README.md and these two name, with a _ in it, is declared, or is a crate, a
 function or file of src/, or a function of the language's library; a name with a hyphen is none of these.
 Every `pub fn` of every library has no `requires`, and an `ensures` that cites one definition; its uniqueness theorem, NAME_one, says of that
-definition, in its crate's specs/Promises.antt, that two results are equal, and is proved, as that statement, in its proofs/Promises.antt.
+definition, in its crate's specs/Promises.antt, that two results are equal, and is proved, as that statement, in its proofs/Promises.antt. A crate with
+no specs/ exports functions of another: of each there is a `pub fn` of the same name with the same clauses, whose theorem is its own.
 Every promise that a specs/Promises.antt states, of Type 0 or of Type 1, is proved in its crate's proofs/Promises.antt under its own name (with _lem at
 the end where specs/ has a definition of that name), and what that proves is the statement. What mirrors a loop of the code stands in specs/Loops: no
 other crate cites it, no file of specs outside it does, and no contract of a `pub fn`.
@@ -123,10 +124,27 @@ def statement(path, name):
     return found.group(1) if found else ""
 
 
+def clauses(header):
+    return sorted(re.findall(r"(?m)^\s*((?:requires|ensures)\b.*)$", header))
+
+
+def promising(folder, source, function, header):
+    """The crate whose promises speak of a public function: its own, or of one that has no specs/ the crate whose function of that name it exports."""
+    if (folder / "specs").exists():
+        return folder
+    ensures = re.search(ENSURES, header)
+    module = taken_from((TOP / source).read_text(), ensures.group(1)) if ensures else ""
+    for other, _, name, its_header in public_functions():
+        if module.startswith(f"Rattle.{other.name}.specs.") and name == function and clauses(its_header) == clauses(header):
+            return other
+    return folder
+
+
 def uniqueness(faults):
     count = 0
     for folder, source, function, header in public_functions():
         count += 1
+        folder = promising(folder, source, function, header)
         where, name = f"{source}: {function}", function + "_one"
         stated = camel(name)
         specs, proofs = folder / "specs/Promises.antt", folder / "proofs/Promises.antt"
