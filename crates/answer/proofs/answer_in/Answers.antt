@@ -3,14 +3,6 @@ use native.Mathlib.Omega.{arith}
 use mathlib.Core.Path.{◌∙◌}
 use Rattle.answer.proofs.Made.{line_made}
 use Rattle.answer.proofs.Answering.{same_refusal, held_answers, answer_refused, chosen_shows, chosen_text}
-use borrow.Author.Rules.{rules}
-use Rattle.answer.proofs.answer_in.Reads as reads
-use Rattle.answer.proofs.answer_in.Lts as lts
-use Rattle.answer.proofs.text.Text.with_refusal.Reads as with-refusal-reads
-use Rattle.answer.proofs.text.start.Reads as start-reads
-use Rattle.answer.proofs.text_of.Reads as text-of-reads
-use Rattle.files.proofs.load.Reads as load-reads
-use Rattle.search.proofs.choose.Reads as choose-reads
 use Rattle.answer.proofs.answer_in.Goals as goal
 
 pub returns-then-loaded-ne0 : goal.returns-then-loaded-ne0

@@ -3,14 +3,6 @@ use native.Mathlib.Omega.{arith}
 use mathlib.Core.Path.{◌∙◌}
 use Rattle.answer.proofs.Lending.{pairs_few, masks_few, part_length, lent}
 use borrow.Author.Rules.{rules}
-use Rattle.answer.proofs.answer_to.Reads as reads
-use Rattle.answer.proofs.answer_to.Lts as lts
-use Rattle.answer.proofs.answer_in.Reads as answer-in-reads
-use Rattle.answer.proofs.at_most.Reads as at-most-reads
-use Rattle.answer.proofs.room_for_agenda.Reads as room-for-agenda-reads
-use Rattle.answer.proofs.room_for_domains.Reads as room-for-domains-reads
-use Rattle.answer.proofs.room_for_tables.Reads as room-for-tables-reads
-use Rattle.files.proofs.said.header_of.Reads as header-of-reads
 use Rattle.answer.proofs.answer_to.Goals as goal
 
 pub overflow_mul-masks : goal.overflow_mul-masks

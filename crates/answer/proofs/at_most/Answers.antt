@@ -1,8 +1,6 @@
 -- `answer::at_most` meets its contract.
 use mathlib.Core.Path.{refl}
 use native.Mathlib.Omega.{arith}
-use Rattle.answer.proofs.at_most.Reads as reads
-use Rattle.answer.proofs.at_most.Lts as lts
 use Rattle.answer.proofs.at_most.Goals as goal
 
 pub returns-then-number-most : goal.returns-then-number-most

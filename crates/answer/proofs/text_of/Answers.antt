@@ -5,15 +5,6 @@ use Rattle.answer.proofs.Writing.{adds_none}
 use Rattle.answer.proofs.Short.{plan_room, lowest_small}
 use Rattle.answer.proofs.Lines.{solved_lines, other_lines}
 use Rattle.answer.proofs.Made.{text_made, from_refused, from_lines}
-use borrow.Author.Rules.{rules}
-use Rattle.answer.proofs.text_of.Reads as reads
-use Rattle.answer.proofs.text_of.Lts as lts
-use Rattle.answer.proofs.is_solved.Reads as is-solved-reads
-use Rattle.answer.proofs.text.Text.with_counts.Reads as with-counts-reads
-use Rattle.answer.proofs.text.Text.with_refusal.Reads as with-refusal-reads
-use Rattle.answer.proofs.text.Text.with_verdict.Reads as with-verdict-reads
-use Rattle.answer.proofs.text.start.Reads as start-reads
-use Rattle.answer.proofs.with_top.Reads as with-top-reads
 use Rattle.answer.proofs.text_of.Goals as goal
 
 pub returns-then-ran-ne0 : goal.returns-then-ran-ne0

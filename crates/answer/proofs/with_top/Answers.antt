@@ -3,9 +3,6 @@ use mathlib.Core.Path.{refl}
 use Rattle.answer.proofs.Writing.{adds_same}
 use Rattle.answer.proofs.Lines.{top_lines, top_within}
 use borrow.Author.Rules.{rules}
-use Rattle.answer.proofs.with_top.Reads as reads
-use Rattle.answer.proofs.with_top.Lts as lts
-use Rattle.answer.proofs.text.Text.with_plan.Reads as with-plan-reads
 use Rattle.answer.proofs.with_top.Goals as goal
 
 pub overflow_mul-at : goal.overflow_mul-at

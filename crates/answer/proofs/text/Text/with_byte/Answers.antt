@@ -1,9 +1,6 @@
 -- `answer::text::Text::with_byte` meets its contract.
 use mathlib.Core.Path.{refl}
 use Rattle.answer.proofs.Writing.{adds_byte, adds_full}
-use borrow.Author.Rules.{rules}
-use Rattle.answer.proofs.text.Text.with_byte.Reads as reads
-use Rattle.answer.proofs.text.Text.with_byte.Lts as lts
 use Rattle.answer.proofs.text.Text.with_byte.Goals as goal
 
 pub returns-then-at-lt512 : goal.returns-then-at-lt512

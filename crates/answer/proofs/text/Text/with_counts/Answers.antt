@@ -4,7 +4,6 @@ use Rattle.answer.specs.Text.{counts_line}
 use Rattle.answer.proofs.Short.{counts_short}
 use native.Mathlib.Omega.{arith}
 use Rattle.answer.proofs.Writing.{adds_both}
-use borrow.Author.Rules.{rules}
 use Rattle.answer.proofs.text.Text.with_counts.Goals as goal
 
 pub returns : goal.returns

@@ -1,14 +1,10 @@
 -- `answer::text::Text::with_plan` meets its contract.
 use native.Mathlib.Omega.{arith}
 use mathlib.Core.Path.{◌≡◌, refl, ap}
-use Prim.Native.Nat.{◌≤◌, ◌-◌}
 use lib.ListN.{length}
-use Rattle.answer.specs.Loops.Writing.{Adds, value_lines}
+use Rattle.answer.specs.Loops.Writing.{value_lines}
 use Rattle.answer.proofs.Writing.{adds_none, adds_line, adds_same}
 use borrow.Author.Rules.{rules}
-use Rattle.answer.proofs.text.Text.with_plan.Reads as reads
-use Rattle.answer.proofs.text.Text.with_plan.Lts as lts
-use Rattle.answer.proofs.text.Text.with_value.Reads as with-value-reads
 use Rattle.answer.proofs.text.Text.with_plan.Goals as goal
 
 pub loop-i-init : goal.loop-i-init

@@ -3,12 +3,6 @@ use mathlib.Core.Path.{ap}
 use Rattle.searches.specs.Verdicts.{ascii}
 use Rattle.answer.specs.Text.{decimal, plan_line}
 use Rattle.answer.proofs.Writing.{adds_both, adds_same}
-use borrow.Author.Rules.{rules}
-use Rattle.answer.proofs.text.Text.with_value.Reads as reads
-use Rattle.answer.proofs.text.Text.with_value.Lts as lts
-use Rattle.answer.proofs.text.Text.with_byte.Reads as with-byte-reads
-use Rattle.answer.proofs.text.Text.with_number.Reads as with-number-reads
-use Rattle.problem.proofs.mask.lowest.Reads as lowest-reads
 use Rattle.answer.proofs.text.Text.with_value.Goals as goal
 
 pub returns : goal.returns

@@ -1,14 +1,9 @@
 -- `answer::text::Text::with_word` meets its contract.
 use mathlib.Core.Path.{◌≡◌, refl}
 use native.Mathlib.Omega.{arith}
-use Prim.Native.Nat.{◌≤◌, ◌-◌}
-use lib.ListN.{length, take}
-use Rattle.answer.specs.Loops.Writing.{Adds}
+use lib.ListN.{length}
 use Rattle.answer.proofs.Writing.{adds_none, adds_next, adds_word}
 use borrow.Author.Rules.{rules}
-use Rattle.answer.proofs.text.Text.with_word.Reads as reads
-use Rattle.answer.proofs.text.Text.with_word.Lts as lts
-use Rattle.answer.proofs.text.Text.with_byte.Reads as with-byte-reads
 use Rattle.answer.proofs.text.Text.with_word.Goals as goal
 
 pub loop-i-init : goal.loop-i-init
