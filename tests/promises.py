@@ -98,7 +98,7 @@ def named_in_papers(faults):
     for paper in ("README.md", "docs/DECISIONS.md", "docs/PROMISES.md", "docs/FORMAT.md", "bench/README.md", "examples/README.md"):
         for word in re.findall(r"`([^`\s]+)`", text_of(TOP / paper)):
             path = word.split(":")[0]
-            if re.match(r"(?:crates|docs|tests|bench|examples|include)/", word):
+            if re.match(r"(?:crates|docs|tests|bench|examples|include|tools)/", word):
                 if "*" not in path and not (TOP / path).exists():
                     faults.append(f"{paper} names {path}, which is not there")
                 elif re.search(r"\.(?:antt|rt)$", path) and re.match(r"[^:]*:\s*$", word):
