@@ -29,7 +29,7 @@ use Rattle.files.specs.declared.saved.Saved.{Saved}
 use Rattle.files.proofs.Triangle.{triangle_same}
 use Rattle.files.proofs.AgreeingRuns.{run_same, choose_same}
 
--- A search that passed the first checks, as the search crate says it (its promise Handed-passes asks that the agenda holds words).
+-- A search that passed the first checks, as the search crate says it (its promise HandedPasses asks that the agenda holds words).
 passed_passes : (n d : ℕ) (domains tables agenda : List ℕ) (s : State) → s.counts.steps.0 ≤ 4294967295
     → PassedSearch n d domains tables agenda s.counts.steps.0 s.counts.checks.0 s.subproblems
     → Passes (problem_of n d domains tables) (slots (slots_in n (length agenda))) (search_of n agenda s)

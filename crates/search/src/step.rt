@@ -80,6 +80,7 @@ fn exceed(top: Subproblem, n: usize, d: usize, tables: &[u16], request: &[u16], 
 }
 
 // The refusal of a request, in the order 11, 7 to 10, 12; 0 for none.
+#[tactic(auto, using(crate::proofs::step::Accepting::refused_at_11, crate::proofs::step::Accepting::refused_by_top, crate::proofs::step::Accepting::refused_at_12, crate::proofs::step::Accepting::refused_by_none))]
 fn refusal_of(
     top: Subproblem,
     n: usize,

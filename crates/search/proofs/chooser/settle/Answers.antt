@@ -1,5 +1,6 @@
 -- `search::choice::settle` meets its contract.
 use mathlib.Core.Path.{◌≡◌}
+use native.Mathlib.Omega.{arith}
 use lib.ListN.{length}
 use Rattle.search.proofs.chooser.Settling.{settle_kept, settle_none, settle_rest}
 use borrow.Author.Rules.{rules}
@@ -22,10 +23,7 @@ pub clear_slot-requires : goal.clear_slot-requires
 clear_slot-requires c = c.requires.1
 
 pub returns-then-choice-eq1 : goal.returns-then-choice-eq1
-returns-then-choice-eq1 c =
-    settle_none _ _ _ _ _ _ c.requires.1
-    c.if-not-choice.false c.if-choice-eq1.true
-    c.clear_slot.ensures
+returns-then-choice-eq1 c = search (rules, settle_none)
 
 pub rest-requires : goal.rest-requires
 rest-requires c = c.requires.0
@@ -36,6 +34,5 @@ write_slot-requires-2 c = c.requires.1
 pub returns : goal.returns
 returns c =
     let long : length c.rest.result.domains ≡ 32 = search rules in
-    settle_rest _ _ _ _ _ _ c.requires.1
-    c.if-not-choice.false c.if-choice-eq1.false _
-    c.rest.ensures long c.write_slot-2.ensures
+    let several : c.args.choice.values ≡ 1 → ⊥ = omega arith in
+    settle_rest _ _ _ _ _ _ c.requires.1 c.if-not-choice.false several _ c.rest.ensures long c.write_slot-2.ensures
