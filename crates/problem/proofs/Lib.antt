@@ -6,5 +6,6 @@ pub mod FirstLoops
 pub mod Lists
 pub mod Products
 pub mod Promises
+pub mod Refused
 pub mod Refusing
 pub mod Tests

@@ -6,6 +6,7 @@ pub mod Ranges
 pub mod Beside
 pub mod Matrix
 pub mod Refusing
+pub mod Refused
 pub mod FirstChecks
 pub mod Calls
 pub mod Answers

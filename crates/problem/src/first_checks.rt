@@ -3,29 +3,25 @@ ghost use Rattle.std.specs.Prelude.{◌≡◌, ◌-◌, ◌^◌, ◌≤◌, ◌<
 ghost use Rattle.problem.specs.Problem.{table_of, problem_of};
 ghost use Rattle.problem.specs.Lists.{every};
 ghost use Rattle.problem.specs.Ranges.{Sized, Fitting};
-ghost use Rattle.problem.specs.Calls.{BitsOf, RefusalOfNumbers, SizesRefusal, Refusal};
+ghost use Rattle.problem.specs.Calls.{BitsOf, RefusalOfNumbers, SizesRefusal, Refusal as RefusalOf};
+ghost use Rattle.problem.specs.Refused.{told};
 ghost use Rattle.problem.specs.Tests.FirstChecks.{refusal_of_problem};
 ghost use Rattle.problem.specs.Loops.FirstTests.{span_below, row_below};
 
+use crate::refusal::Refusal;
 use crate::symmetry;
 
 // 1 or 2, or none.
-pub fn refusal_of_numbers(n: usize, d: usize) -> u32
-    ensures { RefusalOfNumbers n d result }
+pub fn refusal_of_numbers(n: usize, d: usize) -> Result<(), Refusal>
+    ensures { RefusalOfNumbers n d (told result) }
 {
-    if n < 1 {
-        return 1;
+    if !(1..=32).contains(&n) {
+        return Err(Refusal::Variables);
     }
-    if 32 < n {
-        return 1;
+    if !(1..=16).contains(&d) {
+        return Err(Refusal::Values);
     }
-    if d < 1 {
-        return 2;
-    }
-    if 16 < d {
-        return 2;
-    }
-    0
+    Ok(())
 }
 
 // Whether a mask has no bit at `d` or above.
@@ -89,46 +85,37 @@ fn tables_below(n: usize, d: usize, tables: &[u16]) -> bool
 }
 
 // 4 or 5, or none.
-fn refusal_of_problem(n: usize, d: usize, domains: &[u16], tables: &[u16]) -> u32
+fn refusal_of_problem(n: usize, d: usize, domains: &[u16], tables: &[u16]) -> Result<(), Refusal>
     requires { Fitting n d domains.now tables.now }
-    ensures { result ≡ refusal_of_problem (problem_of n d domains.now tables.now) }
+    ensures { told result ≡ refusal_of_problem (problem_of n d domains.now tables.now) }
 {
     if !is_below(bits_of(domains), d) {
-        return 4;
+        return Err(Refusal::Masks);
     }
     if !tables_below(n, d, tables) {
-        return 4;
+        return Err(Refusal::Masks);
     }
     if symmetry::tables_both_ways(n, d, tables) {
-        return 0;
+        return Ok(());
     }
-    5
+    Err(Refusal::OneWay)
 }
 
 // 1 to 3 of the numbers and of how many words are lent as domains and tables; 0 for none.
-pub fn sizes_refusal(n: usize, d: usize, domains: usize, tables: usize) -> u32
-    ensures { SizesRefusal n d domains tables result }
+pub fn sizes_refusal(n: usize, d: usize, domains: usize, tables: usize) -> Result<(), Refusal>
+    ensures { SizesRefusal n d domains tables (told result) }
 {
-    let numbers = refusal_of_numbers(n, d);
-    if numbers != 0 {
-        return numbers;
+    refusal_of_numbers(n, d)?;
+    if domains != n || tables != n * n * d {
+        return Err(Refusal::Lengths);
     }
-    if domains != n {
-        return 3;
-    }
-    if tables != n * n * d {
-        return 3;
-    }
-    0
+    Ok(())
 }
 
 // The first checks of a problem, in the order 1 to 5; 0 for none.
-pub fn refusal(n: usize, d: usize, domains: &[u16], tables: &[u16]) -> u32
-    ensures { Refusal n d domains.now tables.now result }
+pub fn refusal(n: usize, d: usize, domains: &[u16], tables: &[u16]) -> Result<(), Refusal>
+    ensures { RefusalOf n d domains.now tables.now (told result) }
 {
-    let sizes = sizes_refusal(n, d, domains.len(), tables.len());
-    if sizes != 0 {
-        return sizes;
-    }
+    sizes_refusal(n, d, domains.len(), tables.len())?;
     refusal_of_problem(n, d, domains, tables)
 }

@@ -5,5 +5,6 @@ pub mod beside;
 pub mod first_checks;
 pub mod mask;
 pub mod matrix;
+pub mod refusal;
 mod symmetry;
 pub mod tables;

@@ -1,17 +1,17 @@
 -- `first_checks::refusal` meets its contract: the sizes, then the masks.
-use mathlib.Core.Path.{sym, ◌∙◌}
+use mathlib.Core.Path.{sym}
 use Rattle.problem.specs.Tests.FirstChecks.{problem_refusal}
-use Rattle.problem.proofs.first_checks.Parts.{else_first, else_rest, problem_fits}
+use Rattle.problem.proofs.Refused.{handed_first}
+use Rattle.problem.proofs.first_checks.Parts.{else_rest, problem_fits}
 use Rattle.problem.proofs.first_checks.refusal.Goals as goal
 
-pub returns-then-sizes-ne0 : goal.returns-then-sizes-ne0
+pub returns-in_err-sizes_refusal : goal.returns-in_err-sizes_refusal
 unfolding problem_refusal
-returns-then-sizes-ne0 c = else_first _ _ _ c.sizes_refusal-sizes.ensures c.if-sizes-ne0.true
+returns-in_err-sizes_refusal c = handed_first _ _ _ _ c.from_residual.ensures.1 c.in_err-sizes_refusal.ensures
 
 pub refusal_of_problem-requires : goal.refusal_of_problem-requires
-refusal_of_problem-requires c = problem_fits _ _ _ _ (sym c.sizes_refusal-sizes.ensures ∙ c.if-sizes-ne0.false)
+refusal_of_problem-requires c = problem_fits _ _ _ _ (sym c.in_ok-sizes_refusal.ensures)
 
 pub returns : goal.returns
 unfolding problem_refusal
-returns c =
-    else_rest _ _ _ (sym c.sizes_refusal-sizes.ensures ∙ c.if-sizes-ne0.false) c.refusal_of_problem.ensures
+returns c = else_rest _ _ _ (sym c.in_ok-sizes_refusal.ensures) c.refusal_of_problem.ensures

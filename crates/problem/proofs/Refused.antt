@@ -1,0 +1,38 @@
+-- A refusal that is handed on.
+use Rattle.std.specs.Prelude.{◌≡◌, ℕ, Result, Ok, Err, IsErrAnd}
+use mathlib.Core.Path.{sym, ap, ◌∙◌}
+use Rattle.problem.specs.declared.refusal.Refusal.{Refusal}
+use Rattle.problem.specs.declared.refusal.Refusal.TheVariants.{Variables, Values, Lengths, Masks, OneWay, Search, Kind, Variable, Value, Targets, Steps, Room, Buffer, Blocks, Content}
+use Rattle.problem.specs.Refused.{number_of, told}
+use Rattle.problem.specs.Tests.FirstChecks.{or_else}
+use Rattle.problem.proofs.first_checks.Parts.{else_first}
+use native.Mathlib.Omega.{arith}
+
+-- no refusal has the number 0
+never_0 : (refusal : Refusal) → number_of refusal ≡ 0 → ⊥
+never_0 Variables h = omega arith
+never_0 Values h = omega arith
+never_0 Lengths h = omega arith
+never_0 Masks h = omega arith
+never_0 OneWay h = omega arith
+never_0 Search h = omega arith
+never_0 Kind h = omega arith
+never_0 Variable h = omega arith
+never_0 Value h = omega arith
+never_0 Targets h = omega arith
+never_0 Steps h = omega arith
+never_0 Room h = omega arith
+never_0 Buffer h = omega arith
+never_0 Blocks h = omega arith
+never_0 Content h = omega arith
+
+-- What `?` hands on tells the number that it was told.
+pub handed : {A : Type 0} (r : Result A Refusal) (refusal : Refusal) → IsErrAnd r (λ e. e ≡ refusal) → told r ≡ number_of refusal
+handed (Ok a) refusal h = absurd h
+handed (Err e) refusal h = ap number_of h
+
+-- So the first of two is given that is one.
+pub handed_first : {A : Type 0} (r : Result A Refusal) (refusal : Refusal) (a b : ℕ)
+    → IsErrAnd r (λ e. e ≡ refusal) → number_of refusal ≡ a → told r ≡ or_else a b
+handed_first r refusal a b h e =
+    else_first _ a b (handed r refusal h ∙ e) (λ z. never_0 refusal (sym (handed r refusal h) ∙ z))
