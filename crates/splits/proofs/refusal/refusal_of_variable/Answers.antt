@@ -5,14 +5,15 @@ use borrow.Author.Tests.{le-leb}
 use Rattle.splits.specs.Loops.Kinds.{refusal_of_variable}
 use Rattle.splits.proofs.refusal.Refusals.{past_8}
 use Rattle.splits.proofs.refusal.refusal_of_variable.Goals as goal
+use Rattle.splits.proofs.refusal.refusal_of_variable.Goals.{then-n-variable-via-then-n-variable, then-n-variable-via-else-n-variable+then-is_instantiated}
 
 pub returns-then-n-variable : goal.returns-then-n-variable
 unfolding refusal_of_variable
-returns-then-n-variable c = rw (← c.variable-variable.ensures) (simp (le-leb _ _ c.if-n-variable.true))
-
-pub returns-then-is_instantiated : goal.returns-then-is_instantiated
-unfolding refusal_of_variable
-returns-then-is_instantiated c = rw (← c.variable-variable.ensures) (simp (sym c.is_instantiated.ensures ∙ c.if-is_instantiated.true, or-true))
+returns-then-n-variable c = rw (← c.variable-variable.ensures) (elim c.then-n-variable.branch [
+      | then-n-variable-via-then-n-variable w ↦ simp (le-leb _ _ w.if-n-variable.true)
+      | then-n-variable-via-else-n-variable+then-is_instantiated w ↦
+        simp (sym w.is_instantiated.ensures ∙ w.if-is_instantiated.true, or-true)
+    ])
 
 pub returns-then-deserves_9 : goal.returns-then-deserves_9
 returns-then-deserves_9 c =
