@@ -21,7 +21,7 @@ use Rattle.searches.specs.Chooser.{choose}
 use Rattle.search.specs.Calls.{search_of, Chooses}
 use Rattle.search.specs.Promises.{Leaves}
 use Rattle.searches.specs.Promises.{picks}
-use Rattle.search.specs.declared.state.Ran.{Ran}
+use Rattle.search.specs.Outcomes.{Ran}
 use Rattle.search.proofs.first_checks.FirstPassing.{search_is_passed}
 use Rattle.searches.specs.declared.verdict.Verdict.TheVariants.{Solved}
 use Rattle.search.proofs.Promises.{chooser_leaves, handed_passes}

@@ -8,7 +8,7 @@ use lib.ListN.{length}
 use borrow.Author.Tests.{eq-eqb, ne_eqb}
 use Rattle.search.specs.Agenda.{stack_of}
 use Rattle.searches.specs.declared.verdict.Verdict.{Verdict}
-use Rattle.search.specs.declared.state.Ran.{Ran}
+use Rattle.search.specs.Outcomes.{Ran}
 use Rattle.answer.specs.Text.{verdict_line, counts_line, plan_lines, refused_line, whole_text, text_from}
 use Rattle.answer.specs.Loops.Writing.{Holds, Adds}
 use Rattle.answer.specs.declared.text.Text.{Text}

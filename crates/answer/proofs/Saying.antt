@@ -22,7 +22,7 @@ use Rattle.searches.specs.Verdicts.{ascii, word_of, number_of, verdict_of}
 use Rattle.searches.specs.Chooser.{choose}
 use Rattle.search.specs.Calls.{search_of, Chooses}
 use Rattle.search.specs.Promises.{VerdictSays}
-use Rattle.search.specs.declared.state.Ran.{Ran}
+use Rattle.search.specs.Outcomes.{Ran}
 use Rattle.searches.specs.declared.verdict.Verdict.{Verdict}
 use Rattle.searches.specs.declared.verdict.Verdict.TheVariants.{None, Running, Solved, Unsolvable}
 use Rattle.search.proofs.first_checks.FirstPassing.{search_is_passed}

@@ -6,8 +6,8 @@ use Rattle.searches.specs.Verdicts.{ascii}
 use Rattle.search.specs.Calls.{Opens, Chooses}
 use Rattle.searches.specs.Promises.{HasSolution}
 use Rattle.search.specs.declared.state.State.{State}
-use Rattle.search.specs.declared.state.Opened.{Opened}
-use Rattle.search.specs.declared.state.Ran.{Ran}
+use Rattle.search.specs.Outcomes.{Opened}
+use Rattle.search.specs.Outcomes.{Ran}
 use Rattle.files.specs.Reading.{said_n, said_d, said_domains, said_allowed, Deserves15}
 use Rattle.blocks.specs.Reading.{Deserves14, Bytes}
 use Rattle.files.specs.Calls.{Saves, Loads}

@@ -7,7 +7,7 @@ use Rattle.splits.specs.declared.subproblem.Subproblem.{Subproblem}
 use Rattle.search.specs.Agenda.{stack_of}
 use Rattle.search.specs.Slots.{Stopped}
 use Rattle.searches.specs.Verdicts.{number_of, ascii, word_of, verdict_of}
-use Rattle.search.specs.declared.state.Ran.{Ran}
+use Rattle.search.specs.Outcomes.{Ran}
 use Rattle.searches.specs.declared.verdict.Verdict.{Verdict}
 use Rattle.blocks.specs.Lists.{each}
 

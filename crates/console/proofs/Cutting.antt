@@ -12,7 +12,7 @@ use Rattle.search.specs.FirstChecks.{WholeRequests}
 use Rattle.search.specs.Slots.{Stopped}
 use Rattle.search.specs.Calls.{Runs, Chooses}
 use Rattle.search.specs.declared.state.State.{State}
-use Rattle.search.specs.declared.state.Ran.{Ran}
+use Rattle.search.specs.Outcomes.{Ran}
 use Rattle.blocks.specs.Blocks.{blocks_for}
 use Rattle.files.specs.Calls.{handed_content, Saves, Loads}
 use Rattle.files.specs.Promises.{TwoWays, SameEnd}

@@ -7,7 +7,7 @@ use Prim.Native.Nat.{ℕ, ◌*◌}
 use lib.ListN.{take}
 use Rattle.search.specs.Calls.{Opens}
 use Rattle.search.specs.declared.state.State.{State}
-use Rattle.search.specs.declared.state.Opened.{Opened}
+use Rattle.search.specs.Outcomes.{Opened}
 use Rattle.files.specs.Promises as files
 use Rattle.files.specs.declared.saved.Loaded.{Loaded}
 use Rattle.files.specs.Calls.{Loads}

@@ -6,8 +6,8 @@ use Prim.Native.Nat.{ℕ, ◌%◌}
 use native.Mathlib.Decide.{ℕ_discrete}
 use lib.ListN.{length}
 use Rattle.search.specs.declared.state.State.{State}
-use Rattle.search.specs.declared.state.Opened.{Opened}
-use Rattle.search.specs.declared.state.Ran.{Ran}
+use Rattle.search.specs.Outcomes.{Opened}
+use Rattle.search.specs.Outcomes.{Ran}
 use Rattle.search.proofs.Promises.{open_one, run_one, choose_one}
 use Rattle.files.specs.declared.saved.Saved.{Saved}
 use Rattle.files.specs.declared.saved.Loaded.{Loaded}

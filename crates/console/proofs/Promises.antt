@@ -7,8 +7,8 @@ use Prim.Native.Nat.{ℕ, ◌-◌, ◌≤◌}
 use native.Mathlib.Omega.{arith}
 use Rattle.searches.specs.Verdicts.{number_of}
 use Rattle.search.specs.Calls.{Opens, Runs, Chooses}
-use Rattle.search.specs.declared.state.Opened.{Opened}
-use Rattle.search.specs.declared.state.Ran.{Ran}
+use Rattle.search.specs.Outcomes.{Opened}
+use Rattle.search.specs.Outcomes.{Ran}
 use Rattle.search.proofs.Promises.{open_refusals}
 use Rattle.files.specs.declared.saved.Saved.{Saved}
 use Rattle.files.specs.declared.saved.Loaded.{Loaded}

@@ -2,7 +2,7 @@
 -- Assumes nothing.
 use mathlib.Core.Path.{ap, ◌∙◌}
 use borrow.Author.Tests.{ne_eqb}
-use Rattle.search.specs.declared.state.Opened.{Opened}
+use Rattle.search.specs.Outcomes.{Opened}
 use Rattle.files.specs.declared.saved.Saved.{Saved}
 use Rattle.files.specs.declared.saved.Loaded.{Loaded}
 use Rattle.word_bytes.specs.Bytes.{bytes_of}

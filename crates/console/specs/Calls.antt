@@ -5,8 +5,8 @@ use Rattle.searches.specs.Verdicts.{number_of}
 use Rattle.problem.specs.Tests.FirstChecks.{or_else, refusal_of_numbers}
 use Rattle.search.specs.Calls.{Opens, Runs, Chooses}
 use Rattle.search.specs.declared.state.State.{State}
-use Rattle.search.specs.declared.state.Opened.{Opened}
-use Rattle.search.specs.declared.state.Ran.{Ran}
+use Rattle.search.specs.Outcomes.{Opened}
+use Rattle.search.specs.Outcomes.{Ran}
 use Rattle.searches.specs.declared.verdict.Verdict.TheVariants.{None}
 use Rattle.blocks.specs.Tests.Whole.{refusal_of_file}
 use Rattle.files.specs.Reading.{refusal_of_words}

@@ -12,8 +12,8 @@ use Rattle.search.specs.FirstChecks.{WholeRequests}
 use Rattle.search.specs.Calls.{Opens, Runs, Chooses}
 use Rattle.searches.specs.Promises.{HasSolution, Limited}
 use Rattle.search.specs.declared.state.State.{State}
-use Rattle.search.specs.declared.state.Opened.{Opened}
-use Rattle.search.specs.declared.state.Ran.{Ran}
+use Rattle.search.specs.Outcomes.{Opened}
+use Rattle.search.specs.Outcomes.{Ran}
 use Rattle.blocks.specs.Reading.{Deserves14}
 use Rattle.files.specs.Reading.{Deserves15}
 use Rattle.blocks.specs.Blocks.{blocks_for}

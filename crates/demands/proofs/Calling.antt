@@ -22,7 +22,7 @@ use Rattle.search.specs.FirstChecks.{WholeRequests}
 use Rattle.search.specs.Tests.FirstChecks.{run_refusal, search_refusal}
 use Rattle.search.specs.Calls.{search_of, Ends}
 use Rattle.search.specs.Promises.{Handed, Leaves, VerdictSays}
-use Rattle.search.specs.declared.state.Ran.{Ran}
+use Rattle.search.specs.Outcomes.{Ran}
 use Rattle.search.proofs.first_checks.FirstPassing.{run_is_passed, search_is_passed}
 use Rattle.search.proofs.Promises.{slots_lawful, none_if_run, none_if_choose, run_leaves, chooser_leaves, run_says, chooser_says, handed_passes}
 use Rattle.console.specs.Searches.{Outcome, Way, by_requests, by_chooser, Lent, state_in}

@@ -14,7 +14,7 @@ use Rattle.searches.proofs.Picking.{choose_stops}
 use Rattle.search.specs.FirstChecks.{WholeRequests}
 use Rattle.search.specs.Slots.{slots}
 use Rattle.search.specs.Calls.{Runs, Chooses}
-use Rattle.search.specs.declared.state.Ran.{Ran}
+use Rattle.search.specs.Outcomes.{Ran}
 use Rattle.files.specs.Calls.{Deserves13}
 use Rattle.files.specs.Promises.{TwoWays, SameEnd}
 use Rattle.files.proofs.Promises.{cut_any, cut_choose}

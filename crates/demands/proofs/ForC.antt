@@ -11,7 +11,7 @@ use Rattle.problem.specs.FirstChecks.{Deserves1, Deserves2, Deserves4, Deserves5
 use Rattle.problem.specs.Refusing.{Refusals, FirstOf}
 use Rattle.problem.proofs.Refusing.{Found, first_of}
 use Rattle.search.specs.FirstChecks.{Deserves6}
-use Rattle.search.specs.declared.state.Opened.{Opened}
+use Rattle.search.specs.Outcomes.{Opened}
 use Rattle.blocks.specs.Reading.{Deserves14}
 use Rattle.files.specs.Reading.{said_n, said_d, Deserves15}
 use Rattle.files.specs.Calls.{Deserves13, Deserves12Load}

@@ -13,7 +13,7 @@ use Rattle.searches.specs.Promises.{HasSolution, Shown, picks}
 use Rattle.search.specs.Slots.{slots, Search, Deserves12}
 use Rattle.search.specs.FirstChecks.{Deserves3Run, Deserves6}
 use Rattle.search.specs.Calls.{search_of, Opens, Runs, Chooses}
-use Rattle.search.specs.declared.state.Ran.{Ran}
+use Rattle.search.specs.Outcomes.{Ran}
 use Rattle.blocks.specs.Reading.{Deserves14}
 use Rattle.files.specs.Reading.{said_n, said_d, Deserves15}
 use Rattle.files.specs.Calls.{Deserves12Load, Deserves13, Saves, Loads}

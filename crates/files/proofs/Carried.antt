@@ -12,7 +12,7 @@ use Rattle.search.specs.FirstChecks.{WholeSlots}
 use Rattle.search.specs.Calls.{Runs, Chooses}
 use Rattle.search.specs.Promises.{Handed}
 use Rattle.search.specs.declared.state.State.{State}
-use Rattle.search.specs.declared.state.Ran.{Ran}
+use Rattle.search.specs.Outcomes.{Ran}
 use Rattle.search.proofs.Encoding.{length_stack_of, agenda_of_words}
 use Rattle.search.proofs.first_checks.FirstPassing.{PassedSearch, search_is_passed}
 use Rattle.blocks.specs.Blocks.{file_of}

@@ -21,7 +21,7 @@ use Rattle.searches.specs.Chooser.{chosen, choose_from, choose}
 use Rattle.search.specs.Calls.{search_of, Ends, Runs, Chooses}
 use Rattle.search.specs.Promises.{Handed, Leaves}
 use Rattle.search.specs.declared.state.State.{State}
-use Rattle.search.specs.declared.state.Ran.{Ran}
+use Rattle.search.specs.Outcomes.{Ran}
 use Rattle.searches.proofs.Runs.{after, two_lists, stops}
 use Rattle.search.proofs.first_checks.FirstPassing.{run_is_passed}
 use Rattle.search.proofs.HandedOn.{known}

@@ -18,8 +18,8 @@ use Rattle.searches.specs.Chooser.{choose}
 use Rattle.search.specs.Calls.{search_of, Opens, Ends, Runs, Chooses}
 use Rattle.searches.specs.Reached.{Passes}
 use Rattle.search.specs.declared.state.State.{State}
-use Rattle.search.specs.declared.state.Opened.{Opened}
-use Rattle.search.specs.declared.state.Ran.{Ran}
+use Rattle.search.specs.Outcomes.{Opened}
+use Rattle.search.specs.Outcomes.{Ran}
 use Rattle.search.proofs.Encoding.{length_stack_of}
 use Rattle.search.proofs.first_checks.FirstPassing.{PassedSearch, search_is_passed, run_is_passed}
 use Rattle.search.proofs.first_checks.Apart.{apart_open, apart_search, apart_run}

@@ -20,7 +20,7 @@ use Rattle.search.specs.Calls.{search_of, Runs}
 use Rattle.searches.specs.Promises.{Shown, HasSolution}
 use Rattle.search.specs.Promises.{Handed, Leaves, Reached}
 use Rattle.search.specs.declared.state.State.{State}
-use Rattle.search.specs.declared.state.Ran.{Ran}
+use Rattle.search.specs.Outcomes.{Ran}
 use Rattle.searches.specs.declared.verdict.Verdict.{Verdict}
 use Rattle.searches.specs.declared.verdict.Verdict.TheVariants.{None}
 use Rattle.search.proofs.first_checks.FirstPassing.{Passed, run_is_passed}

@@ -14,8 +14,8 @@ use Rattle.searches.specs.Promises.{Shown, Limited, HasSolution}
 use Rattle.search.specs.Promises.{Handed, Reached}
 use Rattle.searches.specs.Verdicts.{number_of}
 use Rattle.search.specs.declared.state.State.{State}
-use Rattle.search.specs.declared.state.Opened.{Opened}
-use Rattle.search.specs.declared.state.Ran.{Ran}
+use Rattle.search.specs.Outcomes.{Opened}
+use Rattle.search.specs.Outcomes.{Ran}
 use Rattle.blocks.specs.Blocks.{blocks_for, file_of}
 use Rattle.files.specs.Content.{content_of}
 use Rattle.blocks.specs.Reading.{Deserves14, Bytes}

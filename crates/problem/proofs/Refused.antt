@@ -8,8 +8,8 @@ use Rattle.problem.specs.Tests.FirstChecks.{or_else}
 use Rattle.problem.proofs.first_checks.Parts.{else_first}
 use native.Mathlib.Omega.{arith}
 
--- no refusal has the number 0
-never_0 : (refusal : Refusal) → number_of refusal ≡ 0 → ⊥
+-- No refusal has the number 0.
+pub never_0 : (refusal : Refusal) → number_of refusal ≡ 0 → ⊥
 never_0 Variables h = omega arith
 never_0 Values h = omega arith
 never_0 Lengths h = omega arith
@@ -26,13 +26,18 @@ never_0 Buffer h = omega arith
 never_0 Blocks h = omega arith
 never_0 Content h = omega arith
 
--- What `?` hands on tells the number that it was told.
+-- What `?` hands on is the refusal that it was told.
+pub handed_err : {A : Type 0} (r : Result A Refusal) (refusal : Refusal) → IsErrAnd r (λ e. e ≡ refusal) → r ≡ Err refusal
+handed_err (Ok a) refusal h = absurd h
+handed_err (Err e) refusal h = ap Err h
+
 pub handed : {A : Type 0} (r : Result A Refusal) (refusal : Refusal) → IsErrAnd r (λ e. e ≡ refusal) → told r ≡ number_of refusal
-handed (Ok a) refusal h = absurd h
-handed (Err e) refusal h = ap number_of h
+handed r refusal h = ap told (handed_err r refusal h)
+
+pub handed_never : {A : Type 0} (r : Result A Refusal) (refusal : Refusal) → IsErrAnd r (λ e. e ≡ refusal) → told r ≡ 0 → ⊥
+handed_never r refusal h z = never_0 refusal (sym (handed r refusal h) ∙ z)
 
 -- So the first of two is given that is one.
 pub handed_first : {A : Type 0} (r : Result A Refusal) (refusal : Refusal) (a b : ℕ)
     → IsErrAnd r (λ e. e ≡ refusal) → number_of refusal ≡ a → told r ≡ or_else a b
-handed_first r refusal a b h e =
-    else_first _ a b (handed r refusal h ∙ e) (λ z. never_0 refusal (sym (handed r refusal h) ∙ z))
+handed_first r refusal a b h e = else_first _ a b (handed r refusal h ∙ e) (handed_never r refusal h)

@@ -22,10 +22,10 @@ use Rattle.search.specs.Calls.{opening, Opens, Ends}
 use Rattle.search.specs.Loops.Steps.{StopsAt}
 use Rattle.search.specs.Loops.Ends.{Used, ended_by}
 use Rattle.search.specs.declared.state.State.{State}
-use Rattle.search.specs.declared.state.Ran.{Ran}
+use Rattle.search.specs.Outcomes.{Ran}
 use Rattle.searches.specs.declared.verdict.Verdict.{Verdict}
 use Rattle.searches.specs.declared.verdict.Verdict.TheVariants.{None}
-use Rattle.search.specs.declared.step.Stop.{Stop}
+use Rattle.search.specs.Loops.Steps.{Stop}
 use Rattle.search.proofs.Running.{left_is, left_ready, ready_used}
 
 -- The verdict beside what stopped.

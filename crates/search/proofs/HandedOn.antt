@@ -29,8 +29,8 @@ use Rattle.searches.specs.Chooser.{choose}
 use Rattle.search.specs.Tests.FirstChecks.{open_refusal, refusal_of_requests}
 use Rattle.search.specs.FirstChecks.{WholeSlots, WholeRequests}
 use Rattle.search.specs.Calls.{search_of, opening, Opens, Ends, Runs, Chooses, begun}
-use Rattle.search.specs.declared.state.Ran.{Ran}
-use Rattle.search.specs.declared.state.Opened.{Opened}
+use Rattle.search.specs.Outcomes.{Ran}
+use Rattle.search.specs.Outcomes.{Opened}
 use Rattle.searches.specs.Reached.{Passes}
 use Rattle.search.specs.Promises.{Handed, Leaves, VerdictSays}
 use Rattle.searches.specs.Promises.{picks}

@@ -20,7 +20,7 @@ use Rattle.searches.specs.Runs.{run_from, cut_into, requests_in}
 use Rattle.problem.specs.Tests.FirstChecks.{refusal_of_numbers, masks_below, symmetric, refusal_of_problem}
 use Rattle.search.specs.Tests.FirstChecks.{whole_slots, refusal_of_lengths, refusal_of_requests, domain_obeys, values_agree, obeys, all_obey, zeros_from, refusal_of_search, run_refusal}
 use Rattle.search.specs.Promises.{Right}
-use Rattle.search.specs.declared.state.Ran.{Ran}
+use Rattle.search.specs.Outcomes.{Ran}
 use Rattle.searches.specs.declared.verdict.Verdict.TheVariants.{Running}
 
 -- Both requests are taken: 1,2 with 0 marked is left, after 2 steps and 1 check.

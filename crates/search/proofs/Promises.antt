@@ -13,7 +13,7 @@ use Rattle.searches.proofs.Promises.{chosen_so}
 use Rattle.search.specs.Slots.{slots, Stopped}
 use Rattle.search.specs.Calls.{Ends}
 use Rattle.search.specs.declared.state.State.{State}
-use Rattle.search.specs.declared.state.Ran.{Ran}
+use Rattle.search.specs.Outcomes.{Ran}
 use Rattle.search.specs.Cases.{cases}
 use Rattle.search.specs.Promises.{SlotsLawful, SlotsFull, SlotsRefusals, SlotsChosen, OpeningPlaces, ReachedOpened, OpenOne, RunOne, ChooseOne, OpenLeaves, RunLeaves, ChooserLeaves, HandedPasses, RunSays, ChooserSays, EndsSo, MarkedCases, NoneIfRun, NoneIfChoose, RunExact, ChooseExact, RightOnly, NotOnlyRefuses, NotAlwaysUnsolvable, NotIdle, NotSolvedAtOnce, NotInvented, OpenRefusals, SearchRefusals, RunRefusals, LengthsPass, RequestsPass, SearchPass, OpenApart, SearchApart, RunApart, FreshOne, SizesRefusalOne, OpenRefusalOne, SearchRefusalOne, RunRefusalOne}
 use Rattle.search.proofs.Slots

@@ -11,6 +11,8 @@ use native.Mathlib.Nat.{mul-le-mul_right, zero-mul, div-mul-le_self}
 use lib.ListN.{length, take, drop, length-take, length-drop}
 use lib.Seq.{drop-drop}
 use borrow.Author.Tests.{not-true, not-false}
+use Rattle.std.specs.Prelude.{Result, Ok, Err}
+use Rattle.problem.specs.declared.refusal.Refusal.{Refusal}
 use Rattle.splits.specs.Subproblems.{all_instantiated}
 use Rattle.splits.specs.declared.subproblem.Subproblem.{Subproblem}
 use Rattle.problem.specs.Problem.{problem_of}
@@ -23,12 +25,12 @@ use Rattle.searches.specs.Chooser.{chosen, choose_from, choose}
 use Rattle.search.specs.Calls.{search_of}
 use Rattle.search.specs.Loops.Slots.{SlotIn}
 use Rattle.search.specs.Loops.Kept.{Regular, Ready}
-use Rattle.search.specs.Loops.Steps.{Taking, StopsAt}
+use Rattle.search.specs.Loops.Steps.{Taking, StopsAt, taken_by, gone_by, went_on}
 use Rattle.search.specs.Loops.Choices.{chosen_for}
 use Rattle.search.specs.Loops.Ends.{Used, request_at}
 use Rattle.search.specs.declared.state.State.{State}
 use Rattle.searches.specs.declared.verdict.Verdict.TheVariants.{Running, Solved, Unsolvable}
-use Rattle.search.specs.declared.step.Stop.{Stop}
+use Rattle.search.specs.Loops.Steps.{Stop}
 use Rattle.search.proofs.Encoding.{length_stack_of, agenda_back}
 use Rattle.searches.proofs.Verdicts.{finished_top}
 use Rattle.search.proofs.step.Stepping.{stack_more}
@@ -72,6 +74,11 @@ module _ (n : ℕ) (agenda : List ℕ) (m : ℕ) where
     verdict_running e = rw (stack_is, ← tested, e) refl
 
 -- ---- one step
+
+-- A request that is taken, or refused, is where the run goes on, or stops.
+pub gone_on : (s : State) (r : Result State Refusal) → gone_by s (went_on r) ≡ taken_by s r
+gone_on s (Ok to) = refl
+gone_on s (Err refusal) = refl
 
 module _ (n d : ℕ) (t agenda : List ℕ) (s : State) (ready : Ready n d t agenda (search_of n agenda s)) where
   -- The slots in use lie within.

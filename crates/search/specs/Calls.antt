@@ -10,13 +10,8 @@ use Rattle.searches.specs.Runs.{run, requests_in}
 use Rattle.searches.specs.Chooser.{choose}
 use Rattle.search.specs.Tests.FirstChecks.{open_refusal, search_refusal, run_refusal}
 use Rattle.search.specs.declared.state.State.{State}
-use Rattle.search.specs.declared.state.Opened.{Opened}
-use Rattle.search.specs.declared.state.Ran.{Ran}
+use Rattle.search.specs.Outcomes.{fresh, Opened, Ran}
 use Rattle.searches.specs.declared.verdict.Verdict.TheVariants.{None}
-
--- A state of no steps and no checks, with so many subproblems.
-abbrev pub fresh : ℕ → State
-fresh subproblems = record { counts = record { steps = record { 0 = 0 }; checks = record { 0 = 0 } }; subproblems = subproblems }
 
 abbrev pub Fresh : ℕ → State → Type 0
 Fresh subproblems r = r ≡ fresh subproblems

@@ -20,11 +20,12 @@ use Rattle.search.specs.Slots.{slots, Deserves12, Search}
 use Rattle.search.specs.FirstChecks.{WholeRequests, Deserves3, Deserves3Run, Deserves6}
 use Rattle.search.specs.Tests.FirstChecks.{search_refusal, refusal_of_lengths, refusal_of_requests, refusal_of_search, sizes_refusal, open_refusal, run_refusal}
 use Rattle.problem.specs.FirstChecks.{Deserves1, Deserves2, Deserves4, Deserves5}
-use Rattle.search.specs.Calls.{opening, begun, search_of, Opens, Runs, Chooses, fresh, Fresh}
+use Rattle.search.specs.Calls.{opening, begun, search_of, Opens, Runs, Chooses, Fresh}
+use Rattle.search.specs.Outcomes.{fresh}
 use Rattle.search.specs.declared.state.State.{State}
-use Rattle.search.specs.declared.state.Opened.{Opened}
+use Rattle.search.specs.Outcomes.{Opened}
 use Rattle.search.specs.Cases.{Case, problem_in, expected, cases}
-use Rattle.search.specs.declared.state.Ran.{Ran}
+use Rattle.search.specs.Outcomes.{Ran}
 
 -- ---- slots
 

@@ -8,14 +8,14 @@ ghost use Rattle.splits.specs.Splits.{without, precluded_by, pieces};
 ghost use Rattle.problem.specs.Ranges.{Sized};
 ghost use Rattle.search.specs.Loops.Slots.{SlotIn};
 ghost use Rattle.search.specs.Loops.Kept.{Regular};
-ghost use Rattle.search.specs.Loops.Steps.{Replaced, Taking};
+ghost use Rattle.search.specs.Loops.Steps.{Replaced, Taking, taken_by};
 ghost use Rattle.search.specs.Loops.Lanes.{Rows, Sides};
-ghost use Rattle.search.specs.Loops.Found.{Found, AtTop, RoomFor, FurtherOf, FurtherPiece, Puts, request_by, left_by, several, TakesChosen};
+ghost use Rattle.search.specs.Loops.Found.{Found, AtTop, RoomFor, FurtherOf, FurtherPiece, Puts, request_by, left, left_by, several, TakesChosen};
 
 use crate::state::State;
-use crate::step::Stop;
 use crate::{agenda, kept, lanes, step};
 use problem::mask;
+use problem::refusal::Refusal;
 use splits::at_once;
 use splits::subproblem::Subproblem;
 
@@ -175,15 +175,8 @@ fn put_two(
     slot + 2
 }
 
-// What came of placing pieces: a refusal, and the number of subproblems.
-#[derive(Clone, Copy)]
-pub(crate) struct Left {
-    pub(crate) refusal: u32,
-    pub(crate) subproblems: usize,
-}
-
 // The pieces of the rule's request in the place of the top, which stood in slot `slot`: one at most, else kind 3's if they have room, else kind 2's
-// if these have, else none, and 12.
+// if these have, else none, and 12. The number of subproblems then.
 fn put(
     top: Subproblem,
     n: usize,
@@ -192,35 +185,25 @@ fn put(
     agenda: &mut [u16],
     choice: Choice,
     slot: usize,
-) -> Left
+) -> Result<usize, Refusal>
     requires { AtTop n d tables.now top choice slot (length agenda.old) }
-    ensures { Puts n d tables.now top slot agenda.old agenda.new result }
+    ensures { Puts n d tables.now top slot agenda.old agenda.new (left result) }
 {
     if !is_several(choice) {
-        return Left {
-            refusal: 0,
-            subproblems: settle(top, n, agenda, choice, slot),
-        };
+        return Ok(settle(top, n, agenda, choice, slot));
     }
     let free = agenda.len() / (n + 2) - slot;
     let further = further_of(top, choice);
     let out = further.out;
     if (at_once::filled(out) as usize) < free {
-        return Left {
-            refusal: 0,
-            subproblems: spread(top, n, d, tables, agenda, choice, further, slot),
-        };
+        return Ok(spread(
+            top, n, d, tables, agenda, choice, further, slot,
+        ));
     }
     if free < 2 {
-        return Left {
-            refusal: 12,
-            subproblems: 0,
-        };
+        return Err(Refusal::Room);
     }
-    Left {
-        refusal: 0,
-        subproblems: put_two(top, n, d, tables, agenda, choice, slot),
-    }
+    Ok(put_two(top, n, d, tables, agenda, choice, slot))
 }
 
 // The checks so far with those of the step: the values of all variables but V.
@@ -232,7 +215,7 @@ fn with_checks(top: Subproblem, choice: Choice, before: u64) -> u64
     before + ((at_once::values(domains) - choice.values) as u64)
 }
 
-// One step of the chooser by a search that runs and whose top is `top`.
+// One step of the chooser by a search that runs and whose top is `top`: the state after it.
 pub(crate) fn take_chosen(
     top: Subproblem,
     n: usize,
@@ -241,19 +224,16 @@ pub(crate) fn take_chosen(
     agenda: &mut [u16],
     rows: &mut [[u16; 32]],
     state: State,
-) -> Stop
+) -> Result<State, Refusal>
     requires { Taking n d tables.now agenda.old top state × Rows 16 n d tables.now rows.old }
-    ensures { TakesChosen n d tables.now top agenda.old agenda.new state result × Rows 16 n d tables.now rows.new }
+    ensures { TakesChosen n d tables.now top agenda.old agenda.new state (taken_by state result) × Rows 16 n d tables.now rows.new }
 {
     let steps = state.counts.steps.0;
-    if steps == 4294967295 {
-        return step::stopped(11, state);
+    if steps == u32::MAX {
+        return Err(Refusal::Steps);
     }
     let choice = look(top, n, d, tables, rows);
     let checks = with_checks(top, choice, state.counts.checks.0);
-    let left = put(top, n, d, tables, agenda, choice, state.subproblems - 1);
-    if left.refusal != 0 {
-        return step::stopped(left.refusal, state);
-    }
-    step::taken(steps, checks, left.subproblems)
+    let subproblems = put(top, n, d, tables, agenda, choice, state.subproblems - 1)?;
+    Ok(step::taken(steps, checks, subproblems))
 }

@@ -13,32 +13,33 @@ mod step;
 ghost use Rattle.std.specs.Prelude.{◌≡◌, ◌+◌, ◌/◌, ◌≤◌, ◌<◌, length};
 ghost use Rattle.search.specs.Agenda.{stack_of, agenda_of};
 ghost use Rattle.searches.specs.Verdicts.{verdict_of};
+ghost use Rattle.problem.specs.Refused.{number_of};
+ghost use Rattle.search.specs.Outcomes.{opened, ran};
 ghost use Rattle.search.specs.Calls.{opening, search_of, Opens, Runs, Chooses};
 ghost use Rattle.search.specs.Loops.Kept.{Ready};
-ghost use Rattle.search.specs.Loops.Steps.{TakesOne, TakesAll, ChoosesOne, ChoosesAll};
+ghost use Rattle.search.specs.Loops.Steps.{stop_of, gone_by, went_on, TakesOne, TakesAll, ChoosesOne, ChoosesAll};
 ghost use Rattle.search.specs.Loops.Lanes.{Rows, Below};
 ghost use Rattle.search.specs.Loops.Ends.{Openable, Used, request_at, refused_by, ended_by};
 
-use crate::state::{Opened, Ran, State};
+use crate::state::{Ran, State};
 use crate::step::Stop;
+use problem::refusal::Refusal;
 use searches::verdict::Verdict;
+use std::ops::ControlFlow;
 
 // Opens a search.
-pub fn open(n: usize, d: usize, domains: &[u16], tables: &[u16], agenda: &mut [u16]) -> Opened
-    ensures { Opens n d domains.now tables.now agenda.old agenda.new result }
+pub fn open(
+    n: usize,
+    d: usize,
+    domains: &[u16],
+    tables: &[u16],
+    agenda: &mut [u16],
+) -> Result<State, Refusal>
+    ensures { Opens n d domains.now tables.now agenda.old agenda.new (opened result) }
 {
-    let refusal = first_checks::open_refusal(n, d, domains, tables, agenda);
-    if refusal != 0 {
-        return Opened {
-            refusal,
-            state: State::fresh(0),
-        };
-    }
+    first_checks::open_refusal(n, d, domains, tables, agenda)?;
     let subproblems = place_problem(n, domains, agenda);
-    Opened {
-        refusal: 0,
-        state: State::fresh(subproblems),
-    }
+    Ok(State::fresh(subproblems))
 }
 
 // The agenda cleared, and the problem in it unless a domain is empty; the number of subproblems.
@@ -65,14 +66,15 @@ pub fn run(
     requests: &[u16],
     state: State,
 ) -> Ran
-    ensures { Runs n d domains.now tables.now agenda.old agenda.new requests.now state result }
+    ensures { Runs n d domains.now tables.now agenda.old agenda.new requests.now state (ran result) }
 {
-    let refusal = first_checks::run_refusal(n, d, domains, tables, agenda, requests, state);
-    if refusal != 0 {
-        return refused(refusal, state);
+    match first_checks::run_refusal(n, d, domains, tables, agenda, requests, state) {
+        Err(refusal) => refused(refusal, state),
+        Ok(()) => {
+            let stop = run_on(n, d, tables, agenda, requests, state);
+            ended(n, agenda, stop)
+        }
     }
-    let stop = run_on(n, d, tables, agenda, requests, state);
-    ended(n, agenda, stop)
 }
 
 // The words of request `k` of a list.
@@ -95,29 +97,31 @@ fn run_on(
     state: State,
 ) -> Stop
     requires { Ready n d tables.now agenda.old (search_of n agenda.old state) }
-    ensures { TakesAll n d tables.now agenda.old agenda.new requests.now state result }
+    ensures { TakesAll n d tables.now agenda.old agenda.new requests.now state (stop_of result) }
 {
     let count = requests.len() / (n + 3);
     let mut state = state;
-    let mut taken = 0;
-    while taken < count {
+    for taken in 0..count {
         let request = request_at(n, requests, taken);
-        let mut stop = step_by(n, d, tables, agenda, request, state);
-        state = stop.state;
-        if stop.taken == 0 {
-            stop.taken = taken;
-            return stop;
+        match step_by(n, d, tables, agenda, request, state) {
+            ControlFlow::Continue(next) => state = next,
+            ControlFlow::Break(refusal) => {
+                return Stop {
+                    refusal,
+                    taken,
+                    state,
+                };
+            }
         }
-        taken += 1;
     }
     Stop {
-        refusal: 0,
-        taken,
+        refusal: None,
+        taken: count,
         state,
     }
 }
 
-// One request of a run, unless the search is finished.
+// One request of a run, unless the search is finished: it goes on with the next state, or stops, at a refusal or finished.
 fn step_by(
     n: usize,
     d: usize,
@@ -125,18 +129,18 @@ fn step_by(
     agenda: &mut [u16],
     request: &[u16],
     state: State,
-) -> Stop
+) -> ControlFlow<Option<Refusal>, State>
     requires { Ready n d tables.now agenda.old (search_of n agenda.old state) × (length request.now ≡ n + 3) }
-    ensures { TakesOne n d tables.now agenda.old agenda.new request.now state result }
+    ensures { TakesOne n d tables.now agenda.old agenda.new request.now state (gone_by state result) }
 {
     let subproblems = state.subproblems;
     if subproblems != 0 {
         let top = agenda::read_slot(n, agenda, subproblems - 1);
         if !top.all_instantiated(n) {
-            return step::take(top, n, d, tables, agenda, request, state);
+            return go_on(step::take(top, n, d, tables, agenda, request, state));
         }
     }
-    step::stopped(0, state)
+    ControlFlow::Break(None)
 }
 
 // Runs up to `limit` steps by the house chooser.
@@ -149,14 +153,15 @@ pub fn choose(
     limit: usize,
     state: State,
 ) -> Ran
-    ensures { Chooses n d domains.now tables.now agenda.old agenda.new limit state result }
+    ensures { Chooses n d domains.now tables.now agenda.old agenda.new limit state (ran result) }
 {
-    let refusal = first_checks::search_refusal(n, d, domains, tables, agenda, state);
-    if refusal != 0 {
-        return refused(refusal, state);
+    match first_checks::search_refusal(n, d, domains, tables, agenda, state) {
+        Err(refusal) => refused(refusal, state),
+        Ok(()) => {
+            let stop = choose_on(n, d, tables, agenda, limit, state);
+            ended(n, agenda, stop)
+        }
     }
-    let stop = choose_on(n, d, tables, agenda, limit, state);
-    ended(n, agenda, stop)
 }
 
 // Chosen requests one by one, until one is not taken or the limit is met.
@@ -169,30 +174,32 @@ fn choose_on(
     state: State,
 ) -> Stop
     requires { Ready n d tables.now agenda.old (search_of n agenda.old state) }
-    ensures { ChoosesAll n d tables.now agenda.old agenda.new limit state result }
+    ensures { ChoosesAll n d tables.now agenda.old agenda.new limit state (stop_of result) }
 {
     let mut state = state;
-    let mut taken = 0;
     let none = [0u16; 32];
     let mut rows = [none; 512];
     let lanes = lanes::below(n);
-    while taken < limit {
-        let mut stop = step_chosen(lanes, n, d, tables, agenda, &mut rows, state);
-        state = stop.state;
-        if stop.taken == 0 {
-            stop.taken = taken;
-            return stop;
+    for taken in 0..limit {
+        match step_chosen(lanes, n, d, tables, agenda, &mut rows, state) {
+            ControlFlow::Continue(next) => state = next,
+            ControlFlow::Break(refusal) => {
+                return Stop {
+                    refusal,
+                    taken,
+                    state,
+                };
+            }
         }
-        taken += 1;
     }
     Stop {
-        refusal: 0,
-        taken,
+        refusal: None,
+        taken: limit,
         state,
     }
 }
 
-// One step of the chooser, unless the search is finished.
+// One step of the chooser, unless the search is finished, in the same way.
 fn step_chosen(
     lanes: [u16; 32],
     n: usize,
@@ -201,27 +208,39 @@ fn step_chosen(
     agenda: &mut [u16],
     rows: &mut [[u16; 32]],
     state: State,
-) -> Stop
+) -> ControlFlow<Option<Refusal>, State>
     requires { Ready n d tables.now agenda.old (search_of n agenda.old state) × (Rows 16 n d tables.now rows.old × Below n lanes) }
-    ensures { ChoosesOne n d tables.now agenda.old agenda.new state result × Rows 16 n d tables.now rows.new }
+    ensures { ChoosesOne n d tables.now agenda.old agenda.new state (gone_by state result) × Rows 16 n d tables.now rows.new }
 {
     let subproblems = state.subproblems;
     if subproblems != 0 {
         let top = agenda::read_lanes(lanes, n, agenda, subproblems - 1);
         if !top.all_instantiated(n) {
-            return chooser::take_chosen(top, n, d, tables, agenda, rows, state);
+            return go_on(chooser::take_chosen(
+                top, n, d, tables, agenda, rows, state,
+            ));
         }
     }
-    step::stopped(0, state)
+    ControlFlow::Break(None)
+}
+
+// A run goes on where a request is taken.
+fn go_on(taken: Result<State, Refusal>) -> ControlFlow<Option<Refusal>, State>
+    ensures { result ≡ went_on taken }
+{
+    match taken {
+        Ok(next) => ControlFlow::Continue(next),
+        Err(refusal) => ControlFlow::Break(Some(refusal)),
+    }
 }
 
 // What a call returns that its first checks refuse.
-fn refused(refusal: u32, state: State) -> Ran
-    ensures { result ≡ refused_by refusal state }
+fn refused(refusal: Refusal, state: State) -> Ran
+    ensures { ran result ≡ refused_by (number_of refusal) state }
 {
     Ran {
         verdict: Verdict::None,
-        refusal,
+        refusal: Some(refusal),
         taken: 0,
         state,
     }
@@ -230,7 +249,7 @@ fn refused(refusal: u32, state: State) -> Ran
 // What a call returns that stopped so.
 fn ended(n: usize, agenda: &[u16], stop: Stop) -> Ran
     requires { Used n stop.state.subproblems (length agenda.now) }
-    ensures { result ≡ ended_by n agenda.now stop }
+    ensures { ran result ≡ ended_by n agenda.now (stop_of stop) }
 {
     let state = stop.state;
     Ran {

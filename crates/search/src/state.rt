@@ -1,6 +1,7 @@
-// What a search is handed on with: two counters kept apart, the number of subproblems, and what a call returns.
+// What a search is handed on with: two counters kept apart, the number of subproblems; and what a run returns.
 ghost use Rattle.search.specs.Calls.{Fresh};
 
+use problem::refusal::Refusal;
 use searches::verdict::Verdict;
 
 // Steps taken.
@@ -40,18 +41,11 @@ impl State {
     }
 }
 
-// What opening returns.
-#[derive(Clone, Copy)]
-pub struct Opened {
-    pub refusal: u32,
-    pub state: State,
-}
-
-// What a run and the chooser return.
+// What a run and the chooser return: the refusal is that of the first checks, or of the request that it stopped at.
 #[derive(Clone, Copy)]
 pub struct Ran {
     pub verdict: Verdict,
-    pub refusal: u32,
+    pub refusal: Option<Refusal>,
     pub taken: usize,
     pub state: State,
 }

@@ -1,52 +1,39 @@
 // A step: the top subproblem gives way to the pieces of a request, in the lent agenda.
 ghost use Rattle.std.specs.Prelude.{◌≡◌, true, ◌+◌, ◌<◌, ◌^◌, length, ltb};
 ghost use Rattle.problem.specs.Problem.{table_of};
+ghost use Rattle.problem.specs.Refused.{told};
 ghost use Rattle.splits.specs.Splits.{pieces, candidates};
 ghost use Rattle.splits.specs.Checks.{checks};
 ghost use Rattle.splits.specs.Calls.{readable};
 ghost use Rattle.problem.specs.Ranges.{Sized};
-ghost use Rattle.search.specs.Loops.Steps.{stopped, taken_to, TellsEmpty, Placing, Placed, Taking, TakesOne, refusal_for};
+ghost use Rattle.search.specs.Loops.Steps.{counted, taken_by, TellsEmpty, Placing, Placed, Taking, TakesOne, refusal_for};
 
 use crate::agenda;
 use crate::state::{Checks, Counts, State, Steps};
+use problem::refusal::Refusal;
 use problem::tables;
 use splits::subproblem::Subproblem;
 use splits::{at_once, checks, refusal, split};
 
-// Where a run stops, or one step ends: the refusal, the requests taken and the state it leaves.
+// Where a run stops: the refusal, if one stopped it, the requests taken and the state it leaves.
 #[derive(Clone, Copy)]
 pub(crate) struct Stop {
-    pub(crate) refusal: u32,
+    pub(crate) refusal: Option<Refusal>,
     pub(crate) taken: usize,
     pub(crate) state: State,
 }
 
-// A request that is not taken: its refusal, and the state as it was.
-pub(crate) fn stopped(refusal: u32, state: State) -> Stop
-    ensures { result ≡ stopped refusal state }
-{
-    Stop {
-        refusal,
-        taken: 0,
-        state,
-    }
-}
-
-// One that is: a step more, and the checks and subproblems that it leaves.
-pub(crate) fn taken(steps: u32, checks: u64, subproblems: usize) -> Stop
+// The state after a request that is taken: a step more, and the checks and subproblems that it leaves.
+pub(crate) fn taken(steps: u32, checks: u64, subproblems: usize) -> State
     requires { steps + 1 < 2 ^ 32 }
-    ensures { result ≡ taken_to (steps + 1) checks subproblems }
+    ensures { result ≡ counted (steps + 1) checks subproblems }
 {
-    Stop {
-        refusal: 0,
-        taken: 1,
-        state: State {
-            counts: Counts {
-                steps: Steps(steps + 1),
-                checks: Checks(checks),
-            },
-            subproblems,
+    State {
+        counts: Counts {
+            steps: Steps(steps + 1),
+            checks: Checks(checks),
         },
+        subproblems,
     }
 }
 
@@ -79,8 +66,8 @@ fn exceed(top: Subproblem, n: usize, d: usize, tables: &[u16], request: &[u16], 
     free < piece_count(top, n, d, tables, request)
 }
 
-// The refusal of a request, in the order 11, 7 to 10, 12; 0 for none.
-#[tactic(auto, using(crate::proofs::step::Accepting::refused_at_11, crate::proofs::step::Accepting::refused_by_top, crate::proofs::step::Accepting::refused_at_12, crate::proofs::step::Accepting::refused_by_none))]
+// The refusal of a request, in the order 11, 7 to 10, 12.
+#[tactic(auto, using(crate::proofs::step::Accepting::refused_at_11))]
 fn refusal_of(
     top: Subproblem,
     n: usize,
@@ -89,21 +76,18 @@ fn refusal_of(
     request: &[u16],
     steps: u32,
     free: usize,
-) -> u32
+) -> Result<(), Refusal>
     requires { Sized n d tables.now }
-    ensures { result ≡ refusal_for n d tables.now top request.now steps free }
+    ensures { told result ≡ refusal_for n d tables.now top request.now steps free }
 {
-    if steps == 4294967295 {
-        return 11;
+    if steps == u32::MAX {
+        return Err(Refusal::Steps);
     }
-    let refused = refusal::refusal(top, n, d, request);
-    if refused != 0 {
-        return refused;
-    }
+    refusal::refusal(top, n, d, request)?;
     if exceed(top, n, d, tables, request, free) {
-        return 12;
+        return Err(Refusal::Room);
     }
-    0
+    Ok(())
 }
 
 // Whether variable k - 1 keeps no value in its own further piece, the k-th of kind 3 or 5: such a piece is empty and need not be made.
@@ -161,7 +145,7 @@ fn place(
     at
 }
 
-// One request taken by a search that runs and whose top is `top`.
+// One request taken by a search that runs and whose top is `top`: the state after it. Refused, the state is what it was.
 pub(crate) fn take(
     top: Subproblem,
     n: usize,
@@ -170,20 +154,17 @@ pub(crate) fn take(
     agenda: &mut [u16],
     request: &[u16],
     state: State,
-) -> Stop
+) -> Result<State, Refusal>
     requires { Taking n d tables.now agenda.old top state × (length request.now ≡ n + 3) }
-    ensures { TakesOne n d tables.now agenda.old agenda.new request.now state result }
+    ensures { TakesOne n d tables.now agenda.old agenda.new request.now state (taken_by state result) }
 {
     let steps = state.counts.steps.0;
     let slot = state.subproblems - 1;
     let free = agenda.len() / (n + 2) - slot;
-    let refusal = refusal_of(top, n, d, tables, request, steps, free);
-    if refusal != 0 {
-        return stopped(refusal, state);
-    }
+    refusal_of(top, n, d, tables, request, steps, free)?;
     let made = checks::checks(top, n, d, tables, request);
     let checks = state.counts.checks.0 + (made as u64);
     agenda::clear_slot(n, agenda, slot);
     let subproblems = place(top, n, d, tables, agenda, request, slot);
-    taken(steps, checks, subproblems)
+    Ok(taken(steps, checks, subproblems))
 }

@@ -3,7 +3,7 @@ use Rattle.std.specs.Prelude.{◌≡◌, List, [], ◌++◌, ℕ, zero, suc, ◌
 use Rattle.problem.specs.Masks.{lowest}
 use Rattle.search.specs.Agenda.{stack_of}
 use Rattle.searches.specs.Verdicts.{verdict_of}
-use Rattle.search.specs.declared.state.Ran.{Ran}
+use Rattle.search.specs.Outcomes.{Ran}
 use Rattle.answer.specs.Text.{plan_line}
 use Rattle.answer.specs.declared.text.Text.{Text}
 

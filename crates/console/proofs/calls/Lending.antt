@@ -12,8 +12,8 @@ use borrow.Author.Tests.{ne_eqb}
 use Rattle.searches.specs.Runs.{requests_in}
 use Rattle.search.specs.Calls.{Opens, Runs, Chooses}
 use Rattle.search.specs.declared.state.State.{State}
-use Rattle.search.specs.declared.state.Opened.{Opened}
-use Rattle.search.specs.declared.state.Ran.{Ran}
+use Rattle.search.specs.Outcomes.{Opened}
+use Rattle.search.specs.Outcomes.{Ran}
 use Rattle.search.proofs.first_checks.FirstPassing.{search_is_passed}
 use Rattle.blocks.specs.Blocks.{blocks_for}
 use Rattle.files.specs.Calls.{handed_content, save_refusal, Saves, Loads}

@@ -17,8 +17,8 @@ use Rattle.search.specs.Agenda.{holding}
 use Rattle.search.specs.Slots.{Stopped}
 use Rattle.search.specs.Calls.{opening, Opens, Ends}
 use Rattle.search.specs.declared.state.State.{State}
-use Rattle.search.specs.declared.state.Opened.{Opened}
-use Rattle.search.specs.declared.state.Ran.{Ran}
+use Rattle.search.specs.Outcomes.{Opened}
+use Rattle.search.specs.Outcomes.{Ran}
 use Rattle.files.specs.Reading.{said_n, said_d, said_subproblems}
 use Rattle.files.specs.Calls.{save_refusal, Saves, load_refusal, Loads}
 use Rattle.files.specs.declared.saved.Saved.{Saved}

@@ -28,7 +28,7 @@ use Rattle.searches.specs.Machines.{split_top}
 use Rattle.search.specs.Tests.FirstChecks.{refusal_of_lengths, zeros_from, refusal_of_search, run_refusal}
 use Rattle.search.specs.Calls.{search_of, Ends, Runs}
 use Rattle.search.specs.declared.state.State.{State}
-use Rattle.search.specs.declared.state.Ran.{Ran}
+use Rattle.search.specs.Outcomes.{Ran}
 use Rattle.searches.proofs.Runs.{after, run_finished, run_taken, run_refused, run_ind}
 use Rattle.search.proofs.Encoding.{length_stack_of}
 use Rattle.search.proofs.first_checks.Deserved.{slots_is}

@@ -28,7 +28,7 @@ use Rattle.search.specs.Calls.{search_of, Ends, Runs, Chooses}
 use Rattle.search.specs.Promises.{Handed, Leaves}
 use Rattle.searches.specs.Promises.{picks}
 use Rattle.search.specs.declared.state.State.{State}
-use Rattle.search.specs.declared.state.Ran.{Ran}
+use Rattle.search.specs.Outcomes.{Ran}
 use Rattle.searches.specs.declared.verdict.Verdict.TheVariants.{Running}
 use Rattle.searches.proofs.Verdicts.{running}
 use Rattle.searches.proofs.Runs.{after, after_none, run_finished, run_taken, run_refused, run_ind, stops}

@@ -22,7 +22,7 @@ use Rattle.search.specs.Calls.{search_of, Ends, Runs}
 use Rattle.searches.proofs.Verdicts.{is_run_on}
 use Rattle.searches.proofs.Runs.{stops}
 use Rattle.search.specs.declared.state.State.{State}
-use Rattle.search.specs.declared.state.Ran.{Ran}
+use Rattle.search.specs.Outcomes.{Ran}
 use Rattle.searches.specs.declared.verdict.Verdict.TheVariants.{Running}
 use Rattle.files.proofs.Requests.{cut_length, whole_append}
 use Rattle.word_bytes.specs.Bytes.{Whole, words_of}

@@ -3,7 +3,7 @@ use Rattle.std.specs.Prelude.{◌≡◌, Bool, ◌&&◌, List, ℕ, ◌+◌, ◌
 use Rattle.searches.specs.Verdicts.{number_of}
 use Rattle.search.specs.Calls.{Runs}
 use Rattle.search.specs.declared.state.State.{State}
-use Rattle.search.specs.declared.state.Ran.{Ran}
+use Rattle.search.specs.Outcomes.{Ran}
 use Rattle.files.specs.declared.saved.Loaded.{Loaded}
 use Rattle.word_bytes.specs.Bytes.{words_of, bytes_of}
 

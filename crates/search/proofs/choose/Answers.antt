@@ -1,34 +1,33 @@
 -- `search::choose` meets its contract.
+use mathlib.Core.Path.{refl}
 use Prim.Native.Nat.{ℕ, ◌<◌, ◌^◌}
 use native.Mathlib.Omega.{arith}
 use lib.ListN.{get_or}
 use mir.Val.{Fits}
 use mir.Syntax.{w32}
 use borrow.Author.Rules.{rules}
+use Rattle.problem.proofs.Refused.{never_0}
 use Rattle.search.proofs.first_checks.Admitting.{search_ready}
 use Rattle.search.proofs.Ending.{ends_refused, ends_stopped, stops_used, choose_same}
 use Rattle.search.proofs.choose.Goals as goal
 
-pub refused-requires : goal.refused-requires
-refused-requires c = tt
-
-pub returns-then-refusal-ne0 : goal.returns-then-refusal-ne0
-returns-then-refusal-ne0 c = rw c.refused.ensures (ends_refused _ _ _ _ _ _ c.search_refusal-refusal.ensures c.if-refusal-ne0.true)
+pub returns-in-Err : goal.returns-in-Err
+returns-in-Err c = rw c.refused.ensures (ends_refused _ _ _ _ _ _ c.in-Err.ensures (never_0 _))
 
 pub choose_on-stop-requires : goal.choose_on-stop-requires
 choose_on-stop-requires c =
     let a = c.args in
     let small : (i : ℕ) → get_or a.agenda.now i 0 < 2 ^ 16 = λ i. omega (arith, c.slice_known-1.given i) in
     let stepped : Fits w32 a.state.counts.steps.0 = search rules in
-    search_ready _ _ a.domains.now _ _ _ _ c.if-refusal-ne0.false small stepped.fits c.search_refusal-refusal.ensures
+    search_ready _ _ a.domains.now _ _ _ _ refl small stepped.fits c.in-Ok.ensures
 
 pub ended-requires : goal.ended-requires
 ended-requires c = stops_used _ _ _ _ _ _ _ c.choose_on-stop.ensures
 
-pub returns : goal.returns
-returns c =
-    ends_stopped _ _ _ _ _ _ _ _ _ _ _ _ c.search_refusal-refusal.ensures
-    c.if-refusal-ne0.false c.choose_on-stop.ensures
+pub returns-in-Ok : goal.returns-in-Ok
+returns-in-Ok c =
+    ends_stopped _ _ _ _ _ _ _ _ _ _ _ _ c.in-Ok.ensures
+    refl c.choose_on-stop.ensures
     (choose_same _ _ c.args.domains.now
     c.args.tables.now _ _ _ _)
     c.ended.ensures

@@ -37,7 +37,7 @@ use Rattle.splits.specs.AtOnce.{loses}
 use Rattle.search.specs.Loops.Found.{Found, AtTop, Puts, request_by, left_by, several, TakesChosen, value_in}
 use Rattle.search.specs.declared.state.State.{State}
 use Rattle.search.specs.declared.chooser.Choice.{Choice}
-use Rattle.search.specs.declared.chooser.Left.{Left}
+use Rattle.search.specs.Loops.Found.{Left}
 use Rattle.problem.proofs.Copies.{splice_cover, splice_none}
 use Rattle.search.proofs.agenda.Slots.{slot_below}
 use Rattle.search.proofs.Encoding.{length_slot}

@@ -1,8 +1,7 @@
 -- `search::step_by` meets its contract.
 use mathlib.Core.Path.{ap}
 use mathlib.Core.Bool.{not}
-use Rattle.search.proofs.Running.{used_slot, ready_used, finished_empty, finished_is, stays, taking}
-use Rattle.search.proofs.step_by.Goals.{then-subproblems-ne0+else-not-all_instantiated, else-subproblems-ne0}
+use Rattle.search.proofs.Running.{gone_on, used_slot, ready_used, finished_empty, finished_is, stays, taking}
 use Rattle.search.proofs.step_by.Goals as goal
 
 pub read_slot-top-requires : goal.read_slot-top-requires
@@ -19,15 +18,14 @@ take-requires c =
       k.1,
     )
 
-pub stopped-requires : goal.stopped-requires
-stopped-requires c = tt
+pub returns-then-not-all_instantiated : goal.returns-then-not-all_instantiated
+returns-then-not-all_instantiated c = rw (c.go_on.ensures, gone_on _ c.take.result) c.take.ensures
 
-pub returns : goal.returns
-returns c =
-    rw c.stopped.ensures
-    (stays _ _ _ _ _ c.requires.0 _
-    (elim c.if-subproblems-ne0.branch [
-      | then-subproblems-ne0+else-not-all_instantiated w ↦ finished_is _ _ _ w.if-subproblems-ne0.true _ w.read_slot-top.ensures _
-          w.all_instantiated.ensures (ap not w.if-not-all_instantiated.false)
-      | else-subproblems-ne0 w ↦ finished_empty _ _ _ w.if-subproblems-ne0.false
-    ]))
+pub returns-else-not-all_instantiated : goal.returns-else-not-all_instantiated
+returns-else-not-all_instantiated c =
+    stays _ _ _ _ _ c.requires.0 _
+    (finished_is _ _ _ c.if-subproblems-ne0.true _ c.read_slot-top.ensures _
+    c.all_instantiated.ensures (ap not c.if-not-all_instantiated.false))
+
+pub returns-else-subproblems-ne0 : goal.returns-else-subproblems-ne0
+returns-else-subproblems-ne0 c = stays _ _ _ _ _ c.requires.0 _ (finished_empty _ _ _ c.if-subproblems-ne0.false)

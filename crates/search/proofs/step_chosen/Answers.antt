@@ -1,8 +1,7 @@
 -- `search::step_chosen` meets its contract.
 use mathlib.Core.Bool.{not}
 use mathlib.Core.Path.{refl, ap}
-use Rattle.search.proofs.Running.{used_slot, ready_used, finished_empty, finished_is, stays_chosen, taking, chosen_stops}
-use Rattle.search.proofs.step_chosen.Goals.{then-subproblems-ne0+else-not-all_instantiated, else-subproblems-ne0}
+use Rattle.search.proofs.Running.{gone_on, used_slot, ready_used, finished_empty, finished_is, stays_chosen, taking, chosen_stops}
 use Rattle.search.proofs.step_chosen.Goals as goal
 
 pub read_lanes-top-requires : goal.read_lanes-top-requires
@@ -25,24 +24,21 @@ take_chosen-requires c = (
 
 pub returns-then-not-all_instantiated : goal.returns-then-not-all_instantiated
 returns-then-not-all_instantiated c = (
-  chosen_stops _ _ _ _ _ c.requires.0 _
-      c.if-subproblems-ne0.true
-      c.read_lanes-top.ensures _ _ _ refl
-      c.take_chosen.ensures.0,
+  rw (c.go_on.ensures, gone_on _ c.take_chosen.result)
+      (chosen_stops _ _ _ _ _ c.requires.0 _ c.if-subproblems-ne0.true c.read_lanes-top.ensures _ _ _ refl c.take_chosen.ensures.0),
   c.take_chosen.ensures.1,
 )
 
-pub stopped-requires : goal.stopped-requires
-stopped-requires c = tt
+pub returns-else-not-all_instantiated : goal.returns-else-not-all_instantiated
+returns-else-not-all_instantiated c = (
+  stays_chosen _ _ _ _ _ c.requires.0
+      (finished_is _ _ _ c.if-subproblems-ne0.true _ c.read_lanes-top.ensures _
+      c.all_instantiated.ensures (ap not c.if-not-all_instantiated.false)),
+  c.requires.1.0,
+)
 
-pub returns : goal.returns
-returns c = (
-  rw c.stopped.ensures
-      (stays_chosen _ _ _ _ _ c.requires.0
-      (elim c.if-subproblems-ne0.branch [
-        | then-subproblems-ne0+else-not-all_instantiated w ↦ finished_is _ _ _ w.if-subproblems-ne0.true _ w.read_lanes-top.ensures _
-            w.all_instantiated.ensures (ap not w.if-not-all_instantiated.false)
-        | else-subproblems-ne0 w ↦ finished_empty _ _ _ w.if-subproblems-ne0.false
-      ])),
+pub returns-else-subproblems-ne0 : goal.returns-else-subproblems-ne0
+returns-else-subproblems-ne0 c = (
+  stays_chosen _ _ _ _ _ c.requires.0 (finished_empty _ _ _ c.if-subproblems-ne0.false),
   c.requires.1.0,
 )

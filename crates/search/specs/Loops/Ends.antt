@@ -4,8 +4,8 @@ use Rattle.search.specs.Agenda.{stack_of, slots_in}
 use Rattle.searches.specs.Verdicts.{verdict_of}
 use Rattle.search.specs.declared.state.State.{State}
 use Rattle.searches.specs.declared.verdict.Verdict.TheVariants.{None}
-use Rattle.search.specs.declared.state.Ran.{Ran}
-use Rattle.search.specs.declared.step.Stop.{Stop}
+use Rattle.search.specs.Outcomes.{Ran}
+use Rattle.search.specs.Loops.Steps.{Stop}
 
 -- Memory of at least one whole slot, and a domain for each variable.
 pub record Openable (n : ℕ) (domains agenda : List ℕ) : Type 0 where

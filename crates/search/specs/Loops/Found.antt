@@ -1,5 +1,7 @@
 -- A step of the chooser: what it finds of a top subproblem, the pieces as the code makes them of that, and where they are put.
-use Rattle.std.specs.Prelude.{◌≡◌, Bool, true, false, cond, List, [], ◌∷◌, ℕ, ◌+◌, ◌-◌, ◌*◌, ◌≤◌, length, get_or, set, eqb, ltb}
+use Rattle.std.specs.Prelude.{Result, Ok, Err, ◌≡◌, Bool, true, false, cond, List, [], ◌∷◌, ℕ, ◌+◌, ◌-◌, ◌*◌, ◌≤◌, length, get_or, set, eqb, ltb}
+use Rattle.problem.specs.declared.refusal.Refusal.{Refusal}
+use Rattle.problem.specs.Refused.{number_of}
 use Rattle.problem.specs.Masks.{size, lowest}
 use Rattle.problem.specs.Problem.{table_of}
 use Rattle.splits.specs.Subproblems.{domain, empty, all_instantiated}
@@ -12,14 +14,12 @@ use Rattle.searches.specs.Chooser.{fewest, request}
 use Rattle.search.specs.Loops.Slots.{SlotIn}
 use Rattle.search.specs.Loops.Kept.{Regular}
 use Rattle.search.specs.Loops.Choices.{chosen_for}
-use Rattle.search.specs.Loops.Steps.{TakesOne, Replaced}
+use Rattle.search.specs.Loops.Steps.{TakesOne, Replaced, Stop}
 use Rattle.splits.specs.AtOnce.{outside_to}
 use Rattle.search.specs.Loops.Lanes.{BeforeTo}
 use Rattle.search.specs.declared.state.State.{State}
-use Rattle.search.specs.declared.step.Stop.{Stop}
 use Rattle.search.specs.declared.chooser.Choice.{Choice}
 use Rattle.search.specs.declared.chooser.Further.{Further}
-use Rattle.search.specs.declared.chooser.Left.{Left}
 
 -- The value that the choice goes with: the lowest of its variable.
 abbrev pub value_in : Subproblem → Choice → ℕ
@@ -66,6 +66,15 @@ pub record FurtherOf (P : Subproblem) (c : Choice) (f : Further) : Type 0 where
 -- The further piece of variable j.
 abbrev pub FurtherPiece : Further → ℕ → Subproblem → Type 0
 FurtherPiece f j Q = (masks : List ℕ) × BeforeTo f.row j 32 masks × (Q ≡ without (cut_each f.rest masks) j (get_or f.row j 0))
+
+-- What came of placing pieces: a refusal's number, or 0, and the number of subproblems.
+pub record Left : Type 0 where
+  pub refusal : ℕ
+  pub subproblems : ℕ
+
+abbrev pub left : Result ℕ Refusal → Left
+left (Ok subproblems) = record { refusal = 0; subproblems = subproblems }
+left (Err refusal) = record { refusal = number_of refusal; subproblems = 0 }
 
 -- The pieces of the request that the rule chooses in the place of the top, if they have room.
 pub record Puts (n d : ℕ) (tables : List ℕ) (P : Subproblem) (below : ℕ) (before after : List ℕ) (r : Left) : Type 0 where

@@ -1,5 +1,9 @@
 -- What a step asks of memory and of a request, and what a step or a run leaves.
-use Rattle.std.specs.Prelude.{◌≡◌, Bool, true, false, cond, List, [], ◌∷◌, ℕ, ◌+◌, ◌-◌, ◌*◌, ◌≤◌, length, replicate, eqb, ltb}
+use Rattle.std.specs.Prelude.{Option, Some, Result, Ok, Err, ◌≡◌, Bool, true, false, cond, List, [], ◌∷◌, ℕ, ◌+◌, ◌-◌, ◌*◌, ◌≤◌, length, replicate, eqb, ltb}
+use Rattle.std.specs.declared.ops.ControlFlow.{ControlFlow}
+use Rattle.std.specs.declared.ops.ControlFlow.TheVariants.{Continue, Break}
+use Rattle.problem.specs.declared.refusal.Refusal.{Refusal}
+use Rattle.problem.specs.Refused.{number_of}
 use Rattle.problem.specs.Problem.{table_of, problem_of}
 use Rattle.splits.specs.Subproblems.{all_instantiated, empty}
 use Rattle.splits.specs.Splits.{pieces, candidate}
@@ -7,6 +11,7 @@ use Rattle.splits.specs.Tests.Refusals.{refusal_of}
 use Rattle.splits.specs.Calls.{readable}
 use Rattle.splits.specs.declared.subproblem.Subproblem.{Subproblem}
 use Rattle.search.specs.Agenda.{subproblem_of, slot_at, stack_words, slots_in}
+use Rattle.search.specs.Outcomes.{told_by}
 use Rattle.search.specs.Slots.{slots, Stopped}
 use Rattle.searches.specs.Runs.{run_from, run, requests_in}
 use Rattle.searches.specs.Chooser.{choose_from, choose}
@@ -14,18 +19,34 @@ use Rattle.search.specs.Calls.{search_of}
 use Rattle.problem.specs.Lists.{splice}
 use Rattle.search.specs.Loops.Kept.{Ready}
 use Rattle.search.specs.declared.state.State.{State}
-use Rattle.search.specs.declared.step.Stop.{Stop}
+use Rattle.search.specs.declared.step.Stop.{Stop as Stopping}
 
--- What a request that is not taken returns, and one that is.
-abbrev pub stopped : ℕ → State → Stop
-stopped refusal state = record { refusal = refusal; taken = 0; state = state }
+-- Where a run stops, or one step ends: the number of a refusal, or 0, how many requests were taken, and the state it leaves.
+pub record Stop : Type 0 where
+  pub refusal : ℕ
+  pub taken : ℕ
+  pub state : State
 
-abbrev pub taken_to : ℕ → ℕ → ℕ → Stop
-taken_to steps checks subproblems = record {
-  refusal = 0;
-  taken = 1;
-  state = record { counts = record { steps = record { 0 = steps }; checks = record { 0 = checks } }; subproblems = subproblems };
-}
+abbrev pub stop_of : Stopping → Stop
+stop_of r = record { refusal = told_by r.refusal; taken = r.taken; state = r.state }
+
+-- A request leaves the state as it was where it is refused.
+abbrev pub taken_by : State → Result State Refusal → Stop
+taken_by before (Ok state) = record { refusal = 0; taken = 1; state = state }
+taken_by before (Err refusal) = record { refusal = number_of refusal; taken = 0; state = before }
+
+-- A run stops where a request is refused, and where the search is finished.
+abbrev pub gone_by : State → ControlFlow (Option Refusal) State → Stop
+gone_by before (Continue state) = record { refusal = 0; taken = 1; state = state }
+gone_by before (Break refusal) = record { refusal = told_by refusal; taken = 0; state = before }
+
+abbrev pub went_on : Result State Refusal → ControlFlow (Option Refusal) State
+went_on (Ok state) = Continue state
+went_on (Err refusal) = Break (Some refusal)
+
+-- A state of these counts.
+abbrev pub counted : ℕ → ℕ → ℕ → State
+counted steps checks subproblems = record { counts = record { steps = record { 0 = steps }; checks = record { 0 = checks } }; subproblems = subproblems }
 
 -- A request whose words fit, of a top P, is to be placed from a slot on, and there is room.
 pub record Placing (n d : ℕ) (tables : List ℕ) (P : Subproblem) (r : List ℕ) (from words : ℕ) : Type 0 where

@@ -1,7 +1,7 @@
 -- `console::numbers::refused` meets its contract.
 use mathlib.Core.Path.{ap}
 use Prim.Native.Nat.{ℕ}
-use Rattle.search.specs.declared.state.Ran.{Ran}
+use Rattle.search.specs.Outcomes.{Ran}
 use Rattle.searches.specs.declared.verdict.Verdict.TheVariants.{None}
 use Rattle.console.proofs.numbers.refused.Goals as goal
 

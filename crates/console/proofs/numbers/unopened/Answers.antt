@@ -2,7 +2,7 @@
 use mathlib.Core.Path.{ap₂}
 use Prim.Native.Nat.{ℕ}
 use Rattle.search.specs.declared.state.State.{State}
-use Rattle.search.specs.declared.state.Opened.{Opened}
+use Rattle.search.specs.Outcomes.{Opened}
 use Rattle.console.proofs.numbers.unopened.Goals as goal
 
 pub returns : goal.returns

@@ -1,14 +1,13 @@
 -- `search::choice::take_chosen` meets its contract.
+use mathlib.Core.Path.{refl}
 use native.Mathlib.Omega.{arith}
+use Rattle.problem.proofs.Refused.{never_0, handed_err}
 use Rattle.search.proofs.chooser.Settling.{taking_regular, taking_top, counted, chosen_refused, chosen_full, chosen_steps, chosen_taken}
 use Rattle.search.proofs.chooser.take_chosen.Goals as goal
 
-pub stopped-requires : goal.stopped-requires
-stopped-requires c = tt
-
 pub returns-then-steps : goal.returns-then-steps
 returns-then-steps c = (
-  rw c.stopped.ensures (chosen_refused _ _ _ _ _ _ c.requires.0 c.if-steps.true),
+  chosen_refused _ _ _ _ _ _ c.requires.0 c.if-steps.true,
   c.requires.1,
 )
 
@@ -22,22 +21,19 @@ with_checks-checks-requires c =
       omega (arith, k.ready.counted, k.ready.stepped),
     )
 
-pub put-left-requires : goal.put-left-requires
-put-left-requires c =
+pub put-requires : goal.put-requires
+put-requires c =
     taking_top _ _ _ _ _ _ c.requires.0 _
     c.look-choice.ensures.0
 
-pub stopped-requires-then-left-ne0 : goal.stopped-requires-then-left-ne0
-stopped-requires-then-left-ne0 c = tt
-
-pub returns-then-left-ne0 : goal.returns-then-left-ne0
-returns-then-left-ne0 c = (
-  rw c.stopped-then-left-ne0.ensures
+pub returns-in_err-subproblems : goal.returns-in_err-subproblems
+returns-in_err-subproblems c = (
+  rw (handed_err _ _ c.from_residual.ensures.1)
       (chosen_full _ _ _ _ _ _
       c.requires.0 _
       c.look-choice.ensures.0
       c.if-steps.false _ _
-      c.put-left.ensures c.if-left-ne0.true),
+      c.in_err-subproblems.ensures (never_0 _)),
   c.look-choice.ensures.1,
 )
 
@@ -47,7 +43,7 @@ taken-requires c =
     c.requires.0 _
     c.look-choice.ensures.0
     c.if-steps.false _ _
-    c.put-left.ensures c.if-left-ne0.false
+    c.in_ok-subproblems.ensures refl
 
 pub returns : goal.returns
 returns c = (
@@ -56,7 +52,7 @@ returns c = (
       c.requires.0 _
       c.look-choice.ensures.0
       c.if-steps.false _ _
-      c.put-left.ensures c.if-left-ne0.false _
+      c.in_ok-subproblems.ensures refl _
       c.with_checks-checks.ensures),
   c.look-choice.ensures.1,
 )
