@@ -73,21 +73,6 @@ pub word_none : (n d : ℕ) (t : List ℕ) (i j a : ℕ) → d ≤ a → table_o
 unfolding table_of
 word_none n d t i j a h = rw (le-ltb a d h) refl
 
--- what is worked out on the way to a mask is small
-pub record Row (n d i j : ℕ) : Type 0 where
-  pub row : i * n ≤ 1024
-  pub pair : i * n + j ≤ 1024
-  pub masks : (i * n + j) * d ≤ 16384
-
--- of two of the n variables it is
-pub in_row : (n d i j : ℕ) (t : List ℕ) → Sized n d t → i < n → j < n → Row n d i j
-in_row n d i j t s h k =
-    let sq : n * n ≤ 32 * 32 = mul-le-mul s.few s.few in
-    let at : i * n + j < n * n = digits_lt h k in
-    let le : i * n + j ≤ 1024 = omega arith in
-    let most : (i * n + j) * d ≤ 1024 * 16 = mul-le-mul le s.small in
-    record { row = omega arith; pair = le; masks = most }
-
 -- what `allowed` gives, by its tests in order
 module _ (n d : ℕ) (t : List ℕ) (i j a : ℕ) where
   pub given_over : n ≤ j → Allowed n d t i j a 0
