@@ -41,10 +41,8 @@ pub fn bits_of(words: &[u16]) -> u16
     ensures { BitsOf words.now result }
 {
     let mut bits: u16 = 0;
-    let mut k = 0;
-    while k < words.len() {
-        bits = bits | words[k];
-        k += 1;
+    for word in words {
+        bits |= *word;
     }
     bits
 }
@@ -78,12 +76,10 @@ fn tables_below(n: usize, d: usize, tables: &[u16]) -> bool
     if d == 16 {
         return true;
     }
-    let mut i = 0;
-    while i < n {
+    for i in 0..n {
         if !row_below(n, d, tables, i) {
             return false;
         }
-        i += 1;
     }
     true
 }

@@ -51,10 +51,8 @@ fn smallest_of(mask: u16, k: usize) -> u16
     ensures { result ≡ smallest_of 16 k mask }
 {
     let mut half: u16 = 0;
-    let mut i = 0;
-    while i < k {
-        half = half | only(lowest(mask & !half));
-        i += 1;
+    for i in 0..k {
+        half |= only(lowest(mask & !half));
     }
     half
 }
