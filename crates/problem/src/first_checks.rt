@@ -33,7 +33,7 @@ fn is_below(mask: u16, d: usize) -> bool
     requires { d ≤ 16 }
     ensures { result ≡ ltb mask (2 ^ d) }
 {
-    (mask as u64) < (1 << d)
+    u64::from(mask) < 1 << d
 }
 
 // The bits of all words together.
@@ -62,10 +62,7 @@ fn row_below(n: usize, d: usize, tables: &[u16], i: usize) -> bool
     requires { Sized n d tables.now × (i < n) }
     ensures { result ≡ row_below n d (table_of n d tables.now) i }
 {
-    if !span_below(n, d, tables, i, 0, i) {
-        return false;
-    }
-    span_below(n, d, tables, i, i + 1, n)
+    span_below(n, d, tables, i, 0, i) && span_below(n, d, tables, i, i + 1, n)
 }
 
 // Whether no mask that is read has one; of 16 values none can.
