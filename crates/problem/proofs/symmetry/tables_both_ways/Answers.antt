@@ -1,7 +1,7 @@
 -- `symmetry::tables_both_ways` meets its contract: the loop's invariant: every row passed is allowed both ways or neither.
 use mathlib.Core.Bool.{not}
 use mathlib.Core.Path.{ap}
-use Rattle.problem.proofs.FirstLoops.{every_start, every_stop, every_turn, every_end}
+use Rattle.problem.proofs.FirstLoops.{every_start, every_stop, every_turn}
 use Rattle.problem.proofs.symmetry.tables_both_ways.Goals as goal
 
 pub loop-i-init : goal.loop-i-init
@@ -12,6 +12,3 @@ returns-then-not-row_both_ways c = every_stop _ _ _ _ c.loop-i-test.true c.row_b
 
 pub loop-i-preserved : goal.loop-i-preserved
 loop-i-preserved c = every_turn _ _ _ c.loop-i.invariant c.row_both_ways.ensures (ap not c.if-not-row_both_ways.false)
-
-pub returns : goal.returns
-returns c = every_end _ _ _ c.loop-i.auto.i-end c.loop-i-test.false c.loop-i.invariant

@@ -1,11 +1,8 @@
 -- `tables::allowed` meets its contract: the place is inside the tables.
 use native.Mathlib.Omega.{arith}
 use mathlib.Core.Path.{refl}
-use Rattle.problem.proofs.tables.Ranges.{given_place, given_same, given_word}
+use Rattle.problem.proofs.tables.Ranges.{given_place, given_word}
 use Rattle.problem.proofs.tables.allowed.Goals as goal
-
-pub returns-then-i-j : goal.returns-then-i-j
-returns-then-i-j c = given_same _ _ _ _ _ _ _ c.if-n-j.false c.within.ensures c.if-not-within.false c.if-i-j.true
 
 pub overflow_mul-result : goal.overflow_mul-result
 overflow_mul-result c = omega (arith, given_place _ _ _ _ _ _ _ c.if-n-j.false c.within.ensures c.if-not-within.false)
