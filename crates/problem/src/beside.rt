@@ -12,10 +12,8 @@ fn made(n: usize, d: usize, tables: &[u16], variable: usize, value: usize) -> [u
     ensures { RowOf n (table_of n d tables.now) variable value result }
 {
     let mut row = [65535u16; 32];
-    let mut j = 0;
-    while j < n {
+    for j in 0..n {
         row[j] = tables::allowed(n, d, tables, variable, j, value);
-        j += 1;
     }
     row[variable] = mask::only(value);
     row

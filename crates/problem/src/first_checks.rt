@@ -29,7 +29,7 @@ fn is_below(mask: u16, d: usize) -> bool
     requires { d ≤ 16 }
     ensures { result ≡ ltb mask (2 ^ d) }
 {
-    (mask as u64) < (1 << d)
+    u64::from(mask) < 1 << d
 }
 
 // The bits of all words together.
@@ -37,10 +37,8 @@ pub fn bits_of(words: &[u16]) -> u16
     ensures { BitsOf words.now result }
 {
     let mut bits: u16 = 0;
-    let mut k = 0;
-    while k < words.len() {
-        bits = bits | words[k];
-        k += 1;
+    for word in words {
+        bits |= *word;
     }
     bits
 }
@@ -60,10 +58,7 @@ fn row_below(n: usize, d: usize, tables: &[u16], i: usize) -> bool
     requires { Sized n d tables.now × (i < n) }
     ensures { result ≡ row_below n d (table_of n d tables.now) i }
 {
-    if !span_below(n, d, tables, i, 0, i) {
-        return false;
-    }
-    span_below(n, d, tables, i, i + 1, n)
+    span_below(n, d, tables, i, 0, i) && span_below(n, d, tables, i, i + 1, n)
 }
 
 // Whether no mask that is read has one; of 16 values none can.
@@ -74,12 +69,10 @@ fn tables_below(n: usize, d: usize, tables: &[u16]) -> bool
     if d == 16 {
         return true;
     }
-    let mut i = 0;
-    while i < n {
+    for i in 0..n {
         if !row_below(n, d, tables, i) {
             return false;
         }
-        i += 1;
     }
     true
 }

@@ -7,35 +7,28 @@ ghost use Rattle.problem.specs.Calls.{Count, Lowest, Only, Has, SmallerHalf};
 pub fn count(mask: u16) -> usize
     ensures { Count mask result }
 {
-    u16::count_ones(mask) as usize
+    mask.count_ones() as usize
 }
 
 // The lowest value of a mask; 16 where it is empty.
 pub fn lowest(mask: u16) -> usize
     ensures { Lowest mask result }
 {
-    u16::trailing_zeros(mask) as usize
+    mask.trailing_zeros() as usize
 }
 
 // The mask of one value; empty for 16 or more.
 pub fn only(value: usize) -> u16
     ensures { Only value result }
 {
-    if value < 16 {
-        return 1 << value;
-    }
-    0
+    if value < 16 { 1 << value } else { 0 }
 }
 
 // Whether a value is in a mask.
 pub fn has(mask: u16, value: usize) -> bool
     ensures { Has mask value result }
 {
-    if value < 16 {
-        (mask >> value) % 2 == 1
-    } else {
-        false
-    }
+    value < 16 && (mask >> value) % 2 == 1
 }
 
 // The smallest values of a mask: half of them, rounded up.
@@ -51,10 +44,8 @@ fn smallest_of(mask: u16, k: usize) -> u16
     ensures { result ≡ smallest_of 16 k mask }
 {
     let mut half: u16 = 0;
-    let mut i = 0;
-    while i < k {
-        half = half | only(lowest(mask & !half));
-        i += 1;
+    for i in 0..k {
+        half |= only(lowest(mask & !half));
     }
     half
 }

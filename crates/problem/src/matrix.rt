@@ -117,10 +117,10 @@ fn four(rows: &[u16], k: usize) -> u64
     requires { k + 4 ≤ length rows.now }
     ensures { (result ≡ four (row_in rows.now) k) × Words rows.now }
 {
-    (rows[k] as u64)
-        + (rows[k + 1] as u64) * 65536
-        + (rows[k + 2] as u64) * 4294967296
-        + (rows[k + 3] as u64) * 281474976710656
+    u64::from(rows[k])
+        + u64::from(rows[k + 1]) * 65536
+        + u64::from(rows[k + 2]) * 4294967296
+        + u64::from(rows[k + 3]) * 281474976710656
 }
 
 // 16 rows.

@@ -15,33 +15,21 @@ fn padded(rows: &[u16]) -> [u16; 16]
     ensures { result ≡ rows.now ++ replicate (16 - length rows.now) 0 }
 {
     let mut all = [0u16; 16];
-    let mut a = 0;
-    while a < rows.len() {
-        all[a] = rows[a];
-        a += 1;
-    }
+    all[..rows.len()].copy_from_slice(rows);
     all
 }
 
-// The masks of the values of `j` allowed beside each value of `i`.
+// The masks of the values of `j` allowed beside each value of `i`; 16 of them as they stand, which is quick.
 fn matrix_at(n: usize, d: usize, tables: &[u16], i: usize, j: usize) -> Matrix
     requires { Sized n d tables.now × ((i < n) × (j < n)) }
     ensures { result ≡ matrix_of (padded d (table_of n d tables.now i j)) }
 {
     let at = (i * n + j) * d;
-    let end = at + d;
-    let rows = padded(&tables[at..end]);
-    matrix::matrix_of(&rows[..16])
-}
-
-// 16 of them, as they stand.
-fn whole_at(n: usize, tables: &[u16], i: usize, j: usize) -> Matrix
-    requires { Sized n 16 tables.now × ((i < n) × (j < n)) }
-    ensures { result ≡ matrix_of (padded 16 (table_of n 16 tables.now i j)) }
-{
-    let at = (i * n + j) * 16;
-    let end = at + 16;
-    matrix::matrix_of(&tables[at..end])
+    let rows = &tables[at..at + d];
+    if d == 16 {
+        return matrix::matrix_of(rows);
+    }
+    matrix::matrix_of(&padded(rows))
 }
 
 // Bits for the values of `i` and `j` that are allowed one way only; 0 for none.
@@ -55,54 +43,16 @@ fn one_way(n: usize, d: usize, tables: &[u16], i: usize, j: usize) -> u64
     )
 }
 
-// The same of 16 values.
-fn whole_one_way(n: usize, tables: &[u16], i: usize, j: usize) -> u64
-    requires { Sized n 16 tables.now × ((i < n) × (j < n)) }
-    ensures { result ≡ one_way 16 (table_of n 16 tables.now) i j }
-{
-    matrix::difference(
-        matrix::columns(whole_at(n, tables, i, j)),
-        whole_at(n, tables, j, i),
-    )
-}
-
 // Whether no value of `i` is allowed one way only with one of a variable before it: so each two variables are looked at once.
-fn part_both_ways(n: usize, d: usize, tables: &[u16], i: usize) -> bool
-    requires { Narrow n d tables.now × (i < n) }
-    ensures { result ≡ row_both_ways d (table_of n d tables.now) i }
-{
-    let mut bits: u64 = 0;
-    let mut j = 0;
-    while j < i {
-        bits = bits | one_way(n, d, tables, i, j);
-        j += 1;
-    }
-    bits == 0
-}
-
-// The same of 16 values, by loops over as many rows, so that the machine takes several at once.
-fn whole_both_ways(n: usize, tables: &[u16], i: usize) -> bool
-    requires { Narrow n 16 tables.now × (i < n) }
-    ensures { result ≡ row_both_ways 16 (table_of n 16 tables.now) i }
-{
-    let mut bits: u64 = 0;
-    let mut j = 0;
-    while j < i {
-        bits = bits | whole_one_way(n, tables, i, j);
-        j += 1;
-    }
-    bits == 0
-}
-
-// The same of any number of values.
 fn row_both_ways(n: usize, d: usize, tables: &[u16], i: usize) -> bool
     requires { Narrow n d tables.now × (i < n) }
     ensures { result ≡ row_both_ways d (table_of n d tables.now) i }
 {
-    if d == 16 {
-        return whole_both_ways(n, tables, i);
+    let mut bits: u64 = 0;
+    for j in 0..i {
+        bits |= one_way(n, d, tables, i, j);
     }
-    part_both_ways(n, d, tables, i)
+    bits == 0
 }
 
 // Whether the values of every two variables are allowed both ways or neither.
@@ -110,12 +60,10 @@ pub(crate) fn tables_both_ways(n: usize, d: usize, tables: &[u16]) -> bool
     requires { Narrow n d tables.now }
     ensures { result ≡ every n (row_both_ways d (table_of n d tables.now)) }
 {
-    let mut i = 0;
-    while i < n {
+    for i in 0..n {
         if !row_both_ways(n, d, tables, i) {
             return false;
         }
-        i += 1;
     }
     true
 }

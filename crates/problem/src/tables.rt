@@ -7,36 +7,21 @@ ghost use Rattle.problem.specs.Calls.{Within, Allowed};
 fn fits(n: usize, d: usize, tables: &[u16]) -> bool
     ensures { result ≡ sized n d tables.now }
 {
-    if 32 < n {
-        return false;
-    }
-    if 16 < d {
-        return false;
-    }
-    tables.len() == n * n * d
+    n <= 32 && d <= 16 && tables.len() == n * n * d
 }
 
 // Whether they do, and the variable and the value are among theirs.
 pub fn within(n: usize, d: usize, tables: &[u16], variable: usize, value: usize) -> bool
     ensures { Within n d tables.now variable value result }
 {
-    if n <= variable {
-        return false;
-    }
-    if d <= value {
-        return false;
-    }
-    fits(n, d, tables)
+    variable < n && value < d && fits(n, d, tables)
 }
 
 // The mask of the values of `j` allowed beside value `a` of `i`: none where the numbers do not fit, all where `j` is `i`, whose place is not read.
 pub fn allowed(n: usize, d: usize, tables: &[u16], i: usize, j: usize, a: usize) -> u16
     ensures { Allowed n d tables.now i j a result }
 {
-    if n <= j {
-        return 0;
-    }
-    if !within(n, d, tables, i, a) {
+    if n <= j || !within(n, d, tables, i, a) {
         return 0;
     }
     if i == j {

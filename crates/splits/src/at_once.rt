@@ -7,18 +7,16 @@ ghost use Rattle.splits.specs.Calls.{Few, Values, Loses, Outside, Outsides, Fill
 pub fn count(domain: u16) -> u16
     ensures { Few domain result }
 {
-    u16::count_ones(domain) as u16
+    domain.count_ones() as u16
 }
 
 // The number of values in all domains.
 pub fn values(domains: [u16; 32]) -> u16
     ensures { Values domains result }
 {
-    let mut sum: u16 = 0;
-    let mut i = 0;
-    while i < 32 {
-        sum += count(domains[i]);
-        i += 1;
+    let mut sum = 0;
+    for domain in &domains {
+        sum += count(*domain);
     }
     sum
 }
@@ -27,21 +25,16 @@ pub fn values(domains: [u16; 32]) -> u16
 fn loss(domain: u16, mask: u16) -> u16
     ensures { result ≡ cond (lost domain mask) 1 0 }
 {
-    if domain == 0 {
-        return 0;
-    }
-    if domain & mask == 0 { 1 } else { 0 }
+    u16::from(domain != 0 && domain & mask == 0)
 }
 
 // Whether one does, each cut to its own.
 pub fn loses(domains: [u16; 32], row: [u16; 32]) -> bool
     ensures { Loses domains row result }
 {
-    let mut lost: u16 = 0;
-    let mut i = 0;
-    while i < 32 {
-        lost = lost | loss(domains[i], row[i]);
-        i += 1;
+    let mut lost = 0;
+    for i in 0..32 {
+        lost |= loss(domains[i], row[i]);
     }
     lost != 0
 }
@@ -57,30 +50,19 @@ pub fn outside(domain: u16, mask: u16) -> u16
 pub fn outsides(mut domains: [u16; 32], row: [u16; 32]) -> [u16; 32]
     ensures { Outsides domains row result }
 {
-    let mut i = 0;
-    while i < 32 {
+    for i in 0..32 {
         domains[i] = outside(domains[i], row[i]);
-        i += 1;
     }
     domains
-}
-
-// Whether there are values: 1 if so, else 0.
-fn one_if(values: u16) -> u16
-    ensures { (result ≡ cond (eqb values 0) 0 1) × (result ≤ 1) }
-{
-    if values == 0 { 0 } else { 1 }
 }
 
 // How many of the masks have values.
 pub fn filled(out: [u16; 32]) -> u16
     ensures { Filled out result }
 {
-    let mut sum: u16 = 0;
-    let mut i = 0;
-    while i < 32 {
-        sum += one_if(out[i]);
-        i += 1;
+    let mut sum = 0;
+    for mask in &out {
+        sum += u16::from(*mask != 0);
     }
     sum
 }

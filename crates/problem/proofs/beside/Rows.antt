@@ -7,7 +7,6 @@ use native.Mathlib.Omega.{arith}
 use native.Mathlib.Decide.{ℕ_discrete, dec_lt}
 use lib.ListN.{length, get_or, set, replicate, length-set, get_or-replicate}
 use lib.Seq.{ext_get_or, get_or-set_same, get_or-set_other}
-use Rattle.problem.specs.Masks.{single}
 use Rattle.problem.specs.Problem.{Table}
 use Rattle.problem.specs.Beside.{RowOf}
 use Rattle.problem.specs.Ranges.{inside}
@@ -35,16 +34,6 @@ module _ (allowed : Table) (V' v : ℕ) where
       | no s ↦ get_or-set_other row j i a 0 s ∙ b.each i (omega arith) f
     ];
     past = λ i l k. get_or-set_other row j i a 0 (λ s. absurd (omega arith)) ∙ b.past i (omega arith) k;
-  }
-
-  -- V's own mask last: the row is made.
-  pub row_made : (n : ℕ) (row : List ℕ) (j x : ℕ) → Begun allowed V' v j row → j ≡ n → n ≤ 32 → V' < n → x ≡ single v
-      → RowOf n allowed V' v (set row V' x)
-  row_made n row j x b h few l e = record {
-    long = length-set row V' x ∙ b.long;
-    own = get_or-set_same row V' x 0 (omega (arith, b.long)) ∙ e;
-    other = λ i k s. get_or-set_other row V' i x 0 s ∙ b.each i (omega arith) s;
-    past = λ i k w. get_or-set_other row V' i x 0 (λ s. absurd (omega arith)) ∙ b.past i (omega arith) w;
   }
 
 -- Two rows of one value are one.

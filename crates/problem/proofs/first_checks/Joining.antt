@@ -1,7 +1,7 @@
 -- The bits of many words together: they are below a bound, or zero, where each word is.
 -- Assumes nothing.
 use mathlib.Core.Path.{◌≡◌, refl, sym, ap, ◌∙◌}
-use mathlib.Core.Bool.{Bool, true, false, not, ◌&&◌, and-true, or-true}
+use mathlib.Core.Bool.{Bool, true, false, ◌&&◌, and-true, or-true}
 use mathlib.Core.List.{List}
 use mathlib.Core.Logic.{⊎_elim}
 use Prim.Native.Nat.{ℕ, zero, suc, ◌+◌, ◌-◌, ◌*◌, ◌/◌, ◌%◌, ◌^◌, ◌≤◌, ◌<◌}
@@ -15,7 +15,7 @@ use lib.Pow.{pow_pos, shr-shr}
 use lib.Dec.{eqb, ltb}
 use lib.ListN.{length, get_or, take, drop, length-take, length-drop}
 use lib.Seq.{get_or-take, get_or-drop}
-use borrow.Author.Tests.{lt-ltb, ltb-true, eq-eqb, eqb-true, not-true, not-false}
+use borrow.Author.Tests.{lt-ltb, ltb-true, eq-eqb, eqb-true}
 use Rattle.problem.specs.Masks.{bit}
 use Rattle.problem.specs.Problem.{Table, table_of}
 use Rattle.problem.specs.Lists.{every, row_in, joined}
@@ -196,10 +196,10 @@ row_spans n d allowed i h =
     other : every n (pair_below d allowed i) ≡ true → (j : ℕ) → j < n → (i ≡ j → ⊥) → row j ≡ true
     other e j l f = ⊎_elim (λ s. absurd (f (eqb-true i j s))) (λ s. s) (or_cases (eqb i j) (row j) (every_at (pair_below d allowed i) n j l e))
 
-pub row_stop : (n d : ℕ) (allowed : Table) (i : ℕ) (b : Bool) → i < n → b ≡ span_below d allowed i 0 (i - 0) → not b ≡ true
-    → false ≡ row_below n d allowed i
-row_stop n d allowed i b h e y = rw (sym e ∙ not-true b y) at (row_spans n d allowed i h)
+pub row_stop : (n d : ℕ) (allowed : Table) (i : ℕ) (b : Bool) → i < n → b ≡ span_below d allowed i 0 (i - 0) → b ≡ false
+    → b ≡ row_below n d allowed i
+row_stop n d allowed i b h e y = y ∙ rw (sym e ∙ y) at (row_spans n d allowed i h)
 
-pub row_last : (n d : ℕ) (allowed : Table) (i : ℕ) (b r : Bool) → i < n → b ≡ span_below d allowed i 0 (i - 0) → not b ≡ false
+pub row_last : (n d : ℕ) (allowed : Table) (i : ℕ) (b r : Bool) → i < n → b ≡ span_below d allowed i 0 (i - 0) → b ≡ true
     → r ≡ span_below d allowed i (i + 1) (n - (i + 1)) → r ≡ row_below n d allowed i
-row_last n d allowed i b r h e y s = s ∙ (rw (sym e ∙ not-false b y) at (row_spans n d allowed i h))
+row_last n d allowed i b r h e y s = s ∙ (rw (sym e ∙ y) at (row_spans n d allowed i h))

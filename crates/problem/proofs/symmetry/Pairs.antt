@@ -1,7 +1,7 @@
 -- The masks of two variables, one way and the other: their words as they are read, and what is allowed one way only.
 -- Assumes nothing.
-use mathlib.Core.Path.{◌≡◌, refl, sym, ap, ◌∙◌, subst}
-use mathlib.Core.Bool.{Bool, true, or-true}
+use mathlib.Core.Path.{◌≡◌, sym, ap, ◌∙◌}
+use mathlib.Core.Bool.{true, or-true}
 use mathlib.Core.List.{List, ◌++◌}
 use mathlib.Core.Logic.{⊎_elim}
 use Prim.Native.Nat.{ℕ, ◌+◌, ◌-◌, ◌*◌, ◌/◌, ◌%◌, ◌^◌, ◌≤◌, ◌<◌}
@@ -12,7 +12,7 @@ use lib.Dec.{eqb}
 use lib.Arith.{digits_lt}
 use lib.ListN.{length, get_or, take, drop, replicate, length-take, length-drop, get_or-append}
 use lib.Pow.{pow_pos, pow_mono}
-use lib.Seq.{take-length, get_or-take, get_or-drop, get_or-append-add}
+use lib.Seq.{get_or-take, get_or-drop, get_or-append-add}
 use borrow.Author.Tests.{eqb-true, ltb-true, lt-ltb, le-ltb, eq-eqb}
 use Rattle.problem.specs.Masks.{bit}
 use Rattle.problem.specs.Problem.{Table, table_of, Words}
@@ -24,14 +24,9 @@ use Rattle.problem.proofs.Tests.{or_cases, every_at, every_all, same_test, every
 use Rattle.problem.specs.declared.matrix.Matrix.{Matrix}
 use Rattle.problem.specs.Loops.Matrices.{four, matrix_of, columns, difference}
 use Rattle.problem.specs.Loops.FirstTests.{Narrow, mask_below, pair_below, row_below, both_ways, value_both_ways, pair_both_ways, row_both_ways, padded, one_way}
-use Rattle.problem.proofs.Copies.{drop_zeros, zeros_at}
+use Rattle.problem.proofs.Copies.{zeros_at}
 use Rattle.problem.proofs.first_checks.Joining.{joined_zero}
 use Rattle.problem.proofs.matrix.Turning.{cell, matrix_cell, matrix_words, four_lt, mirror, same_cells, same_words, quarters_same, turned_lt}
-
--- a copy of all rows, and zeros
-pub padded_made : (rows m : List ℕ) (a : ℕ) → m ≡ take a rows ++ drop a (replicate 16 0) → a ≡ length rows
-    → m ≡ rows ++ replicate (16 - length rows) 0
-padded_made rows m a e h = rw (e, h, take-length, drop_zeros) refl
 
 -- ---- two variables
 
@@ -158,7 +153,7 @@ matrix_same f g h =
 
 module _ (n d i j : ℕ) (t : List ℕ) (fit : Sized n d t) (h : i < n) (k : j < n) where
   -- the masks of two of the variables stand within the tables
-  pub masks_within : (i * n + j) * d + d ≤ length t
+  masks_within : (i * n + j) * d + d ≤ length t
   masks_within =
       let pair : i * n + j + 1 ≤ n * n = omega (arith, digits_lt h k) in
       omega (arith, mul-le-mul_right d pair, fit.words)
@@ -196,9 +191,3 @@ words_below n d t e w =
     let most : 2 ^ d ≡ 65536 = ap (λ (x : ℕ). 2 ^ x) e in
     every_all (row_below n d (table_of n d t)) n (λ i h. every_all (pair_below d (table_of n d t) i) n (λ j k.
     rw (every_all (mask_below d (table_of n d t) i j) d (λ a l. lt-ltb (table_of n d t i j a) (2 ^ d) (rw (most, word_at n d t i j a l) (w ((i * n + j) * d + a))))) (or-true (eqb i j))))
-
-pub whole_narrow : (n d : ℕ) (t : List ℕ) → d ≡ 16 → Narrow n d t → Narrow n 16 t
-whole_narrow n d t e h = subst (λ (x : ℕ). Narrow n x t) e h
-
-pub whole_row : (n d i : ℕ) (t : List ℕ) (r : Bool) → d ≡ 16 → r ≡ row_both_ways 16 (table_of n 16 t) i → r ≡ row_both_ways d (table_of n d t) i
-whole_row n d i t r e h = h ∙ ap (λ (x : ℕ). row_both_ways x (table_of n x t) i) (sym e)

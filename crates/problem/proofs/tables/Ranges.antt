@@ -1,7 +1,7 @@
 -- The tests of a call's numbers say what they test, and a place of the tables is inside them.
 -- Assumes nothing.
-use mathlib.Core.Path.{◌≡◌, refl, sym, subst, ◌∙◌}
-use mathlib.Core.Bool.{Bool, true, false, not, ◌&&◌, and-false}
+use mathlib.Core.Path.{◌≡◌, refl, sym, ◌∙◌}
+use mathlib.Core.Bool.{Bool, true, ◌&&◌, and-false}
 use mathlib.Core.List.{List}
 use Prim.Native.Nat.{ℕ, ◌+◌, ◌*◌, ◌≤◌, ◌<◌}
 use native.Mathlib.Omega.{arith}
@@ -10,7 +10,7 @@ use native.Mathlib.Decide.{dec_lt}
 use lib.ListN.{length, get_or}
 use lib.Arith.{digits_lt}
 use lib.Dec.{leb, ltb, eqb}
-use borrow.Author.Tests.{not-true, not-false, ne_eqb, leb-true, ltb-true, eqb-true, le-leb, lt-ltb, le-ltb, eq-eqb}
+use borrow.Author.Tests.{ne_eqb, leb-true, ltb-true, eqb-true, le-leb, lt-ltb, le-ltb, eq-eqb}
 use Rattle.problem.proofs.Tests.{and_left, and_right}
 use Rattle.problem.specs.Problem.{table_of}
 use Rattle.problem.specs.Ranges.{sized, inside, Sized, Inside, Place}
@@ -47,22 +47,22 @@ inside_is n d t V' v h =
       eq-eqb (length t) (n * n * d) h.fit.words,
     )
 
--- the word of i, j and a is one of the n × n × d, and what is worked out on the way is as small
+-- the word of i, j and a is one of the n × n × d, and what is worked out on the way is small
 pub record Within (n d i j a : ℕ) (t : List ℕ) : Type 0 where
   pub row : i * n ≤ 1024
-  pub row_lt : i * n + j < n * n
-  pub most : n * n ≤ 1024
-  pub pair : (i * n + j) * d ≤ 16384
+  pub pair : i * n + j ≤ 1024
+  pub masks : (i * n + j) * d ≤ 16384
+  pub value : a < 16
   pub word : (i * n + j) * d + a < length t
 
-pub in_table : (n d i j a : ℕ) (t : List ℕ) → Sized n d t → Place n d i j a → Within n d i j a t
+in_table : (n d i j a : ℕ) (t : List ℕ) → Sized n d t → Place n d i j a → Within n d i j a t
 in_table n d i j a t s p =
     let sq : n * n ≤ 32 * 32 = mul-le-mul s.few s.few in
     let at : i * n + j < n * n = digits_lt p.first p.second in
     let wd : (i * n + j) * d + a < n * n * d = digits_lt at p.third in
     let le : i * n + j ≤ 1024 = omega arith in
     let pr : (i * n + j) * d ≤ 1024 * 16 = mul-le-mul le s.small in
-    record { row = omega arith; row_lt = at; most = sq; pair = pr; word = subst (λ (x : ℕ). (i * n + j) * d + a < x) (sym s.words) wd }
+    record { row = omega arith; pair = le; masks = pr; value = omega (arith, p.third, s.small); word = omega (arith, s.words) }
 
 -- The mask of a value is the word at its place, and of what is none of the d values there is none.
 pub word_at : (n d : ℕ) (t : List ℕ) (i j a : ℕ) → a < d → table_of n d t i j a ≡ get_or t ((i * n + j) * d + a) 0
@@ -73,42 +73,20 @@ pub word_none : (n d : ℕ) (t : List ℕ) (i j a : ℕ) → d ≤ a → table_o
 unfolding table_of
 word_none n d t i j a h = rw (le-ltb a d h) refl
 
--- what is worked out on the way to a mask is small
-pub record Row (n d i j : ℕ) : Type 0 where
-  pub row : i * n ≤ 1024
-  pub pair : i * n + j ≤ 1024
-  pub masks : (i * n + j) * d ≤ 16384
-
--- of two of the n variables it is
-pub in_row : (n d i j : ℕ) (t : List ℕ) → Sized n d t → i < n → j < n → Row n d i j
-in_row n d i j t s h k =
-    let sq : n * n ≤ 32 * 32 = mul-le-mul s.few s.few in
-    let at : i * n + j < n * n = digits_lt h k in
-    let le : i * n + j ≤ 1024 = omega arith in
-    let most : (i * n + j) * d ≤ 1024 * 16 = mul-le-mul le s.small in
-    record { row = omega arith; pair = le; masks = most }
-
 -- what `allowed` gives, by its tests in order
 module _ (n d : ℕ) (t : List ℕ) (i j a : ℕ) where
-  pub given_over : n ≤ j → Allowed n d t i j a 0
-  given_over h = simp (le-ltb j n h)
-
   module _ (b : Bool) (k : j < n) (e : b ≡ inside n d t i a) where
-    pub given_misfit : not b ≡ true → Allowed n d t i j a 0
-    given_misfit f = simp (lt-ltb j n k, sym e, not-true b f)
+    module _ (f : b ≡ true) where
+      given_inside : Inside n d t i a
+      given_inside = inside_true n d t i a (sym e ∙ f)
 
-    module _ (f : not b ≡ false) where
-      pub given_inside : Inside n d t i a
-      given_inside = inside_true n d t i a (sym e ∙ not-false b f)
-
-      pub given_place : Place n d i j a
-      given_place = record { first = given_inside.a_variable; second = k; third = given_inside.a_value }
-
-      pub given_same : i ≡ j → Allowed n d t i j a 65535
-      given_same s = simp (lt-ltb j n k, sym e, not-false b f, eq-eqb i j s)
+      pub given_place : Within n d i j a t
+      given_place =
+          let fits = given_inside in
+          in_table n d i j a t fits.fit (record { first = fits.a_variable; second = k; third = fits.a_value })
 
       pub given_word : (x : ℕ) → (i ≡ j → ⊥) → x ≡ get_or t ((i * n + j) * d + a) 0 → Allowed n d t i j a x
-      given_word x s w = simp (lt-ltb j n k, sym e, not-false b f, ne_eqb i j s) (w ∙ sym (word_at n d t i j a given_inside.a_value))
+      given_word x s w = simp (lt-ltb j n k, sym e, f, ne_eqb i j s) (w ∙ sym (word_at n d t i j a given_inside.a_value))
 
   -- where they fit it is the table's mask
   pub allowed_is : (x : ℕ) → Inside n d t i a → j < n → (i ≡ j → ⊥) → Allowed n d t i j a x → x ≡ table_of n d t i j a

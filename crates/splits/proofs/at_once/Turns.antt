@@ -9,26 +9,12 @@ use native.Mathlib.Numerals.{add-one}
 use lib.ListN.{get_or, set}
 use lib.Bits.{bit_or, or_zero_r}
 use lib.Dec.{eqb}
-use borrow.Author.Tests.{eq-eqb, ne_eqb}
-use Rattle.problem.specs.Masks.{common, minus}
+use borrow.Author.Tests.{ne_eqb}
+use Rattle.problem.specs.Masks.{minus}
 use Rattle.problem.specs.Lists.{some}
 use Rattle.problem.proofs.mask.Masks.{bit_le, bit-bit_or, bit_single_same, member_some}
 use Rattle.problem.proofs.Changed.{changed_more, changed_next}
-use Rattle.splits.specs.AtOnce.{lost, outside_to}
-
--- A mask that is empty loses nothing; another does if nothing is left of it.
-module _ (m mask : ℕ) where
-  pub loss_empty : m ≡ 0 → ◌≡◌ {A = ℕ} 0 (cond (lost m mask) 1 0)
-  unfolding lost
-  loss_empty e = rw (eq-eqb m 0 e) refl
-
-  pub loss_all : (m ≡ 0 → ⊥) → common m mask ≡ 0 → ◌≡◌ {A = ℕ} 1 (cond (lost m mask) 1 0)
-  unfolding lost
-  loss_all h e = rw (ne_eqb m 0 h, eq-eqb (common m mask) 0 e) refl
-
-  pub loss_none : (m ≡ 0 → ⊥) → (common m mask ≡ 0 → ⊥) → ◌≡◌ {A = ℕ} 0 (cond (lost m mask) 1 0)
-  unfolding lost
-  loss_none h e = rw (ne_eqb m 0 h, ne_eqb (common m mask) 0 e) refl
+use Rattle.splits.specs.AtOnce.{outside_to}
 
 -- A number joined with 1.
 or_one : (x : ℕ) → bit_or x 1 ≡ 0 → ⊥

@@ -1,11 +1,7 @@
 -- `beside::made` meets its contract. The invariant: the first j masks are made.
-use Prim.Native.Nat.{◌≤◌, ◌-◌}
 use Rattle.problem.specs.Problem.{table_of}
 use Rattle.problem.proofs.beside.Rows.{Begun}
 use Rattle.problem.proofs.beside.made.Given as goal
 
 abbrev pub invariant-loop-j : goal.invariant-loop-j
-invariant-loop-j l = (l.j ≤ l.n) × Begun (table_of l.n l.d l.tables) l.variable l.value l.j l.row
-
-abbrev pub decreases-loop-j : goal.decreases-loop-j
-decreases-loop-j l = l.n - l.j
+invariant-loop-j l = Begun (table_of l.n l.d l.tables) l.variable l.value l.j l.row

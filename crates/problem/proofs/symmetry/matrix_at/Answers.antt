@@ -1,28 +1,13 @@
--- `symmetry::matrix_at` meets its contract: the masks stand within the tables, and zeros follow.
-use native.Mathlib.Omega.{arith}
-use Rattle.problem.proofs.tables.Ranges.{in_row}
-use Rattle.problem.proofs.symmetry.Pairs.{masks_within, matrix_part}
+-- `symmetry::matrix_at` meets its contract: the masks stand within the tables, and zeros follow where they are fewer than 16.
+use Rattle.problem.proofs.symmetry.Pairs.{matrix_whole, matrix_part}
 use Rattle.problem.proofs.symmetry.matrix_at.Goals as goal
 
-pub overflow_mul-at : goal.overflow_mul-at
-overflow_mul-at c = omega (arith, in_row _ _ _ _ _ c.requires.0 c.requires.1.0 c.requires.1.1)
-
-pub overflow_add-at : goal.overflow_add-at
-overflow_add-at c = omega (arith, in_row _ _ _ _ _ c.requires.0 c.requires.1.0 c.requires.1.1)
-
-pub overflow_mul-at-2 : goal.overflow_mul-at-2
-overflow_mul-at-2 c = omega (arith, in_row _ _ _ _ _ c.requires.0 c.requires.1.0 c.requires.1.1)
-
-pub overflow_add-end : goal.overflow_add-end
-overflow_add-end c = omega (arith, in_row _ _ _ _ _ c.requires.0 c.requires.1.0 c.requires.1.1, c.requires.0.small)
-
-pub offset_bounds-tables-at : goal.offset_bounds-tables-at
-offset_bounds-tables-at c = omega (arith, masks_within _ _ _ _ _ c.requires.0 c.requires.1.0 c.requires.1.1)
-
-pub slice_bounds-padded-end : goal.slice_bounds-padded-end
-slice_bounds-padded-end c = omega (arith, masks_within _ _ _ _ _ c.requires.0 c.requires.1.0 c.requires.1.1)
+pub returns-then-d-eq16 : goal.returns-then-d-eq16
+returns-then-d-eq16 c =
+    let p = c.requires in
+    matrix_whole _ _ _ _ _ p.0 p.1.0 p.1.1 _ c.if-d-eq16.true c.matrix_of.ensures.0
 
 pub returns : goal.returns
 returns c =
-    matrix_part _ _ _ _ _ c.requires.0 c.requires.1.0
-    c.requires.1.1 _ _ c.padded-rows.ensures c.matrix_of.ensures.0
+    let p = c.requires in
+    matrix_part _ _ _ _ _ p.0 p.1.0 p.1.1 _ _ c.padded.ensures c.matrix_of-2.ensures.0

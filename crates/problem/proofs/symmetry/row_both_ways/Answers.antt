@@ -1,9 +1,15 @@
--- `symmetry::row_both_ways` meets its contract: 16 values, or any number.
-use Rattle.problem.proofs.symmetry.Pairs.{whole_narrow, whole_row}
+-- `symmetry::row_both_ways` meets its contract: the loop's invariant: what is allowed one way only of every pair passed is together.
+use Rattle.problem.proofs.first_checks.Joining.{joined_none, joined_more, joined_end}
+use Rattle.problem.proofs.symmetry.Pairs.{row_found}
 use Rattle.problem.proofs.symmetry.row_both_ways.Goals as goal
 
-pub whole_both_ways-requires : goal.whole_both_ways-requires
-whole_both_ways-requires c = (whole_narrow _ _ _ c.if-d-eq16.true c.requires.0, c.requires.1)
+pub loop-j-init : goal.loop-j-init
+loop-j-init c = joined_none _
 
-pub returns-then-d-eq16 : goal.returns-then-d-eq16
-returns-then-d-eq16 c = whole_row _ _ _ _ _ c.if-d-eq16.true c.whole_both_ways.ensures
+pub loop-j-preserved : goal.loop-j-preserved
+loop-j-preserved c = joined_more _ _ _ _ c.loop-j.invariant c.one_way-bits.ensures
+
+pub returns : goal.returns
+returns c =
+    row_found _ _ _ c.requires.0 _ _ c.requires.1
+    (joined_end _ _ _ _ c.loop-j.auto.j-end c.loop-j-test.false c.loop-j.invariant)

@@ -1,25 +1,13 @@
--- `splits::tables::fits` meets its contract.
+-- `tables::fits` meets its contract.
+use Rattle.std.proofs.Common.{arith}
+use Rattle.std.proofs.lemmas.Bool.Decides.{nat_tests}
 use Rattle.problem.specs.Ranges.{sized}
-use mathlib.Core.Bool.{and-false}
-use borrow.Author.Tests.{lt-leb, le-leb}
-use native.Mathlib.Nat.{mul-le-mul}
-use native.Mathlib.Omega.{arith}
 use Rattle.problem.proofs.tables.fits.Goals as goal
 
-pub returns-then-n-gt32 : goal.returns-then-n-gt32
+pub returns-then-d-le16 : goal.returns-then-d-le16
 unfolding sized
-returns-then-n-gt32 c = simp (lt-leb _ _ c.if-n-gt32.true)
+returns-then-d-le16 c = grind (arith, nat_tests)
 
-pub returns-then-d-gt16 : goal.returns-then-d-gt16
+pub returns-else-d-le16 : goal.returns-else-d-le16
 unfolding sized
-returns-then-d-gt16 c = simp (lt-leb _ _ c.if-d-gt16.true, and-false)
-
-pub overflow_mul-result : goal.overflow_mul-result
-overflow_mul-result c = omega (arith, mul-le-mul c.if-n-gt32.false c.if-n-gt32.false)
-
-pub overflow_mul-result-2 : goal.overflow_mul-result-2
-overflow_mul-result-2 c = omega (arith, mul-le-mul (mul-le-mul c.if-n-gt32.false c.if-n-gt32.false) c.if-d-gt16.false)
-
-pub returns : goal.returns
-unfolding sized
-returns c = simp (le-leb _ _ c.if-n-gt32.false, le-leb _ _ c.if-d-gt16.false)
+returns-else-d-le16 c = grind (arith, nat_tests)

@@ -1,17 +1,13 @@
--- `splits::tables::within` meets its contract.
+-- `tables::within` meets its contract.
+use Rattle.std.proofs.Common.{arith}
+use Rattle.std.proofs.lemmas.Bool.Decides.{nat_tests}
 use Rattle.problem.specs.Ranges.{inside}
-use borrow.Author.Tests.{le-ltb, lt-ltb}
-use mathlib.Core.Bool.{and-false}
 use Rattle.problem.proofs.tables.within.Goals as goal
 
-pub returns-then-n-variable : goal.returns-then-n-variable
+pub returns-then-value-d : goal.returns-then-value-d
 unfolding inside
-returns-then-n-variable c = simp (le-ltb _ _ c.if-n-variable.true)
+returns-then-value-d c = grind (arith, nat_tests)
 
-pub returns-then-d-value : goal.returns-then-d-value
+pub returns-else-value-d : goal.returns-else-value-d
 unfolding inside
-returns-then-d-value c = simp (le-ltb _ _ c.if-d-value.true, and-false)
-
-pub returns : goal.returns
-unfolding inside
-returns c = simp (lt-ltb _ _ c.if-n-variable.false, lt-ltb _ _ c.if-d-value.false) c.fits.ensures
+returns-else-value-d c = grind (arith, nat_tests)

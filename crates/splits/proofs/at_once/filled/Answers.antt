@@ -1,21 +1,15 @@
--- `at_once::filled` meets its contract. The invariant: the sum is of the first i.
-use mathlib.Core.Path.{◌≡◌, refl}
-use native.Mathlib.Omega.{arith}
+-- `at_once::filled` meets its contract. The invariant: the sum is of the first so many.
+use Rattle.std.proofs.Common.{arith, refl}
+use Rattle.std.proofs.lemmas.Bool.Decides.{nat_tests}
 use Rattle.problem.specs.Lists.{total}
 use Rattle.splits.specs.AtOnce.{filled}
 use Rattle.problem.proofs.Products.{total_turn}
 use Rattle.splits.proofs.at_once.filled.Goals as goal
 
-pub loop-i-init : goal.loop-i-init
+pub loop-mask-init : goal.loop-mask-init
 unfolding filled total
-loop-i-init c = (omega arith, (omega arith, refl))
+loop-mask-init c = (omega arith, refl)
 
-pub one_if-sum-requires : goal.one_if-sum-requires
-one_if-sum-requires c = tt
-
-pub loop-i-preserved : goal.loop-i-preserved
+pub loop-mask-preserved : goal.loop-mask-preserved
 unfolding filled
-loop-i-preserved c = (omega arith, (omega arith, total_turn _ _ _ _ c.loop-i.invariant.1.1 c.one_if-sum.ensures.0))
-
-pub returns : goal.returns
-returns c = let end : c.loop-i.i ≡ 32 = omega arith in rw (← end) c.loop-i.invariant.1.1
+loop-mask-preserved c = (grind (arith, nat_tests), total_turn _ _ _ _ c.loop-mask.invariant.1 (grind (arith, nat_tests)))

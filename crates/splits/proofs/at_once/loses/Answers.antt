@@ -8,15 +8,11 @@ use Rattle.splits.proofs.at_once.loses.Goals as goal
 
 pub loop-i-init : goal.loop-i-init
 unfolding some
-loop-i-init c = (omega arith, refl)
-
-pub loss-lost-requires : goal.loss-lost-requires
-loss-lost-requires c = tt
+loop-i-init c = refl
 
 pub loop-i-preserved : goal.loop-i-preserved
-loop-i-preserved c =
-    (omega arith, some_turn _ c.loop-i.i c.loop-i.lost _ c.loop-i.invariant.1 c.loss-lost.ensures)
+loop-i-preserved c = some_turn _ c.loop-i.i c.loop-i.lost _ c.loop-i.invariant c.loss-lost.ensures
 
 pub returns : goal.returns
 unfolding loses
-returns c = let end : c.loop-i.i ≡ 32 = omega arith in rw (← end) c.loop-i.invariant.1
+returns c = let end : c.loop-i.i ≡ 32 = omega arith in rw (← end) c.loop-i.invariant

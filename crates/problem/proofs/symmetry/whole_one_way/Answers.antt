@@ -1,8 +1,0 @@
--- `symmetry::whole_one_way` meets its contract: the masks of i with j, rows for columns, beside those of j with i.
-use Rattle.problem.proofs.symmetry.Pairs.{one_way_found}
-use Rattle.problem.proofs.symmetry.whole_one_way.Goals as goal
-
-pub returns : goal.returns
-returns c =
-    one_way_found _ _ _ _ _ _ _ _ c.whole_at.ensures c.columns.ensures c.whole_at-2.ensures
-    c.difference.ensures
