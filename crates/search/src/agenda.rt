@@ -1,5 +1,5 @@
 // The lent agenda: slots of n + 2 words, slot 0 the bottom. A step reads, writes and clears slots here alone; the first checks read them as words.
-ghost use Rattle.std.specs.Prelude.{◌≡◌, ◌+◌, ◌*◌, ◌≤◌, ◌<◌, ◌++◌, length, get_or, take, drop, replicate};
+ghost use Rattle.std.specs.Prelude.{◌≡◌, ◌+◌, ◌*◌, ◌≤◌, length, get_or, replicate};
 ghost use Rattle.search.specs.Agenda.{holding, slot_words, subproblem_of, slot_at};
 ghost use Rattle.problem.specs.Lists.{splice};
 ghost use Rattle.search.specs.Loops.Slots.{SlotIn};
