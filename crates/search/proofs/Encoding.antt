@@ -13,15 +13,7 @@ use Rattle.splits.specs.declared.subproblem.Subproblem.{Subproblem}
 use Rattle.search.specs.Agenda.{holding, Shape, slot_words, subproblem_of, slot_at, stack_of, stack_words, agenda_of}
 use Rattle.problem.specs.Lists.{splice}
 use Rattle.search.specs.Loops.Slots.{SlotIn}
-use Rattle.problem.proofs.Copies.{drop_zeros, splice_between}
-
--- What the loop that copies domains makes.
-pub holding_made : (n marked : ℕ) (words D : List ℕ) (i : ℕ) → D ≡ take i words ++ drop i (replicate 32 0) → i ≡ n
-    → record { domains = D; marked = marked } ≡ holding n words marked
-unfolding holding
-holding_made n marked words D i e s =
-    let same : D ≡ take n words ++ replicate (32 - n) 0 = e ∙ rw (s, drop_zeros) refl in
-    λ t. record { domains = same t; marked = marked }
+use Rattle.problem.proofs.Copies.{splice_between}
 
 -- A slot of a subproblem of nothing is zeros.
 pub slot_none : (n : ℕ) → n ≤ 32 → slot_words n (record { domains = replicate 32 0; marked = 0 }) ≡ replicate (n + 2) 0
@@ -68,12 +60,10 @@ unfolding slot_words
 length_slot n P h = simp (length-append, length-take) (omega arith)
 
 -- What the stores into a slot make.
-pub slot_made : (n : ℕ) (P : Subproblem) (slot ys : List ℕ) → ys ≡ take (length (take n slot)) P.domains → length slot ≡ n + 2
+pub slot_made : (n : ℕ) (P : Subproblem) (slot ys : List ℕ) → ys ≡ take n P.domains → length slot ≡ n + 2
     → n ≤ length P.domains → set (set (ys ++ drop n slot) n (P.marked / 65536)) (n + 1) (P.marked % 65536) ≡ slot_words n P
 unfolding slot_words
 slot_made n P slot ys e s h =
-    let short : length (take n slot) ≡ n = length-take-le n slot (omega arith) in
-    let front : ys ≡ take n P.domains = rw short at e in
     let long : length (take n P.domains) ≡ n = length-take-le n P.domains h in
     let none : drop (suc (suc n)) slot ≡ [] = let h : length slot ≤ suc (suc n) = omega arith in drop_of_length-le slot h in
     let two : drop n slot ≡ get_or slot n 0 ∷ get_or slot (suc n) 0 ∷ [] =
@@ -81,15 +71,9 @@ slot_made n P slot ys e s h =
     ∙ ap (λ (t : List ℕ). get_or slot n 0 ∷ t) (drop-cons slot (suc n) 0 (omega arith) ∙ ap (λ (t : List ℕ). get_or slot (suc n) 0 ∷ t) none) in
     let high : List ℕ = take n P.domains ++ ((P.marked / 65536) ∷ []) in
     let longer : length high ≡ n + 1 = simp length-append (omega arith) in
-    rw (front, two, set_at (take n P.domains) (get_or slot n 0) (get_or slot (suc n) 0 ∷ []) (P.marked / 65536) n long)
+    rw (e, two, set_at (take n P.domains) (get_or slot n 0) (get_or slot (suc n) 0 ∷ []) (P.marked / 65536) n long)
     (rw (← append_snoc (take n P.domains) (P.marked / 65536) (get_or slot (suc n) 0 ∷ []))
     (set_at high (get_or slot (suc n) 0) [] (P.marked % 65536) (n + 1) longer ∙ append_snoc (take n P.domains) (P.marked / 65536) ((P.marked % 65536) ∷ [])))
-
--- The words of a slot, its front written.
-pub slot_filled : (n : ℕ) (P : Subproblem) (slot front : List ℕ) → front ≡ take n P.domains ++ drop n slot → length slot ≡ n + 2
-    → n ≤ length P.domains → set (set front n (P.marked / 65536)) (n + 1) (P.marked % 65536) ≡ slot_words n P
-slot_filled n P slot front e s h =
-    rw e (slot_made n P slot (take n P.domains) (rw (length-take-le n slot (omega arith)) refl) s h)
 
 -- ---- a slot read back
 

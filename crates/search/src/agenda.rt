@@ -1,5 +1,5 @@
 // The lent agenda: slots of n + 2 words, slot 0 the bottom. A step reads, writes and clears slots here alone; the first checks read them as words.
-ghost use Rattle.std.specs.Prelude.{◌≡◌, ◌+◌, ◌*◌, ◌≤◌, ◌<◌, ◌++◌, length, get_or, take, drop, replicate};
+ghost use Rattle.std.specs.Prelude.{◌≡◌, ◌+◌, ◌*◌, ◌≤◌, length, get_or, replicate};
 ghost use Rattle.search.specs.Agenda.{holding, slot_words, subproblem_of, slot_at};
 ghost use Rattle.problem.specs.Lists.{splice};
 ghost use Rattle.search.specs.Loops.Slots.{SlotIn};
@@ -13,11 +13,7 @@ pub(crate) fn holding(n: usize, words: &[u16], marked: u32) -> Subproblem
     ensures { result ≡ holding n words.now marked }
 {
     let mut domains = [0u16; 32];
-    let mut i = 0;
-    while i < n {
-        domains[i] = words[i];
-        i += 1;
-    }
+    domains[..n].copy_from_slice(&words[..n]);
     Subproblem { domains, marked }
 }
 
@@ -25,7 +21,7 @@ pub(crate) fn holding(n: usize, words: &[u16], marked: u32) -> Subproblem
 fn marked_of(high: u16, low: u16) -> u32
     ensures { result ≡ high * 65536 + low }
 {
-    (high as u32) * 65536 + (low as u32)
+    u32::from(high) * 65536 + u32::from(low)
 }
 
 // The same of the two words from `at` on.
@@ -61,10 +57,8 @@ fn kept_words(lanes: [u16; 32], words: &[u16]) -> [u16; 32]
     ensures { KeptTo lanes words.now 32 result }
 {
     let mut domains = [0u16; 32];
-    let mut i = 0;
-    while i < 32 {
+    for i in 0..32 {
         domains[i] = words[i] & lanes[i];
-        i += 1;
     }
     domains
 }
@@ -85,39 +79,27 @@ pub(crate) fn read_lanes(lanes: [u16; 32], n: usize, memory: &[u16], k: usize) -
     }
 }
 
-// The first `n` words are the domains.
-fn put_domains(n: usize, slot: &mut [u16], domains: [u16; 32])
-    requires { (n ≤ 32) × (n ≤ length slot.old) }
-    ensures { slot.new ≡ take n domains ++ drop n slot.old }
-{
-    let mut i = 0;
-    while i < n {
-        slot[i] = domains[i];
-        i += 1;
-    }
-}
-
-// The words of a slot, one by one.
+// The words of a slot.
 fn put_each(n: usize, slot: &mut [u16], p: Subproblem)
     requires { (n ≤ 32) × (length slot.old ≡ n + 2) }
     ensures { slot.new ≡ slot_words n p }
 {
     let domains = p.domains;
-    put_domains(n, slot, domains);
+    slot[..n].copy_from_slice(&domains[..n]);
     slot[n] = (p.marked / 65536) as u16;
     slot[n + 1] = (p.marked % 65536) as u16;
 }
 
-// The same; of 32 variables by a loop of as many turns, so that the machine takes eight masks at once.
+// The same; of 32 variables by a copy of fixed length, so that the machine takes eight masks at once.
 fn put_words(n: usize, slot: &mut [u16], p: Subproblem)
     requires { (n ≤ 32) × (length slot.old ≡ n + 2) }
     ensures { slot.new ≡ slot_words n p }
 {
     if n == 32 {
         put_each(32, slot, p);
-        return;
+    } else {
+        put_each(n, slot, p);
     }
-    put_each(n, slot, p);
 }
 
 // Slot `k` holds the subproblem.
@@ -146,9 +128,5 @@ pub(crate) fn clear_slot(n: usize, memory: &mut [u16], k: usize)
 pub(crate) fn clear(memory: &mut [u16])
     ensures { memory.new ≡ replicate (length memory.old) 0 }
 {
-    let mut k = 0;
-    while k < memory.len() {
-        memory[k] = 0;
-        k += 1;
-    }
+    memory.fill(0);
 }

@@ -145,9 +145,7 @@ fn spread(
     let out = further.out;
     let sides = lanes::sides();
     let mut at = slot;
-    let mut j = n;
-    while 0 < j {
-        j -= 1;
+    for j in (0..n).rev() {
         if out[j] != 0 {
             agenda::write_slot(n, agenda, at, further_piece(further, &sides, j));
             at += 1;

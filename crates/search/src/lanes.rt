@@ -1,16 +1,10 @@
 // Loops over all 32 masks of a subproblem; those of a step have a fixed number of turns and no way out, so that the machine takes eight masks at once.
 // A lane is the place of one mask, of one variable among 32 but in `sides`; `lanes` have all bits or none in each.
-ghost use Rattle.std.specs.Prelude.{◌≡◌, ◌+◌, ◌*◌, ◌<◌, ◌≤◌, min};
+ghost use Rattle.std.specs.Prelude.{◌≡◌, ◌+◌, ◌*◌, ◌<◌, ◌≤◌};
 ghost use Rattle.problem.specs.Masks.{bit, size};
 ghost use Rattle.search.specs.Loops.Lanes.{Half, Beyond, Below, LeastKey, Sides, Widened, BeforeTo};
 
 use splits::at_once;
-
-fn least(a: u16, b: u16) -> u16
-    ensures { result ≡ min a b }
-{
-    if a < b { a } else { b }
-}
 
 // The half of a set of variables that begins at `from`: the low one at 0, the high one at 16.
 fn half(set: u32, from: usize) -> u16
@@ -34,11 +28,7 @@ pub(crate) fn below(n: usize) -> [u16; 32]
     ensures { Below n result }
 {
     let mut lanes = [0u16; 32];
-    let mut i = 0;
-    while i < n {
-        lanes[i] = 65535;
-        i += 1;
-    }
+    lanes[..n].fill(65535);
     lanes
 }
 
@@ -65,11 +55,9 @@ pub(crate) fn least_key(domains: [u16; 32], marked: u32) -> u16
     let low = half(marked, 0);
     let high = half(marked, 16);
     let mut best: u16 = 2047;
-    let mut i = 0;
-    while i < 16 {
-        best = least(best, key(domains[i], low, i, i));
-        best = least(best, key(domains[i + 16], high, i, i + 16));
-        i += 1;
+    for i in 0..16 {
+        best = best.min(key(domains[i], low, i, i));
+        best = best.min(key(domains[i + 16], high, i, i + 16));
     }
     best
 }
@@ -79,11 +67,7 @@ pub(crate) fn sides() -> [u16; 64]
     ensures { Sides 64 result }
 {
     let mut lanes = [0u16; 64];
-    let mut i = 32;
-    while i < 64 {
-        lanes[i] = 65535;
-        i += 1;
-    }
+    lanes[32..].fill(65535);
     lanes
 }
 
@@ -100,10 +84,8 @@ pub(crate) fn before(row: [u16; 32], sides: &[u16], j: usize) -> [u16; 32]
     ensures { BeforeTo row j 32 result }
 {
     let mut masks = [0u16; 32];
-    let mut i = 0;
-    while i < 32 {
+    for i in 0..32 {
         masks[i] = widened(row[i], sides[32 - j + i]);
-        i += 1;
     }
     masks
 }

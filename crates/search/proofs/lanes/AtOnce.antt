@@ -24,10 +24,6 @@ use Rattle.search.specs.Loops.Lanes.{key_of, LeastKey}
 
 -- ---- turns of the loops
 
--- Before the first two variables there is no key.
-pub least_none : (l : List ℕ) (set : ℕ) → LeastKey l set 0 2047
-least_none l set = record { low = λ j k. absurd (omega arith); high = λ j k. absurd (omega arith); some = inl refl }
-
 -- The least key of two variables more.
 module _ (l : List ℕ) (set i best x y r s : ℕ) (few : i < 16) (so_far : LeastKey l set i best)
     (first : x ≡ key_of (get_or l i 0) set i) (second : y ≡ key_of (get_or l (i + 16) 0) set (i + 16)) (e : r ≡ min best x) (f : s ≡ min r y) where

@@ -6,20 +6,20 @@ use mathlib.Core.List.{List, ◌++◌}
 use Prim.Native.Nat.{ℕ, ◌+◌, ◌-◌, ◌*◌, ◌/◌, ◌%◌, ◌^◌, ◌≤◌, ◌<◌, min, max}
 use native.Mathlib.Omega.{arith}
 use native.Mathlib.Decide.{dec_lt, ℕ_discrete}
-use lib.ListN.{length, get_or, set, take, drop, replicate, length-set, length-append, length-take, length-drop, length-replicate, get_or-append}
+use lib.ListN.{length, get_or, set, take, drop, replicate, length-set, length-append, length-take, length-drop, length-replicate, get_or-append, get_or-replicate}
 use lib.Seq.{length-take-le, get_or-set_same, get_or-set_other, get_or-take, get_or-append-add, take-take, ext_get_or}
 use lib.Bits.{bit_or, or_zero_r}
 use lib.Pow.{pow_mono, pow_pos}
-use lib.Dec.{eqb, ltb, leb}
-use borrow.Author.Tests.{lt-ltb, le-ltb, eqb-true, le-leb, lt-leb}
+use lib.Dec.{eqb, leb}
+use borrow.Author.Tests.{eqb-true, le-leb, lt-leb}
 use Rattle.problem.specs.Masks.{bit, common, size}
 use Rattle.problem.specs.Lists.{every}
 use Rattle.problem.proofs.mask.Masks.{bit_le, bit_ext, bit_above, bit_common, bit-bit_or, all_set, all_common, common_none, shifted}
 use Rattle.problem.proofs.Tests.{every_at}
 use Rattle.search.specs.Agenda.{holding, subproblem_of, slot_at}
 use Rattle.search.specs.Loops.Slots.{SlotIn}
-use Rattle.search.specs.Loops.Lanes.{Half, Beyond, Below, Kept, KeptTo, key_of, Sides, Widened, BeforeTo}
-use Rattle.problem.proofs.Copies.{zeros_at}
+use Rattle.search.specs.Loops.Lanes.{Half, Beyond, Below, Kept, KeptTo, key_of, Sides, Widened}
+use Rattle.problem.proofs.Copies.{drop_zeros, zeros_at}
 use Rattle.search.proofs.Encoding.{slot_lies}
 use Rattle.problem.proofs.first_checks.Joining.{bit_shr}
 use Rattle.problem.proofs.matrix.Turning.{bit_low}
@@ -58,18 +58,15 @@ beyond_is i h = record {
 
 -- ---- lanes
 
--- No lane yet, and one more.
-pub below_none : Below 0 (replicate 32 0)
-below_none = record { long = refl; all = λ i h. absurd (omega arith); none = λ i h. zeros_at 32 i }
-
-pub below_more : (l : List ℕ) (i : ℕ) → Below i l → i < 32 → Below (i + 1) (set l i 65535)
-below_more l i b h = record {
-  long = length-set l i 65535 ∙ b.long;
-  all = λ j k. elim (ℕ_discrete j i) [
-    | yes e ↦ rw e (get_or-set_same l i 65535 0 (omega (arith, b.long)))
-    | no e ↦ get_or-set_other l i j 65535 0 e ∙ b.all j (omega arith)
-  ];
-  none = λ j k. get_or-set_other l i j 65535 0 (λ e. omega arith) ∙ b.none j (omega arith);
+-- The first lanes filled.
+pub below_is : (n : ℕ) → n ≤ 32 → Below n (replicate n 65535 ++ drop n (replicate 32 0))
+below_is n h = record {
+  long = simp (length-append, length-replicate, length-drop) (omega arith);
+  all = λ i k. get_or-append (replicate n 65535) (drop n (replicate 32 0)) 0 i (simp length-replicate k) ∙ get_or-replicate n i 65535 0 k;
+  none = λ i k.
+      let up : i ≡ length {A = ℕ} (replicate n 65535) + (i - n) = simp length-replicate (omega arith) in
+      ap (λ (x : ℕ). get_or (replicate n 65535 ++ drop n (replicate 32 0)) x 0) up
+      ∙ get_or-append-add (replicate n 65535) (drop n (replicate 32 0)) (i - n) 0 ∙ rw (drop_zeros 32 n) (zeros_at (32 - n) (i - n));
 }
 
 -- One word more kept.
@@ -128,18 +125,15 @@ slot_lanes n k agenda lanes D m slot fits b kept e =
 
 -- ---- the piece for a variable
 
--- No side yet, and one lane more.
-pub sides_none : Sides 32 (replicate 64 0)
-sides_none = record { long = refl; none = λ j h. zeros_at 64 j; all = λ j h k. absurd (omega arith) }
-
-pub sides_more : (l : List ℕ) (i : ℕ) → Sides i l → 32 ≤ i → i < 64 → Sides (i + 1) (set l i 65535)
-sides_more l i s h k = record {
-  long = length-set l i 65535 ∙ s.long;
-  none = λ j a. get_or-set_other l i j 65535 0 (λ e. omega arith) ∙ s.none j a;
-  all = λ j a b. elim (ℕ_discrete j i) [
-    | yes e ↦ rw e (get_or-set_same l i 65535 0 (omega (arith, s.long)))
-    | no e ↦ get_or-set_other l i j 65535 0 e ∙ s.all j a (omega arith)
-  ];
+-- The last lanes filled.
+pub sides_is : Sides 64 (replicate 32 0 ++ replicate 32 65535)
+sides_is = record {
+  long = refl;
+  none = λ j h. get_or-append (replicate 32 0) (replicate 32 65535) 0 j h ∙ zeros_at 32 j;
+  all = λ j a b.
+      let up : j ≡ 32 + (j - 32) = omega arith in
+      ap (λ (x : ℕ). get_or (replicate 32 0 ++ replicate 32 65535) x 0) up
+      ∙ get_or-append-add (replicate 32 0) (replicate 32 65535) (j - 32) 0 ∙ get_or-replicate 32 (j - 32) 65535 0 (omega arith);
 }
 
 -- A mask that stays by no bits, and is all bits by all.
@@ -153,24 +147,4 @@ widened_is mask lane = (
     whole m h v = elim (dec_lt v 16) [
       | yes k ↦ let all : bit 65535 v ≡ 1 = all_set 16 v k in rw all (omega (arith, bit_le m v, bit_le mask v))
       | no k ↦ rw (bit_above 16 m v h (omega arith)) (omega arith)
-    ]
-
--- No variable yet, and one more.
-pub before_none : (row : List ℕ) (j : ℕ) → BeforeTo row j 0 (replicate 32 0)
-before_none row j = record { long = refl; each = λ k h. absurd (omega arith) }
-
-pub before_more : (row sides masks : List ℕ) (j i x : ℕ) → BeforeTo row j i masks → Sides 64 sides → i < 32 → j < 32
-    → Widened (get_or row i 0) (get_or sides (32 - j + i) 0) x → BeforeTo row j (i + 1) (set masks i x)
-before_more row sides masks j i x so_far s h l w = record {
-  long = length-set masks i x ∙ so_far.long;
-  each = λ k q m b. elim (ℕ_discrete k i) [
-    | yes e ↦ rw (e, get_or-set_same masks i x 0 (omega (arith, so_far.long))) (here m b)
-    | no e ↦ rw (get_or-set_other masks i k x 0 e) (so_far.each k (omega arith) m b)
-  ];
-}
-  where
-    here : (m : ℕ) → m < 65536 → common m x ≡ cond (ltb i j) (common m (get_or row i 0)) m
-    here m b = elim (dec_lt i j) [
-      | yes k ↦ rw (lt-ltb i j k, w.0 (s.none (32 - j + i) (omega arith))) refl
-      | no k ↦ rw (le-ltb i j (omega arith)) (w.1 (s.all (32 - j + i) (omega arith) (omega arith)) m b)
     ]

