@@ -73,11 +73,9 @@ fn put_masks(n: usize, d: usize, tables: &[u16], words: &mut [u16], at: usize) -
     requires { Numbers n d × ((length tables.now ≡ n * n * d) × (at + triangle_words n d ≤ length words.old)) }
     ensures { (words.new ≡ splice words.old at (triangle n d (table_of n d tables.now))) × (result ≡ at + triangle_words n d) }
 {
-    let mut i = 0;
     let mut end = at;
-    while i < n {
+    for i in 0..n {
         end = copying::put_at(masks_after(n, d, tables, i), words, end);
-        i += 1;
     }
     end
 }

@@ -12,29 +12,16 @@ pub(crate) fn part(words: &[u16], from: usize, count: usize) -> &[u16]
     &words[from..end]
 }
 
-// A copy of so many words.
-fn put_each(words: &[u16], out: &mut [u16], count: usize)
-    requires { (length words.now ≡ count) × (length out.old ≡ count) }
-    ensures { out.new ≡ words.now }
-{
-    let mut i = 0;
-    while i < count {
-        out[i] = words[i];
-        i += 1;
-    }
-}
-
-// A copy; of 16 words by a loop of as many turns, so that the machine takes eight at once.
+// A copy; 16 words are named as so many, so that the machine takes eight at once with no call.
 pub(crate) fn put_words(words: &[u16], out: &mut [u16])
     requires { length words.now ≡ length out.old }
     ensures { out.new ≡ words.now }
 {
-    let count = words.len();
-    if count == 16 {
-        put_each(words, out, 16);
+    if words.len() == 16 {
+        out[..16].copy_from_slice(&words[..16]);
         return;
     }
-    put_each(words, out, count);
+    out.copy_from_slice(words);
 }
 
 // A copy in the place of the words from `at` on; where it ends.
@@ -52,9 +39,5 @@ pub(crate) fn put_zeros(words: &mut [u16], at: usize)
     requires { at ≤ length words.old }
     ensures { words.new ≡ splice words.old at (replicate (length words.old - at) 0) }
 {
-    let mut i = at;
-    while i < words.len() {
-        words[i] = 0;
-        i += 1;
-    }
+    words[at..].fill(0);
 }

@@ -24,12 +24,10 @@ fn put_before(words: &[u16], n: usize, d: usize, i: usize, masks: &mut [u16], at
     requires { Numbers n d × ((i < n) × ((length words.now ≡ 25553) × (at + i * d ≤ length masks.old))) }
     ensures { (masks.new ≡ splice masks.old at (row_part words.now n d i i)) × (result ≡ at + i * d) }
 {
-    let mut j = 0;
     let mut end = at;
-    while j < i {
+    for j in 0..i {
         let rows = copying::part(words, said::place(n, d, j, i), d);
         end = put_turned(rows, masks, end);
-        j += 1;
     }
     end
 }
@@ -52,12 +50,10 @@ pub(crate) fn put_tables(words: &[u16], n: usize, d: usize, masks: &mut [u16]) -
     requires { Numbers n d × ((length words.now ≡ 25553) × (masks.old ≡ replicate 16384 0)) }
     ensures { (masks.new ≡ splice masks.old 0 (table_part words.now n d n)) × (result ≡ n * (n * d)) }
 {
-    let mut i = 0;
     let mut end = 0;
-    while i < n {
+    for i in 0..n {
         let own = put_before(words, n, d, i, masks, end);
         end = copying::put_at(after(words, n, d, i), masks, own + d);
-        i += 1;
     }
     end
 }

@@ -13,10 +13,7 @@ use crate::{content, copying};
 fn numbers_fit(n: usize, d: usize, subproblems: usize) -> bool
     ensures { result ≡ numbers_in n d subproblems }
 {
-    if search::first_checks::sizes_refusal(n, d, 0, 0, 0) != 3 {
-        return false;
-    }
-    subproblems <= SUBPROBLEMS
+    search::first_checks::sizes_refusal(n, d, 0, 0, 0) == 3 && subproblems <= SUBPROBLEMS
 }
 
 // Whether every word of the content from one on is zero, of so many.
@@ -24,12 +21,10 @@ fn zeros_from(file: &[u8], from: usize, words: usize) -> bool
     requires { from + words < 65536 }
     ensures { result ≡ every words (zero_in file.now from) }
 {
-    let mut k = 0;
-    while k < words {
+    for k in 0..words {
         if blocks::reading::content_word(file, from + k) != 0 {
             return false;
         }
-        k += 1;
     }
     true
 }
@@ -40,10 +35,8 @@ fn fills(file: &[u8], words: usize) -> bool
     ensures { result ≡ filled file.now words }
 {
     let blocks = file.len() / blocks::BYTES;
-    if blocks != (words + 252) / blocks::CONTENT {
-        return false;
-    }
-    zeros_from(file, words, blocks * blocks::CONTENT - words)
+    blocks == (words + 252) / blocks::CONTENT
+        && zeros_from(file, words, blocks * blocks::CONTENT - words)
 }
 
 // Whether the numbers are in their ranges and the words that they say fill the blocks.
@@ -54,10 +47,7 @@ pub(crate) fn is_sized(file: &[u8], header: Header) -> bool
     let n = header.n;
     let d = header.d;
     let subproblems = header.state.subproblems;
-    if !numbers_fit(n, d, subproblems) {
-        return false;
-    }
-    fills(file, content::words(n, d, subproblems))
+    numbers_fit(n, d, subproblems) && fills(file, content::words(n, d, subproblems))
 }
 
 // 15, or none, of the rules: the first checks of the search that the words say, in an agenda of 512 slots.

@@ -1,14 +1,14 @@
 -- Bytes that fit as words, and what is made of them.
 -- Assumes nothing.
 use mathlib.Core.Path.{◌≡◌, refl, sym, ap₂, subst, ◌∙◌}
-use mathlib.Core.Bool.{Bool, true, false, ◌&&◌, and-false}
+use mathlib.Core.Bool.{Bool, true, false, ◌&&◌}
 use mathlib.Core.List.{List, ◌++◌}
 use Prim.Native.Nat.{ℕ, ◌*◌, ◌/◌, ◌%◌, ◌≤◌, ◌<◌}
 use native.Mathlib.Omega.{arith}
 use lib.ListN.{length, take, drop}
 use lib.Seq.{take_at, length-take-le}
 use lib.Dec.{eqb, leb, ltb}
-use borrow.Author.Tests.{leb-true, ltb-true, lt-ltb, le-ltb, le-leb, eqb-true, eq-eqb, ne_eqb}
+use borrow.Author.Tests.{leb-true, ltb-true, lt-ltb, le-leb, eqb-true, eq-eqb}
 use Rattle.problem.proofs.Tests.{and_left, and_right}
 use Rattle.word_bytes.specs.Bytes.{Whole, words_of, Fits, fits, none_empty, all_fit}
 use Rattle.word_bytes.specs.Calls.{Lent, Puts, WordsOf, ThreeOf}
@@ -16,14 +16,6 @@ use Rattle.word_bytes.specs.declared.Three.{Three}
 use Rattle.word_bytes.proofs.Words.{words_length, none_said}
 
 -- ---- what the tests say
-
-pub odd_fits : (bytes most : ℕ) → (bytes % 2 ≡ 0 → ⊥) → false ≡ fits bytes most
-unfolding fits
-odd_fits bytes most odd = simp (ne_eqb (bytes % 2) 0 odd)
-
-pub even_fits : (bytes most : ℕ) → bytes % 2 ≡ 0 → leb (bytes / 2) most ≡ fits bytes most
-unfolding fits
-even_fits bytes most even = simp (eq-eqb (bytes % 2) 0 even)
 
 fits_even : (bytes most : ℕ) → fits bytes most ≡ true → bytes % 2 ≡ 0
 unfolding fits
@@ -43,18 +35,6 @@ fits_true bytes most e some =
 pub true_fits : (bytes most : ℕ) → bytes % 2 ≡ 0 → bytes ≤ 2 * most → fits bytes most ≡ true
 unfolding fits
 true_fits bytes most even few = rw (eq-eqb (bytes % 2) 0 even) (le-leb (bytes / 2) most (omega arith))
-
-pub first_empty : (a b c : ℕ) → a ≡ 0 → false ≡ none_empty a b c
-unfolding none_empty
-first_empty a b c e = simp (le-ltb 0 a (omega arith))
-
-pub second_empty : (a b c : ℕ) → b ≡ 0 → false ≡ none_empty a b c
-unfolding none_empty
-second_empty a b c e = simp (le-ltb 0 b (omega arith), and-false)
-
-pub none_before : (a b c : ℕ) → (a ≡ 0 → ⊥) → (b ≡ 0 → ⊥) → ltb 0 c ≡ none_empty a b c
-unfolding none_empty
-none_before a b c f g = simp (lt-ltb 0 a (omega arith), lt-ltb 0 b (omega arith))
 
 -- All three fit exactly if each does.
 pub all_true : (a b c x y z : ℕ) → all_fit a b c x y z ≡ true → Fits a x × Fits b y × Fits c z

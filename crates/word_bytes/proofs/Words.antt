@@ -152,10 +152,10 @@ pub word_more : (b d m : List ℕ) (i x : ℕ) → m ≡ take i (words_of b) ++ 
 word_more b d m i x e s h k = copy_more (words_of b) d m i x e (s ∙ sym (word_at b i (omega arith))) (omega (arith, words_length b)) k
 
 -- After the last.
-pub put_end : (b d m : List ℕ) (i : ℕ) → m ≡ take (i + 1) (words_of b) ++ drop (i + 1) d → i < length b / 2 → length b / 2 ≤ i + 1
+pub put_end : (b d m : List ℕ) (i : ℕ) → m ≡ take i (words_of b) ++ drop i d → i ≤ length b / 2 → length b / 2 ≤ i
     → m ≡ words_of b ++ drop (length b / 2) d
 put_end b d m i e h l =
-    let end : i + 1 ≡ length b / 2 = omega arith in
+    let end : i ≡ length b / 2 = omega arith in
     e ∙ ap (λ (j : ℕ). take j (words_of b) ++ drop j d) end
     ∙ ap (λ (l : List ℕ). l ++ drop (length b / 2) d) (ap (λ (k : ℕ). take k (words_of b)) (sym (words_length b)) ∙ take-length (words_of b))
 

@@ -1,7 +1,7 @@
 // Words in bytes: two bytes a word, the low one first, as C holds them on x86-64.
 #![tactic(auto)]
 
-ghost use Rattle.std.specs.Prelude.{◌≡◌, true, ◌+◌, ◌*◌, min, length};
+ghost use Rattle.std.specs.Prelude.{◌≡◌, true, ◌+◌, ◌*◌, length};
 ghost use Rattle.word_bytes.specs.Bytes.{Fits, fits, none_empty, all_fit, zeros};
 ghost use Rattle.word_bytes.specs.Calls.{Puts, WordsOf, ThreeOf, Writes};
 
@@ -17,50 +17,40 @@ pub struct Three {
 fn word(low: u8, high: u8) -> u16
     ensures { result ≡ low + 256 * high }
 {
-    (low as u16) + 256 * (high as u16)
+    u16::from_le_bytes([low, high])
 }
 
-// Puts the words that the bytes say at the front of `words`: one at least, so that no test stands before the first turn.
+// Puts the words that the bytes say at the front of `words`.
 fn put(bytes: &[u8], words: &mut [u16]) -> usize
     requires { Fits (length bytes.now) (length words.old) }
     ensures { Puts true bytes.now words.old words.new result }
 {
     let count = bytes.len() / 2;
-    let mut i = 0;
-    loop {
+    for i in 0..count {
         words[i] = word(bytes[2 * i], bytes[2 * i + 1]);
-        i += 1;
-        if count <= i {
-            return count;
-        }
     }
+    count
 }
 
 // Whether so many bytes are whole words, no more than `most` of them.
+#[tactic(auto, unfolding(crate::specs::Bytes::fits))]
 fn fits(bytes: usize, most: usize) -> bool
     ensures { result ≡ fits bytes most }
 {
-    if bytes % 2 != 0 {
-        return false;
-    }
-    bytes / 2 <= most
+    bytes % 2 == 0 && bytes / 2 <= most
 }
 
 // Whether none of the three is 0.
+#[tactic(auto, unfolding(crate::specs::Bytes::none_empty))]
 fn none_empty(first: usize, second: usize, third: usize) -> bool
     ensures { result ≡ none_empty first second third }
 {
-    if first == 0 {
-        return false;
-    }
-    if second == 0 {
-        return false;
-    }
-    0 < third
+    0 < first && 0 < second && 0 < third
 }
 
 // Whether so many bytes of three slices are whole words, none of them empty and no more words than each has room for. The tests for 0 come last: so a
 // caller that made them before it zeroed its arrays has them made once, and zeroes only what the words do not fill.
+#[tactic(auto, unfolding(crate::specs::Bytes::all_fit))]
 pub fn all_fit(
     first: usize,
     second: usize,
@@ -71,26 +61,17 @@ pub fn all_fit(
 ) -> bool
     ensures { result ≡ all_fit first second third most1 most2 most3 }
 {
-    if !fits(first, most1) {
-        return false;
-    }
-    if !fits(second, most2) {
-        return false;
-    }
-    if !fits(third, most3) {
-        return false;
-    }
-    none_empty(first, second, third)
+    fits(first, most1)
+        && fits(second, most2)
+        && fits(third, most3)
+        && none_empty(first, second, third)
 }
 
 // The words that bytes say, at the front of `words`, and how many; none where the bytes are not whole words or there is no room for all.
 pub fn words_of(bytes: &[u8], words: &mut [u16]) -> usize
     ensures { WordsOf bytes.now words.old words.new result }
 {
-    if !fits(bytes.len(), words.len()) {
-        return 0;
-    }
-    if bytes.len() == 0 {
+    if !fits(bytes.len(), words.len()) || bytes.len() == 0 {
         return 0;
     }
     put(bytes, words)
@@ -131,27 +112,15 @@ pub fn three_of(
     }
 }
 
-// The smaller of two numbers.
-fn smaller(a: usize, b: usize) -> usize
-    ensures { result ≡ min a b }
-{
-    if b < a {
-        return b;
-    }
-    a
-}
-
 // The bytes that say the first of the words, as many as there are and as there is room for; past them the bytes stay.
 pub fn bytes_of(words: &[u16], bytes: &mut [u8])
     ensures { Writes words.now bytes.old bytes.new }
 {
-    let count = smaller(bytes.len() / 2, words.len());
-    let mut i = 0;
-    while i < count {
-        let word = words[i];
-        bytes[2 * i] = (word % 256) as u8;
-        bytes[2 * i + 1] = (word / 256) as u8;
-        i += 1;
+    let count = words.len().min(bytes.len() / 2);
+    for i in 0..count {
+        let pair = words[i].to_le_bytes();
+        bytes[2 * i] = pair[0];
+        bytes[2 * i + 1] = pair[1];
     }
 }
 
@@ -160,10 +129,8 @@ pub fn zeros(bytes: &[u8]) -> bool
     ensures { result ≡ zeros bytes.now }
 {
     let mut bits: u8 = 0;
-    let mut i = 0;
-    while i < bytes.len() {
-        bits = bits | bytes[i];
-        i += 1;
+    for byte in bytes {
+        bits |= *byte;
     }
     bits == 0
 }

@@ -1,7 +1,7 @@
 -- Memory that load and save fill from the front: the words of the content, columns, rows, copies with zeros after them.
 -- Assumes nothing.
 use mathlib.Core.Path.{◌≡◌, refl, sym, ap, ap₂, ◌∙◌}
-use mathlib.Core.List.{List, [], ◌∷◌, ◌++◌, map, append_assoc, append-nil}
+use mathlib.Core.List.{List, ◌++◌, map, append_assoc, append-nil}
 use mir.Syntax.{w64}
 use mir.Val.{Fits}
 use Prim.Native.Nat.{ℕ, suc, ◌+◌, ◌-◌, ◌*◌, ◌≤◌, ◌<◌}
@@ -9,8 +9,8 @@ use native.Mathlib.Omega.{arith}
 use native.Mathlib.Nat.{mul_assoc, mul-le-mul, mul-le-mul_right, zero-add, add-mul}
 use native.Mathlib.Numerals.{add-one}
 use native.Mathlib.Decide.{dec_lt}
-use lib.ListN.{length, get_or, take, drop, set, replicate, length-set, length-append, length-replicate, replicate-append-replicate, get_or-eq_default}
-use lib.Seq.{drop-cons, set_at, take_all, drop-length, length-take-le}
+use lib.ListN.{length, get_or, drop, replicate, length-append, length-replicate, replicate-append-replicate, get_or-eq_default}
+use lib.Seq.{drop-length}
 use borrow.Author.Tests.{le-leb}
 use Rattle.problem.specs.Lists.{total, below, splice}
 use Rattle.problem.proofs.Copies.{zeros_at, drop_zeros, splice_splice, splice_none}
@@ -23,12 +23,6 @@ use Rattle.blocks.proofs.Lists.{map_length, map_at, map_is, each_more, each_same
 use Rattle.blocks.proofs.Contents.{content_from_lem, length_from}
 use Rattle.blocks.proofs.reading.Filled.{from_join, content_past}
 use Rattle.files.proofs.filling.Mirrors.{after_within, part_at, pair_turned, pair_zeros, mask_at}
-
--- A copy is what was copied.
-pub copy_whole : (src l m : List ℕ) (k : ℕ) → m ≡ take k src ++ drop k l → k ≡ length src → length src ≡ length l → m ≡ src
-copy_whole src l m k e s h =
-    let last : k ≡ length l = s ∙ h in
-    e ∙ ap (λ (t : List ℕ). take k src ++ t) (ap (λ (i : ℕ). drop i l) last ∙ drop-length l) ∙ append-nil (take k src) ∙ take_all k src (omega arith)
 
 -- ---- zeros, and words written in their place
 
@@ -45,54 +39,6 @@ front_of_zeros p k = ap (λ (x : List ℕ). p ++ x) (ap (λ (j : ℕ). drop j (r
 splice_all : (l p : List ℕ) → length p ≡ length l → splice l 0 p ≡ p
 unfolding splice
 splice_all l p e = ap (λ (x : List ℕ). p ++ x) (ap (λ (k : ℕ). drop k l) (zero-add (length p) ∙ e) ∙ drop-length l) ∙ append-nil p
-
--- One zero more after those written from `at` on.
-zero_more : (l : List ℕ) (at j : ℕ) → at + j < length l → set (splice l at (replicate j 0)) (at + j) 0 ≡ splice l at (replicate (j + 1) 0)
-unfolding splice
-zero_more l at j h =
-    let some : List ℕ = replicate j 0 in
-    let rest : List ℕ = drop (suc (at + j)) l in
-    let long : length some ≡ j = length-replicate {A = ℕ} j 0 in
-    let seam : length (take at l ++ some) ≡ at + j = length-append (take at l) some ∙ omega (arith, length-take-le at l (omega arith)) in
-    let next : drop (at + length some) l ≡ get_or l (at + j) 0 ∷ rest = ap (λ (k : ℕ). drop (at + k) l) long ∙ drop-cons l (at + j) 0 h in
-    let one : some ++ (0 ∷ []) ≡ replicate (j + 1) 0 = replicate-append-replicate j 1 0 in
-    let past : suc (at + j) ≡ at + length (replicate {A = ℕ} (j + 1) 0) = omega (arith, length-replicate {A = ℕ} (j + 1) 0) in
-    ap (λ (x : List ℕ). set (take at l ++ (some ++ x)) (at + j) 0) next
-    ∙ ap (λ (x : List ℕ). set x (at + j) 0) (sym (append_assoc (take at l) some (get_or l (at + j) 0 ∷ rest)))
-    ∙ set_at (take at l ++ some) (get_or l (at + j) 0) rest 0 (at + j) seam
-    ∙ append_assoc (take at l) some (0 ∷ rest) ∙ ap (λ (x : List ℕ). take at l ++ x) (sym (append_assoc some (0 ∷ []) rest))
-    ∙ ap (λ (x : List ℕ). take at l ++ (x ++ rest)) one ∙ ap (λ (k : ℕ). take at l ++ (replicate (j + 1) 0 ++ drop k l)) past
-
--- Zeros up to i are written from `at` on.
-pub record Zeroed (l : List ℕ) (at : ℕ) (m : List ℕ) (i : ℕ) : Type 0 where
-  pub passed : (at ≤ i) × (i ≤ length l)
-  pub kept : length m ≡ length l
-  pub made : m ≡ splice l at (replicate (i - at) 0)
-
--- None is written yet.
-pub zeroed_none : (l : List ℕ) (at : ℕ) → at ≤ length l → Zeroed l at l at
-zeroed_none l at h =
-    let none : at - at ≡ 0 = omega arith in
-    record { passed = (omega arith, h); kept = refl; made = rw none (splice_none l at) }
-
--- One more.
-pub zeroed_more : (l : List ℕ) (at : ℕ) (m : List ℕ) (i : ℕ) → Zeroed l at m i → i < length m → Zeroed l at (set m i 0) (i + 1)
-zeroed_more l at m i inv h =
-    let low = inv.passed.0 in
-    let place : at + (i - at) ≡ i = omega arith in
-    let more : (i - at) + 1 ≡ (i + 1) - at = omega arith in
-    record {
-      passed = (omega arith, omega (arith, inv.kept));
-      kept = length-set m i 0 ∙ inv.kept;
-      made = ap₂ (λ (x : List ℕ) (k : ℕ). set x k 0) inv.made (sym place) ∙ zero_more l at (i - at) (omega (arith, inv.kept))
-          ∙ ap (λ (k : ℕ). splice l at (replicate k 0)) more;
-    }
-
--- All are written.
-pub zeroed_end : (l : List ℕ) (at : ℕ) (m : List ℕ) (i : ℕ) → Zeroed l at m i → length m ≤ i → m ≡ splice l at (replicate (length l - at) 0)
-zeroed_end l at m i inv h =
-    let last : i ≡ length l = omega (arith, inv.passed.1, inv.kept) in
-    inv.made ∙ ap (λ (k : ℕ). splice l at (replicate (k - at) 0)) last
 
 -- Words written from the front on, and zeros after them.
 pub padded_put : (l m₁ m₂ ws : List ℕ) (end : ℕ) → length ws ≤ length l → (m₁ ≡ splice l 0 ws) × (end ≡ 0 + length ws) → length m₁ ≡ length l

@@ -6,7 +6,7 @@ use mathlib.Core.List.{List}
 use Prim.Native.Nat.{ℕ, ◌+◌, ◌-◌, ◌*◌, ◌/◌, ◌≤◌, ◌<◌}
 use native.Mathlib.Omega.{arith}
 use lib.Dec.{eqb, leb, ltb}
-use borrow.Author.Tests.{eqb-true, lt-ltb, le-ltb, leb-true, not-true, not-false}
+use borrow.Author.Tests.{eqb-true, lt-ltb, le-ltb, leb-true, not-true}
 use Rattle.problem.specs.Lists.{every}
 use Rattle.problem.proofs.Tests.{and_left, and_right}
 use Rattle.search.specs.Agenda.{slots_in}
@@ -69,22 +69,22 @@ module _ (file : List ℕ) where
         )
 
     -- What the code found of them.
-    pub numbers_found : (b : Bool) → b ≡ numbers_in n d m → not b ≡ false → Numbers n d × (m ≤ 512)
-    numbers_found b e y = numbers_said (rw (← is-n, ← is-d, ← is_m) (sym e ∙ not-false b y))
+    pub numbers_found : (b : Bool) → b ≡ numbers_in n d m → b ≡ true → Numbers n d × (m ≤ 512)
+    numbers_found b e y = numbers_said (rw (← is-n, ← is-d, ← is_m) (sym e ∙ y))
 
     -- They are out of their ranges.
-    pub sized_numbers_not : (b : Bool) → b ≡ numbers_in n d m → not b ≡ true → false ≡ sized_in file
+    pub sized_numbers_not : (b : Bool) → b ≡ numbers_in n d m → b ≡ false → b ≡ sized_in file
     unfolding sized_in
     sized_numbers_not b e y =
-        let fails : numbers_in (said_n file) (said_d file) (said_subproblems file) ≡ false = rw (← is-n, ← is-d, ← is_m) (sym e ∙ not-true b y) in
-        rw fails refl
+        let fails : numbers_in (said_n file) (said_d file) (said_subproblems file) ≡ false = rw (← is-n, ← is-d, ← is_m) (sym e ∙ y) in
+        y ∙ rw fails refl
 
     -- They are not: the blocks decide.
-    pub sized_blocks : (words : ℕ) (a b : Bool) → a ≡ numbers_in n d m → not a ≡ false → words ≡ word_count n d m → b ≡ filled file words
+    pub sized_blocks : (words : ℕ) (a b : Bool) → a ≡ numbers_in n d m → a ≡ true → words ≡ word_count n d m → b ≡ filled file words
         → b ≡ sized_in file
     unfolding sized_in
     sized_blocks words a b e y w f =
-        let holds : numbers_in (said_n file) (said_d file) (said_subproblems file) ≡ true = rw (← is-n, ← is-d, ← is_m) (sym e ∙ not-false a y) in
+        let holds : numbers_in (said_n file) (said_d file) (said_subproblems file) ≡ true = rw (← is-n, ← is-d, ← is_m) (sym e ∙ y) in
         f ∙ rw (w, is-n, is-d, is_m, holds) refl
 
     -- What was found of the numbers and the blocks.

@@ -1,14 +1,13 @@
 -- `word_bytes::zeros` meets its contract. The invariant: the bits are none if the bytes passed are 0.
 use native.Mathlib.Omega.{arith}
 use Rattle.word_bytes.proofs.Zero.{zeros_none, zeros_more, zeros_all}
-use borrow.Author.Rules.{rules}
 use Rattle.word_bytes.proofs.zeros.Goals as goal
 
-pub loop-i-init : goal.loop-i-init
-loop-i-init c = (search rules, zeros_none _)
+pub loop-byte-init : goal.loop-byte-init
+loop-byte-init c = zeros_none _
 
-pub loop-i-preserved : goal.loop-i-preserved
-loop-i-preserved c = (omega arith, zeros_more _ _ _ c.loop-i.invariant.1)
+pub loop-byte-preserved : goal.loop-byte-preserved
+loop-byte-preserved c = zeros_more _ _ _ c.loop-byte.invariant
 
 pub returns : goal.returns
-returns c = zeros_all _ _ _ c.loop-i.invariant.0 c.loop-i-test.false c.loop-i.invariant.1
+returns c = zeros_all _ _ _ (omega arith) (omega arith) c.loop-byte.invariant

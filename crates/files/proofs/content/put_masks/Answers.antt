@@ -5,26 +5,21 @@ use Rattle.files.proofs.content.Written.{row_room, rows_more, rows_end}
 use Rattle.files.proofs.content.put_masks.Goals as goal
 
 pub loop-i-init : goal.loop-i-init
-loop-i-init c = (omega arith, passed_none _ _ _)
+loop-i-init c = passed_none _ _ _
 
 pub put_at-end-requires : goal.put_at-end-requires
 put_at-end-requires c =
     let pre = c.requires in
-    let found = c.masks_after.ensures in
-    row_room _ _ _ pre.1.0 _ _ _ _ _ pre.1.1 c.loop-i.invariant.1 _ c.loop-i-test.true found.1
+    row_room _ _ _ pre.1.0 _ _ _ _ _ pre.1.1 c.loop-i.invariant _ c.loop-i-test.true c.masks_after.ensures.1
 
 pub loop-i-preserved : goal.loop-i-preserved
 loop-i-preserved c =
-    let b4 = c in
+    let pre = c.requires in
     let put = c.put_at-end in
-    let found = b4.masks_after.ensures in
-    let pre = b4.requires in (
-      omega arith,
-      rows_more _ _ _ pre.1.0 _ _ _ _ _ pre.1.1 b4.loop-i.invariant.1 _ _ _ b4.loop-i-test.true found.0
-          put.ensures.0 put.ensures.1 put.auto.out,
-    )
+    rows_more _ _ _ pre.1.0 _ _ _ _ _ pre.1.1 c.loop-i.invariant _ _ _ c.loop-i-test.true c.masks_after.ensures.0
+    put.ensures.0 put.ensures.1 put.auto.out
 
 pub returns : goal.returns
 returns c =
     let pre = c.requires in
-    rows_end _ _ _ pre.1.0 _ _ _ _ _ pre.1.1 c.loop-i.invariant.1 (omega arith)
+    rows_end _ _ _ pre.1.0 _ _ _ _ _ pre.1.1 c.loop-i.invariant (omega arith)

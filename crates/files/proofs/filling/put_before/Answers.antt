@@ -4,25 +4,20 @@ use Rattle.files.proofs.filling.Filled.{passed_none, pair_room, pairs_more, pair
 use Rattle.files.proofs.filling.put_before.Goals as goal
 
 pub loop-j-init : goal.loop-j-init
-loop-j-init c = (omega arith, passed_none _ _ _)
+loop-j-init c = passed_none _ _ _
 
 pub put_turned-end-requires : goal.put_turned-end-requires
 put_turned-end-requires c =
     let pre = c.requires in
-    let room = pair_room _ _ _ _ _ _ _ _ _ c.loop-j-test.true pre.1.1.1
-    c.loop-j.invariant.1 in
+    let room = pair_room _ _ _ _ _ _ _ _ _ c.loop-j-test.true pre.1.1.1 c.loop-j.invariant in
     (omega (arith, c.part-rows.ensures.1, pre.0.values), omega (arith, c.part-rows.ensures.1, room))
 
 pub loop-j-preserved : goal.loop-j-preserved
 loop-j-preserved c =
-    let b5 = c in
     let put = c.put_turned-end in
     let rows = c.part-rows.ensures in
-    let pre = b5.requires in (
-      omega arith,
-      pairs_more _ _ _ _ _ _ _ _ _ b5.loop-j-test.true pre.1.1.1 b5.loop-j.invariant.1 _ _ _ _
-          b5.place.ensures.0 rows.0 rows.1 put.ensures.0 put.ensures.1 put.auto.masks,
-    )
+    pairs_more _ _ _ _ _ _ _ _ _ c.loop-j-test.true c.requires.1.1.1 c.loop-j.invariant _ _ _ _
+    c.place.ensures.0 rows.0 rows.1 put.ensures.0 put.ensures.1 put.auto.masks
 
 pub returns : goal.returns
-returns c = pairs_end _ _ _ _ _ _ _ _ _ c.loop-j.invariant.1 (omega arith)
+returns c = pairs_end _ _ _ _ _ _ _ _ _ c.loop-j.invariant (omega arith)

@@ -1,11 +1,7 @@
 -- `filling::put_before` meets its contract. The invariant: the pairs passed are written.
-use Prim.Native.Nat.{◌-◌, ◌≤◌}
 use Rattle.files.specs.Loops.Said.{pair_part}
 use Rattle.files.proofs.filling.Filled.{Passed}
 use Rattle.files.proofs.filling.put_before.Given as goal
 
 abbrev pub invariant-loop-j : goal.invariant-loop-j
-invariant-loop-j l = (l.j ≤ l.i) × Passed (λ k. pair_part l.words l.n l.d l.i k l.d) l.initial.masks l.at l.masks l.j l.end
-
-abbrev pub decreases-loop-j : goal.decreases-loop-j
-decreases-loop-j l = l.i - l.j
+invariant-loop-j l = Passed (λ k. pair_part l.words l.n l.d l.i k l.d) l.initial.masks l.at l.masks l.j l.end

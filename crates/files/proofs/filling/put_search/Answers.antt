@@ -6,13 +6,11 @@ use Rattle.files.proofs.filling.Mirrors.{domains_put, slots_room, slots_put}
 use Rattle.files.proofs.filling.put_search.Goals as goal
 
 pub put_at-end-requires : goal.put_at-end-requires
-put_at-end-requires c =
-    omega (arith, slots_room _ _ _ _ _ _ c.slots-slots.ensures c.requires.agenda_words)
+put_at-end-requires c = omega (arith, slots_room _ _ _ _ _ _ c.slots-slots.ensures c.requires.agenda_words)
 
 pub put_zeros-requires : goal.put_zeros-requires
 put_zeros-requires c =
-    let put = c.put_at-end in
-    omega (arith, put.ensures.1, put.auto.out, slots_room _ _ _ _ _ _ c.slots-slots.ensures c.requires.agenda_words)
+    omega (arith, c.put_at-end.ensures.1, c.put_at-end.auto.out, slots_room _ _ _ _ _ _ c.slots-slots.ensures c.requires.agenda_words)
 
 pub shape_of-domains : goal.shape_of-domains
 shape_of-domains c = c.put_words.auto.out
@@ -25,12 +23,8 @@ shape_of-agenda c = c.put_zeros.auto.words ∙ c.put_at-end.auto.out
 
 pub returns : goal.returns
 returns c =
-    let put = c in
-    let slots = put in
-    let second = slots in
-    let first = second in
     let pre = c.requires in
-    let room = slots_room _ _ _ _ _ _ slots.slots-slots.ensures pre.agenda_words in
-    let padded = padded_put _ _ _ _ _ room put.put_at-end.ensures put.put_at-end.auto.out c.put_zeros.ensures in
-    let domains = domains_put _ _ _ _ _ first.part.ensures.0 first.put_words.ensures pre.domains_words in
-    (domains, (second.put_words-2.ensures, slots_put _ _ _ _ _ _ slots.slots-slots.ensures _ padded))
+    let room = slots_room _ _ _ _ _ _ c.slots-slots.ensures pre.agenda_words in
+    let padded = padded_put _ _ _ _ _ room c.put_at-end.ensures c.put_at-end.auto.out c.put_zeros.ensures in
+    let domains = domains_put _ _ _ _ _ c.part.ensures.0 c.put_words.ensures pre.domains_words in
+    (domains, (c.put_words-2.ensures, slots_put _ _ _ _ _ _ c.slots-slots.ensures _ padded))

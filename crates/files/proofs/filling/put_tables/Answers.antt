@@ -4,41 +4,34 @@ use Rattle.files.proofs.filling.Filled.{passed_none, before_room, own_fits, afte
 use Rattle.files.proofs.filling.put_tables.Goals as goal
 
 pub loop-i-init : goal.loop-i-init
-loop-i-init c = (omega arith, passed_none _ _ _)
+loop-i-init c = passed_none _ _ _
 
 pub put_before-own-requires : goal.put_before-own-requires
 put_before-own-requires c =
     let pre = c.requires in
-    let room = before_room _ _ _ _ _ _ _ pre.1.1 pre.0 c.loop-i-test.true c.loop-i.invariant.1 in
+    let room = before_room _ _ _ _ _ _ _ pre.1.1 pre.0 c.loop-i-test.true c.loop-i.invariant in
     (pre.0, (c.loop-i-test.true, (pre.1.0, room)))
 
 pub overflow_add-own : goal.overflow_add-own
 overflow_add-own c =
-    let put = c.put_before-own in
-    let b6 = c in
-    let pre = b6.requires in
-    own_fits _ _ _ _ _ _ _ pre.1.1 pre.0 b6.loop-i-test.true b6.loop-i.invariant.1 _ put.ensures.1
+    let pre = c.requires in
+    own_fits _ _ _ _ _ _ _ pre.1.1 pre.0 c.loop-i-test.true c.loop-i.invariant _ c.put_before-own.ensures.1
 
 pub put_at-end-requires : goal.put_at-end-requires
 put_at-end-requires c =
+    let pre = c.requires in
     let put = c.put_before-own in
-    let b6 = c in
-    let pre = b6.requires in
-    after_room _ _ _ _ _ _ _ pre.1.1 pre.0 b6.loop-i-test.true b6.loop-i.invariant.1 _ put.ensures.1 _ _
+    after_room _ _ _ _ _ _ _ pre.1.1 pre.0 c.loop-i-test.true c.loop-i.invariant _ put.ensures.1 _ _
     put.auto.masks c.after.ensures.1
 
 pub loop-i-preserved : goal.loop-i-preserved
 loop-i-preserved c =
+    let pre = c.requires in
+    let first = c.put_before-own in
     let last = c.put_at-end in
-    let b4 = c in
-    let first = b4.put_before-own in
-    let b9 = b4 in
-    let pre = b9.requires in (
-      omega arith,
-      rows_more _ _ _ _ _ _ _ pre.1.1 pre.0 b9.loop-i-test.true b9.loop-i.invariant.1 _ first.ensures.1 _ _ _ _
-          first.ensures.0 b4.after.ensures.0 b4.after.ensures.1 last.ensures.0 last.ensures.1 first.auto.masks
-          last.auto.out,
-    )
+    rows_more _ _ _ _ _ _ _ pre.1.1 pre.0 c.loop-i-test.true c.loop-i.invariant _ first.ensures.1 _ _ _ _
+    first.ensures.0 c.after.ensures.0 c.after.ensures.1 last.ensures.0 last.ensures.1 first.auto.masks
+    last.auto.out
 
 pub returns : goal.returns
-returns c = tables_end _ _ _ _ _ _ _ c.loop-i.invariant.1 (omega arith)
+returns c = tables_end _ _ _ _ _ _ _ c.loop-i.invariant (omega arith)

@@ -1,11 +1,7 @@
 -- `filling::put_tables` meets its contract. The invariant: the rows passed are written.
-use Prim.Native.Nat.{◌-◌, ◌≤◌}
 use Rattle.files.specs.Loops.Said.{row_part}
 use Rattle.files.proofs.filling.Filled.{Passed}
 use Rattle.files.proofs.filling.put_tables.Given as goal
 
 abbrev pub invariant-loop-i : goal.invariant-loop-i
-invariant-loop-i l = (l.i ≤ l.n) × Passed (λ k. row_part l.words l.n l.d k l.n) l.initial.masks 0 l.masks l.i l.end
-
-abbrev pub decreases-loop-i : goal.decreases-loop-i
-decreases-loop-i l = l.n - l.i
+invariant-loop-i l = Passed (λ k. row_part l.words l.n l.d k l.n) l.initial.masks 0 l.masks l.i l.end
