@@ -32,7 +32,7 @@ use Rattle.blocks.specs.Tests.Whole.{refusal_of_file}
 use Rattle.files.specs.Calls.{load_refusal, Loads}
 use Rattle.blocks.specs.Reading.{Bytes}
 use Rattle.files.specs.Promises.{LeftByLoad}
-use Rattle.files.specs.declared.saved.Loaded.{Loaded}
+use Rattle.files.specs.Outcomes.{Loaded}
 use Rattle.files.proofs.Accepted.{words_accept}
 use Rattle.files.proofs.Promises.{load_leaves}
 use Rattle.answer.specs.Text.{refused_line, text_of, text_from}

@@ -31,7 +31,7 @@ use Rattle.files.specs.Reading.{said_n, said_d, said_steps, said_checks, said_su
 use Rattle.blocks.specs.Reading.{Deserves14, Bytes}
 use Rattle.files.specs.Calls.{load_refusal}
 use Rattle.files.specs.Promises.{Says, LeftByLoad, Lived}
-use Rattle.files.specs.declared.saved.Loaded.{Loaded}
+use Rattle.files.specs.Outcomes.{Loaded}
 use Rattle.files.proofs.Accepted.{Accepts}
 use Rattle.files.proofs.Solutions.{solution_agree}
 use Rattle.files.proofs.Tables.{agree_back}

@@ -12,8 +12,8 @@ use Rattle.files.specs.Reading.{said_n, said_d, said_domains, said_allowed, Dese
 use Rattle.blocks.specs.Reading.{Deserves14, Bytes}
 use Rattle.files.specs.Calls.{Saves, Loads}
 use Rattle.files.specs.Promises.{Lived}
-use Rattle.files.specs.declared.saved.Saved.{Saved}
-use Rattle.files.specs.declared.saved.Loaded.{Loaded}
+use Rattle.files.specs.Outcomes.{Saved}
+use Rattle.files.specs.Outcomes.{Loaded}
 use Rattle.answer.specs.Text.{decimal, counts_line, plan_of, refused_line, text_of, text_from}
 use Rattle.answer.specs.Calls.{ran_of, answer, Answers}
 

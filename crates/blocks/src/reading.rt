@@ -1,5 +1,6 @@
 // Whether the blocks of a file are whole, and the words of their content.
 ghost use Rattle.std.specs.Prelude.{◌≡◌, ◌+◌, ◌*◌, ◌/◌, ◌≤◌, ◌<◌, length};
+ghost use Rattle.problem.specs.Refused.{told};
 ghost use Rattle.problem.specs.Lists.{every};
 ghost use Rattle.blocks.specs.Reading.{content_word};
 ghost use Rattle.blocks.specs.Tests.Whole.{good_block};
@@ -7,6 +8,7 @@ ghost use Rattle.blocks.specs.Calls.{RefusalOfFile, PutContent};
 ghost use Rattle.blocks.specs.Loops.Read.{good_in, content_part};
 
 use crate::{BYTES, CONTENT, MOST, block, checksum};
+use problem::refusal::Refusal;
 
 // Whether a block has its number, that of blocks and its check.
 fn is_good(block: &[u8], number: usize, blocks: usize) -> bool
@@ -37,24 +39,24 @@ fn all_good(file: &[u8], blocks: usize) -> bool
     true
 }
 
-// 14, or 0 for none.
-pub fn refusal_of_file(file: &[u8]) -> u32
-    ensures { RefusalOfFile file.now result }
+// 14, or none.
+pub fn refusal_of_file(file: &[u8]) -> Result<(), Refusal>
+    ensures { RefusalOfFile file.now (told result) }
 {
     let blocks = file.len() / BYTES;
     if file.len() != blocks * BYTES {
-        return 14;
+        return Err(Refusal::Blocks);
     }
     if blocks < 1 {
-        return 14;
+        return Err(Refusal::Blocks);
     }
     if MOST < blocks {
-        return 14;
+        return Err(Refusal::Blocks);
     }
     if all_good(file, blocks) {
-        return 0;
+        return Ok(());
     }
-    14
+    Err(Refusal::Blocks)
 }
 
 // Word `k` of the content, 0 past the end: 253 words of each block after its first two.

@@ -9,7 +9,7 @@ use Rattle.search.specs.Calls.{Opens}
 use Rattle.search.specs.declared.state.State.{State}
 use Rattle.search.specs.Outcomes.{Opened}
 use Rattle.files.specs.Promises as files
-use Rattle.files.specs.declared.saved.Loaded.{Loaded}
+use Rattle.files.specs.Outcomes.{Loaded}
 use Rattle.files.specs.Calls.{Loads}
 use Rattle.word_bytes.specs.Bytes.{words_of}
 use Rattle.word_bytes.proofs.Words.{words_again, said_whole}

@@ -9,8 +9,8 @@ use Rattle.search.specs.declared.state.State.{State}
 use Rattle.search.specs.Outcomes.{Opened}
 use Rattle.search.specs.Outcomes.{Ran}
 use Rattle.search.proofs.Promises.{open_one, run_one, choose_one}
-use Rattle.files.specs.declared.saved.Saved.{Saved}
-use Rattle.files.specs.declared.saved.Loaded.{Loaded}
+use Rattle.files.specs.Outcomes.{Saved}
+use Rattle.files.specs.Outcomes.{Loaded}
 use Rattle.files.proofs.OneOutcome.{save_one, load_one}
 use Rattle.word_bytes.specs.Bytes.{Whole, bytes_of}
 use Rattle.console.specs.Calls.{WholeProblem, OpensBytes, RunsBytes, ChoosesBytes, SavesBytes, LoadsBytes}

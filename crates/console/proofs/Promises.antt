@@ -10,8 +10,8 @@ use Rattle.search.specs.Calls.{Opens, Runs, Chooses}
 use Rattle.search.specs.Outcomes.{Opened}
 use Rattle.search.specs.Outcomes.{Ran}
 use Rattle.search.proofs.Promises.{open_refusals}
-use Rattle.files.specs.declared.saved.Saved.{Saved}
-use Rattle.files.specs.declared.saved.Loaded.{Loaded}
+use Rattle.files.specs.Outcomes.{Saved}
+use Rattle.files.specs.Outcomes.{Loaded}
 use Rattle.files.proofs.Promises.{lived_solvable, lived_steps, unsolvable_run, unsolvable_choose}
 use Rattle.files.proofs.Refusals.{load_14, load_15, load_3}
 use Rattle.word_bytes.specs.Bytes.{words_of}

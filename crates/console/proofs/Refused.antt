@@ -3,8 +3,8 @@
 use mathlib.Core.Path.{ap, ◌∙◌}
 use borrow.Author.Tests.{ne_eqb}
 use Rattle.search.specs.Outcomes.{Opened}
-use Rattle.files.specs.declared.saved.Saved.{Saved}
-use Rattle.files.specs.declared.saved.Loaded.{Loaded}
+use Rattle.files.specs.Outcomes.{Saved}
+use Rattle.files.specs.Outcomes.{Loaded}
 use Rattle.word_bytes.specs.Bytes.{bytes_of}
 use Rattle.word_bytes.proofs.Words.{bytes_again}
 use Rattle.console.specs.Promises.{OpenRefused, SaveRefused, LoadRefused}

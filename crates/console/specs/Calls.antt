@@ -11,8 +11,8 @@ use Rattle.searches.specs.declared.verdict.Verdict.TheVariants.{None}
 use Rattle.blocks.specs.Tests.Whole.{refusal_of_file}
 use Rattle.files.specs.Reading.{refusal_of_words}
 use Rattle.files.specs.Calls.{Saves, Loads}
-use Rattle.files.specs.declared.saved.Saved.{Saved}
-use Rattle.files.specs.declared.saved.Loaded.{Loaded}
+use Rattle.files.specs.Outcomes.{Saved}
+use Rattle.files.specs.Outcomes.{Loaded}
 use Rattle.word_bytes.specs.Bytes.{Whole, words_of, bytes_of}
 
 -- The state of the three numbers that are handed in.

@@ -19,7 +19,7 @@ use Rattle.files.specs.Reading.{Deserves15}
 use Rattle.blocks.specs.Blocks.{blocks_for}
 use Rattle.files.specs.Calls.{handed_content, Loads}
 use Rattle.files.specs.Promises.{Lived}
-use Rattle.files.specs.declared.saved.Loaded.{Loaded}
+use Rattle.files.specs.Outcomes.{Loaded}
 use Rattle.word_bytes.specs.Bytes.{Bytes, Whole, words_of}
 use Rattle.console.specs.Searches.{Held, Typed, Outcome, Way, by_requests, by_chooser, GoesOn, problem_in, search_in, PlanIn, LivedForC}
 use Rattle.console.specs.Calls.{state_of, unwhole, unwhole_file, WholeProblem, OpensBytes, OpensForC, RunsBytes, RunsForC, ChoosesBytes, ChoosesForC, SavesForC, LoadsBytes, LoadsForC}

@@ -15,8 +15,8 @@ use Rattle.search.specs.Outcomes.{Opened}
 use Rattle.blocks.specs.Reading.{Deserves14}
 use Rattle.files.specs.Reading.{said_n, said_d, Deserves15}
 use Rattle.files.specs.Calls.{Deserves13, Deserves12Load}
-use Rattle.files.specs.declared.saved.Saved.{Saved}
-use Rattle.files.specs.declared.saved.Loaded.{Loaded}
+use Rattle.files.specs.Outcomes.{Saved}
+use Rattle.files.specs.Outcomes.{Loaded}
 use Rattle.word_bytes.specs.Bytes.{Whole, words_of, bytes_of}
 use Rattle.word_bytes.proofs.Words.{bytes_again}
 use Rattle.console.specs.Calls.{unwhole, unwhole_file}

@@ -23,8 +23,8 @@ use Rattle.files.specs.Reading.{said_n, said_d, said_steps, said_checks, said_su
 use Rattle.files.specs.Calls.{handed_content, save_refusal, Saves, load_refusal, Loads}
 use Rattle.blocks.specs.Reading.{Bytes}
 use Rattle.files.specs.Promises.{Says, GivenBack}
-use Rattle.files.specs.declared.saved.Saved.{Saved}
-use Rattle.files.specs.declared.saved.Loaded.{Loaded}
+use Rattle.files.specs.Outcomes.{Saved}
+use Rattle.files.specs.Outcomes.{Loaded}
 use Rattle.files.proofs.Triangle.{table_other, triangle_same}
 use Rattle.blocks.proofs.Blocks.{file_length}
 use Rattle.files.proofs.RoundTrip.{saved_again}

@@ -25,7 +25,7 @@ use Rattle.search.proofs.first_checks.FirstPassing.{PassedSearch, search_is_pass
 use Rattle.search.proofs.first_checks.Apart.{apart_open, apart_search, apart_run}
 use Rattle.files.specs.Content.{content_of}
 use Rattle.files.specs.Calls.{handed_content, save_refusal, Saves}
-use Rattle.files.specs.declared.saved.Saved.{Saved}
+use Rattle.files.specs.Outcomes.{Saved}
 use Rattle.files.proofs.Triangle.{triangle_same}
 use Rattle.files.proofs.AgreeingRuns.{run_same, choose_same}
 

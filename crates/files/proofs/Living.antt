@@ -34,8 +34,8 @@ use Rattle.blocks.specs.Blocks.{file_of}
 use Rattle.files.specs.Reading.{said_allowed, table_words}
 use Rattle.files.specs.Calls.{handed_content, save_refusal, Saves, Loads}
 use Rattle.files.specs.Promises.{Says, Lived, opened, ran, chose, loaded, moved}
-use Rattle.files.specs.declared.saved.Saved.{Saved}
-use Rattle.files.specs.declared.saved.Loaded.{Loaded}
+use Rattle.files.specs.Outcomes.{Saved}
+use Rattle.files.specs.Outcomes.{Loaded}
 use Rattle.files.proofs.Triangle.{table_length}
 use Rattle.files.proofs.Tables.{proper_agree, agree_back}
 use Rattle.files.proofs.Saving.{saved_says}

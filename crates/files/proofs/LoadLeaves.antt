@@ -15,7 +15,7 @@ use Rattle.files.specs.Reading.{said_n, said_d, said_steps, said_checks, said_su
 use Rattle.files.specs.Calls.{load_refusal, Loads}
 use Rattle.blocks.specs.Reading.{Bytes}
 use Rattle.files.specs.Promises.{LeftByLoad}
-use Rattle.files.specs.declared.saved.Loaded.{Loaded}
+use Rattle.files.specs.Outcomes.{Loaded}
 use Rattle.files.proofs.Loading.{load_taken, memory_length, memory_read, said_passing}
 use Rattle.blocks.proofs.Contents.{content_word_small}
 use Rattle.files.proofs.RoundTrip.{said_shape}

@@ -21,11 +21,14 @@ use Rattle.problem.proofs.first_checks.Parts.{given_if, else_pass}
 use Rattle.blocks.specs.Reading.{blocks_in, content_word, content_from, Bytes}
 use Rattle.files.specs.Reading.{said_n, said_d, said_steps, said_checks, said_subproblems, said_domains, said_allowed, said_search, agenda_from, table_words, refusal_of_words}
 use Rattle.blocks.specs.Tests.Whole.{refusal_of_file}
+use Rattle.std.specs.Prelude.{Ok, Err}
+use Rattle.problem.specs.declared.refusal.Refusal.{Refusal}
+use Rattle.problem.specs.Refused.{number_of}
 use Rattle.blocks.specs.Calls.{RefusalOfFile, PutContent}
 use Rattle.files.specs.Calls.{HeaderOf, load_refusal, Loads}
 use Rattle.files.specs.Loops.Said.{Numbers, sized_in, allowed_in, pair_part, row_part, table_part, part_in, slots_part, Lent, Read, Ready, Refused, Accepted}
 use Rattle.files.specs.declared.saved.Header.{Header}
-use Rattle.files.specs.declared.saved.Loaded.{Loaded}
+use Rattle.files.specs.Outcomes.{Loaded, loaded}
 use Rattle.blocks.proofs.Lists.{each_same, map_same}
 use Rattle.files.proofs.Triangle.{table_length}
 use Rattle.blocks.proofs.Whole.{file_whole, refusal_is}
@@ -105,6 +108,14 @@ unfolding table_part row_part pair_part table_words
 tables_said file words t n d says is-n is-d e =
     e ∙ rw (is-n, is-d)
     (each_same _ _ (said_n file) (λ i l. each_same _ _ (said_n file) (λ j q. map_same _ _ (said_d file) (λ a p. mask_said file words says i j a))))
+
+-- A refusal tells zeros.
+pub refuses : (refusal : Refusal) → Refused (number_of refusal) (loaded (Err refusal))
+refuses refusal = record { its = refl; its_n = refl; its_d = refl; steps = refl; checks = refl; subproblems = refl }
+
+-- What is handed back that is not refused.
+pub accepts : (h : Header) → Accepted h (loaded (Ok h))
+accepts h = record { its = refl; its_n = refl; its_d = refl; its_state = refl }
 
 -- The words that were read say the content.
 pub load_read : (file l words : List ℕ) (h : Header) (r : ℕ) (b : Bool) → RefusalOfFile file r → r ≡ 0 → HeaderOf file h → b ≡ sized_in file

@@ -6,8 +6,8 @@ use Prim.Native.Nat.{ℕ}
 use Rattle.search.specs.declared.state.State.{State}
 use Rattle.files.specs.Calls.{HeaderOf, Saves, Loads}
 use Rattle.files.specs.declared.saved.Header.{Header}
-use Rattle.files.specs.declared.saved.Saved.{Saved}
-use Rattle.files.specs.declared.saved.Loaded.{Loaded}
+use Rattle.files.specs.Outcomes.{Saved}
+use Rattle.files.specs.Outcomes.{Loaded}
 
 -- What the first words of a file say.
 pub header_one : (file : List ℕ) (r s : Header) → HeaderOf file r → HeaderOf file s → r ≡ s

@@ -21,7 +21,7 @@ use Rattle.blocks.specs.Calls.{PutBlocks}
 use Rattle.files.specs.Reading.{word_count}
 use Rattle.files.specs.Calls.{handed_content, save_refusal, Saves}
 use Rattle.files.specs.Loops.Saved.{Savable}
-use Rattle.files.specs.declared.saved.Saved.{Saved}
+use Rattle.files.specs.Outcomes.{Saved}
 use Rattle.blocks.proofs.Blocks.{file_length, same_file}
 use Rattle.files.proofs.content.Written.{handed_length}
 use Rattle.files.proofs.LoadOutcomes.{given, not_given}

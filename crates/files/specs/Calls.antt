@@ -11,8 +11,8 @@ use Rattle.files.specs.Content.{content_of}
 use Rattle.files.specs.Reading.{said_n, said_d, said_steps, said_checks, said_subproblems, said_domains, said_allowed, said_search, table_words, refusal_of_words}
 use Rattle.blocks.specs.Tests.Whole.{refusal_of_file}
 use Rattle.files.specs.declared.saved.Header.{Header}
-use Rattle.files.specs.declared.saved.Saved.{Saved}
-use Rattle.files.specs.declared.saved.Loaded.{Loaded}
+use Rattle.files.specs.Outcomes.{Saved}
+use Rattle.files.specs.Outcomes.{Loaded}
 
 -- What the first words of a file say.
 pub record HeaderOf (file : List ℕ) (h : Header) : Type 0 where

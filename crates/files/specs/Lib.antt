@@ -2,6 +2,7 @@
 pub mod Blocks
 pub mod Content
 pub mod Reading
+pub mod Outcomes
 pub mod Calls
 pub mod Promises
 pub mod Loops

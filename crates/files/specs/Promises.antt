@@ -22,8 +22,8 @@ use Rattle.blocks.specs.Reading.{Deserves14, Bytes}
 use Rattle.files.specs.Reading.{said_n, said_d, said_steps, said_checks, said_subproblems, said_domains, said_allowed, said_search, table_words, Deserves15, refusal_of_words}
 use Rattle.blocks.specs.Tests.Whole.{refusal_of_file}
 use Rattle.files.specs.Calls.{HeaderOf, handed_content, save_refusal, Saves, load_refusal, Loads, Deserves13, Deserves12Load}
-use Rattle.files.specs.declared.saved.Saved.{Saved}
-use Rattle.files.specs.declared.saved.Loaded.{Loaded}
+use Rattle.files.specs.Outcomes.{Saved}
+use Rattle.files.specs.Outcomes.{Loaded}
 
 -- ---- load after save, and save after load
 

@@ -3,9 +3,11 @@
 
 ghost use Rattle.std.specs.Prelude.{◌≡◌, replicate};
 ghost use Rattle.files.specs.Calls.{Saves, Loads};
-ghost use Rattle.files.specs.Loops.Said.{Refused, Accepted, Read};
+ghost use Rattle.files.specs.Outcomes.{saved, loaded};
+ghost use Rattle.files.specs.Loops.Said.{Read};
 
-use crate::saved::{Header, Loaded, Saved};
+use crate::saved::Header;
+use problem::refusal::Refusal;
 use search::state::State;
 
 mod content;
@@ -24,49 +26,18 @@ pub fn save(
     agenda: &[u16],
     state: State,
     file: &mut [u8],
-) -> Saved
-    ensures { Saves n d domains.now tables.now agenda.now state file.old file.new result }
+) -> Result<usize, Refusal>
+    ensures { Saves n d domains.now tables.now agenda.now state file.old file.new (saved result) }
 {
-    let refusal = search::first_checks::search_refusal(n, d, domains, tables, agenda, state);
-    if refusal != 0 {
-        return Saved { refusal, blocks: 0 };
-    }
+    search::first_checks::search_refusal(n, d, domains, tables, agenda, state)?;
     let blocks = (content::words(n, d, state.subproblems) + 252) / blocks::CONTENT;
     if file.len() < blocks::BYTES * blocks {
-        return Saved {
-            refusal: 13,
-            blocks: 0,
-        };
+        return Err(Refusal::Buffer);
     }
     let mut words = room_for_content();
     content::put(n, d, domains, tables, agenda, state, &mut words[..WORDS]);
     blocks::writing::put_blocks(&words[..blocks * blocks::CONTENT], file);
-    Saved { refusal: 0, blocks }
-}
-
-// Nothing but a refusal.
-fn refuse(refusal: u32) -> Loaded
-    ensures { Refused refusal result }
-{
-    Loaded {
-        refusal,
-        n: 0,
-        d: 0,
-        state: State::fresh(0),
-    }
-}
-
-// What a file says that is not refused.
-fn accept(header: Header) -> Loaded
-    ensures { Accepted header result }
-{
-    let state = header.state;
-    Loaded {
-        refusal: 0,
-        n: header.n,
-        d: header.d,
-        state,
-    }
+    Ok(blocks)
 }
 
 // The words of 101 blocks, and of the largest tables, 32 times 32 times 16.
@@ -88,16 +59,18 @@ fn room_for_tables() -> [u16; MASKS]
 }
 
 // Hands back what the file says and writes it into the lent memory; refused, changes nothing.
-pub fn load(file: &[u8], domains: &mut [u16], tables: &mut [u16], agenda: &mut [u16]) -> Loaded
-    ensures { Loads file.now domains.old domains.new tables.old tables.new agenda.old agenda.new result }
+pub fn load(
+    file: &[u8],
+    domains: &mut [u16],
+    tables: &mut [u16],
+    agenda: &mut [u16],
+) -> Result<Header, Refusal>
+    ensures { Loads file.now domains.old domains.new tables.old tables.new agenda.old agenda.new (loaded result) }
 {
-    let refusal = blocks::reading::refusal_of_file(file);
-    if refusal != 0 {
-        return refuse(refusal);
-    }
+    blocks::reading::refusal_of_file(file)?;
     let header = said::header_of(file);
     if !reading::is_sized(file, header) {
-        return refuse(15);
+        return Err(Refusal::Content);
     }
     let mut words = room_for_content();
     blocks::reading::put_content(file, &mut words[..WORDS]);
@@ -112,14 +85,14 @@ fn load_content(
     domains: &mut [u16],
     tables: &mut [u16],
     agenda: &mut [u16],
-) -> Loaded
+) -> Result<Header, Refusal>
     requires { Read file.now words.now header }
-    ensures { Loads file.now domains.old domains.new tables.old tables.new agenda.old agenda.new result }
+    ensures { Loads file.now domains.old domains.new tables.old tables.new agenda.old agenda.new (loaded result) }
 {
     let mut room = room_for_tables();
     let count = filling::put_tables(words, header.n, header.d, &mut room[..MASKS]);
     let masks = &room[..count];
-    let refusal = reading::refusal(
+    reading::refusal(
         header,
         file,
         words,
@@ -127,10 +100,7 @@ fn load_content(
         domains.len(),
         tables.len(),
         agenda.len(),
-    );
-    if refusal != 0 {
-        return refuse(refusal);
-    }
+    )?;
     filling::put_search(header, words, masks, domains, tables, agenda);
-    accept(header)
+    Ok(header)
 }

@@ -1,5 +1,6 @@
 // Which refusal a file deserves past 14: 15, 3, 12.
 ghost use Rattle.std.specs.Prelude.{◌≡◌, ◌+◌, ◌-◌, ◌*◌, ◌/◌, ◌<◌, ◌≤◌};
+ghost use Rattle.problem.specs.Refused.{told};
 ghost use Rattle.problem.specs.Lists.{every};
 ghost use Rattle.files.specs.Reading.{refusal_of_words};
 ghost use Rattle.files.specs.Calls.{HeaderOf, load_refusal};
@@ -8,12 +9,13 @@ ghost use Rattle.files.specs.Loops.Said.{numbers_in, zero_in, filled, sized_in, 
 use crate::content::{FIRST, SUBPROBLEMS};
 use crate::saved::Header;
 use crate::{content, copying};
+use problem::refusal::Refusal;
 
-// Whether n and d are in their ranges, where no memory at all is refused 3 and not 1 or 2, and the number of subproblems is.
+// Whether n, d and the number of subproblems are in their ranges.
 fn numbers_fit(n: usize, d: usize, subproblems: usize) -> bool
     ensures { result ≡ numbers_in n d subproblems }
 {
-    search::first_checks::sizes_refusal(n, d, 0, 0, 0) == 3 && subproblems <= SUBPROBLEMS
+    problem::first_checks::refusal_of_numbers(n, d).is_ok() && subproblems <= SUBPROBLEMS
 }
 
 // Whether every word of the content from one on is zero, of so many.
@@ -51,28 +53,30 @@ pub(crate) fn is_sized(file: &[u8], header: Header) -> bool
 }
 
 // 15, or none, of the rules: the first checks of the search that the words say, in an agenda of 512 slots.
-fn refusal_of_rules(header: Header, file: &[u8], words: &[u16], tables: &[u16]) -> u32
+fn refusal_of_rules(
+    header: Header,
+    file: &[u8],
+    words: &[u16],
+    tables: &[u16],
+) -> Result<(), Refusal>
     requires { Ready file.now words.now tables.now header }
-    ensures { result ≡ refusal_of_words file.now }
+    ensures { told result ≡ refusal_of_words file.now }
 {
     let n = header.n;
     let d = header.d;
     let state = header.state;
-    let refusal = search::first_checks::search_refusal(
+    search::first_checks::search_refusal(
         n,
         d,
         copying::part(words, FIRST, n),
         tables,
         content::slots(n, d, words, SUBPROBLEMS),
         state,
-    );
-    if refusal == 0 {
-        return 0;
-    }
-    15
+    )
+    .or(Err(Refusal::Content))
 }
 
-// The refusal of load past 14 and the sizes, of the numbers of words lent as domains, tables and agenda; 0 for none.
+// The refusal of load past 14 and the sizes, of the numbers of words lent as domains, tables and agenda.
 pub(crate) fn refusal(
     header: Header,
     file: &[u8],
@@ -81,21 +85,15 @@ pub(crate) fn refusal(
     domains: usize,
     tables: usize,
     agenda: usize,
-) -> u32
+) -> Result<(), Refusal>
     requires { Ready file.now words.now masks.now header }
-    ensures { result ≡ load_refusal file.now domains tables agenda }
+    ensures { told result ≡ load_refusal file.now domains tables agenda }
 {
     let n = header.n;
-    let rules = refusal_of_rules(header, file, words, masks);
-    if rules != 0 {
-        return rules;
-    }
-    let sizes = search::first_checks::sizes_refusal(n, header.d, domains, tables, agenda);
-    if sizes != 0 {
-        return sizes;
-    }
+    refusal_of_rules(header, file, words, masks)?;
+    search::first_checks::sizes_refusal(n, header.d, domains, tables, agenda)?;
     if agenda / (n + 2) < header.state.subproblems {
-        return 12;
+        return Err(Refusal::Room);
     }
-    0
+    Ok(())
 }

@@ -1,10 +1,11 @@
 -- A refusal that is handed on.
-use Rattle.std.specs.Prelude.{◌≡◌, ℕ, Result, Ok, Err, IsErrAnd}
-use mathlib.Core.Path.{sym, ap, ◌∙◌}
+use Rattle.std.specs.Prelude.{◌≡◌, ℕ, true, false, Result, Ok, Err, IsErrAnd, is_ok}
+use mathlib.Core.Path.{refl, sym, ap, ◌∙◌}
 use Rattle.problem.specs.declared.refusal.Refusal.{Refusal}
 use Rattle.problem.specs.declared.refusal.Refusal.TheVariants.{Variables, Values, Lengths, Masks, OneWay, Search, Kind, Variable, Value, Targets, Steps, Room, Buffer, Blocks, Content}
 use Rattle.problem.specs.Refused.{number_of, told}
 use Rattle.problem.specs.Tests.FirstChecks.{or_else}
+use Rattle.problem.proofs.Tests.{true_false}
 use Rattle.problem.proofs.first_checks.Parts.{else_first}
 use native.Mathlib.Omega.{arith}
 
@@ -36,6 +37,15 @@ handed r refusal h = ap told (handed_err r refusal h)
 
 pub handed_never : {A : Type 0} (r : Result A Refusal) (refusal : Refusal) → IsErrAnd r (λ e. e ≡ refusal) → told r ≡ 0 → ⊥
 handed_never r refusal h z = never_0 refusal (sym (handed r refusal h) ∙ z)
+
+-- Whether there is one.
+pub told_ok : {A : Type 0} (r : Result A Refusal) → is_ok r ≡ true → told r ≡ 0
+told_ok (Ok a) e = refl
+told_ok (Err refusal) e = absurd (true_false (sym e))
+
+pub told_err : {A : Type 0} (r : Result A Refusal) → is_ok r ≡ false → told r ≡ 0 → ⊥
+told_err (Ok a) e z = true_false e
+told_err (Err refusal) e z = never_0 refusal z
 
 -- So the first of two is given that is one.
 pub handed_first : {A : Type 0} (r : Result A Refusal) (refusal : Refusal) (a b : ℕ)

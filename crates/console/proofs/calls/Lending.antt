@@ -17,8 +17,8 @@ use Rattle.search.specs.Outcomes.{Ran}
 use Rattle.search.proofs.first_checks.FirstPassing.{search_is_passed}
 use Rattle.blocks.specs.Blocks.{blocks_for}
 use Rattle.files.specs.Calls.{handed_content, save_refusal, Saves, Loads}
-use Rattle.files.specs.declared.saved.Saved.{Saved}
-use Rattle.files.specs.declared.saved.Loaded.{Loaded}
+use Rattle.files.specs.Outcomes.{Saved}
+use Rattle.files.specs.Outcomes.{Loaded}
 use Rattle.files.proofs.Refusals.{save_none}
 use Rattle.files.proofs.Saving.{saved_few}
 use Rattle.word_bytes.specs.Bytes.{Whole, Fits, words_of, bytes_of}

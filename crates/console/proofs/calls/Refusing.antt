@@ -21,8 +21,8 @@ use Rattle.search.specs.Outcomes.{Opened}
 use Rattle.search.specs.Outcomes.{Ran}
 use Rattle.files.specs.Reading.{said_n, said_d, said_subproblems}
 use Rattle.files.specs.Calls.{save_refusal, Saves, load_refusal, Loads}
-use Rattle.files.specs.declared.saved.Saved.{Saved}
-use Rattle.files.specs.declared.saved.Loaded.{Loaded}
+use Rattle.files.specs.Outcomes.{Saved}
+use Rattle.files.specs.Outcomes.{Loaded}
 use Rattle.search.proofs.first_checks.Deserved.{requests_true}
 use Rattle.files.proofs.LoadOutcomes.{not_given, load_passed}
 use Rattle.word_bytes.specs.Bytes.{Whole, words_of}

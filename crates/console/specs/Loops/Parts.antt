@@ -4,7 +4,7 @@ use Rattle.searches.specs.Verdicts.{number_of}
 use Rattle.search.specs.Calls.{Runs}
 use Rattle.search.specs.declared.state.State.{State}
 use Rattle.search.specs.Outcomes.{Ran}
-use Rattle.files.specs.declared.saved.Loaded.{Loaded}
+use Rattle.files.specs.Outcomes.{Loaded}
 use Rattle.word_bytes.specs.Bytes.{words_of, bytes_of}
 
 -- None refused and still running.

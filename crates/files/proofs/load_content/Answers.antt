@@ -1,7 +1,9 @@
 -- `load_content` meets its contract: refused, nothing is changed; else the search is written.
+use mathlib.Core.Path.{refl}
 use native.Mathlib.Omega.{arith}
 use Rattle.files.proofs.reading.Refused.{read_numbers}
-use Rattle.files.proofs.LoadOutcomes.{load_refused, made_ready, made_count, made_fits, load_lent, load_accepted}
+use Rattle.problem.proofs.Refused.{never_0, handed_err}
+use Rattle.files.proofs.LoadOutcomes.{refuses, accepts, load_refused, made_ready, made_count, made_fits, load_lent, load_accepted}
 use Rattle.files.proofs.load_content.Goals as goal
 
 pub put_tables-count-requires : goal.put_tables-count-requires
@@ -19,19 +21,20 @@ slice_bounds-masks-end c =
     made_count _ _ _ _ _ _ c.requires c.room_for_tables-room.ensures c.put_tables-count.ensures.0
     c.put_tables-count.ensures.1
 
-pub refusal-refusal-requires : goal.refusal-refusal-requires
-refusal-refusal-requires c =
+pub refusal-requires : goal.refusal-requires
+refusal-requires c =
     made_ready _ _ _ _ _ _ c.requires c.room_for_tables-room.ensures c.put_tables-count.ensures.0
     c.put_tables-count.ensures.1
 
-pub returns-then-refusal-ne0 : goal.returns-then-refusal-ne0
-returns-then-refusal-ne0 c = load_refused _ _ _ _ _ c.refusal-refusal.ensures c.if-refusal-ne0.true _ c.refuse.ensures
+pub returns-in_err-refusal : goal.returns-in_err-refusal
+returns-in_err-refusal c =
+    rw (handed_err _ _ c.from_residual.ensures.1) (load_refused _ _ _ _ _ c.in_err-refusal.ensures (never_0 _) _ (refuses _))
 
 pub put_search-requires : goal.put_search-requires
 put_search-requires c =
     let ready = made_ready _ _ _ _ _ _ c.requires c.room_for_tables-room.ensures c.put_tables-count.ensures.0
     c.put_tables-count.ensures.1 in
-    load_lent _ _ _ _ _ c.refusal-refusal.ensures c.if-refusal-ne0.false _ _ _ ready
+    load_lent _ _ _ _ _ c.in_ok-refusal.ensures refl _ _ _ ready
 
 pub shape_of-domains : goal.shape_of-domains
 shape_of-domains c = c.put_search.auto.domains
@@ -48,5 +51,5 @@ returns c =
     let small = c.type_inv.file in
     let ready = made_ready _ _ _ _ _ _ c.requires c.room_for_tables-room.ensures c.put_tables-count.ensures.0
     c.put_tables-count.ensures.1 in
-    load_accepted _ _ _ _ _ c.refusal-refusal.ensures c.if-refusal-ne0.false _ _ _ ready (λ i. omega (arith, small i)) _ _ _ _
-    c.accept.ensures put.put_search.ensures.0 put.put_search.ensures.1.0 put.put_search.ensures.1.1
+    load_accepted _ _ _ _ _ c.in_ok-refusal.ensures refl _ _ _ ready (λ i. omega (arith, small i)) _ _ _ _
+    (accepts _) put.put_search.ensures.0 put.put_search.ensures.1.0 put.put_search.ensures.1.1

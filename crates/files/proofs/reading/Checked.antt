@@ -12,6 +12,12 @@ use lib.ListN.{length, get_or, take, drop, replicate, length-replicate}
 use lib.Seq.{take_all}
 use lib.Dec.{eqb}
 use borrow.Author.Tests.{eqb-true}
+use Rattle.std.specs.Prelude.{Result, Ok, Err}
+use Rattle.std.specs.Result.{result_or}
+use Rattle.problem.specs.declared.refusal.Refusal.{Refusal}
+use Rattle.problem.specs.declared.refusal.Refusal.TheVariants.{Content}
+use Rattle.problem.specs.Refused.{told}
+use Rattle.problem.proofs.Refused.{never_0}
 use Rattle.problem.specs.Problem.{table_of}
 use Rattle.problem.specs.Lists.{every}
 use Rattle.problem.proofs.Tests.{and_left, and_right, every_at}
@@ -207,3 +213,9 @@ module _ (file words tables ds slots : List ℕ) (h : Header) (small : Bytes fil
   -- They refuse.
   pub rules_broken : (r ≡ 0 → ⊥) → 15 ≡ refusal_of_words file
   rules_broken f = refused_given file small (file_whole file ready.read.whole) ready.read.sized (λ z. f (made ∙ z))
+
+-- Whatever they refuse is 15.
+pub fifteen_or : {A : Type 0} (r : Result A Refusal) (k : ℕ) → (told r ≡ 0 → 0 ≡ k) → ((told r ≡ 0 → ⊥) → 15 ≡ k)
+    → told (result_or r (Err Content)) ≡ k
+fifteen_or (Ok a) k none some = none refl
+fifteen_or (Err refusal) k none some = some (never_0 refusal)

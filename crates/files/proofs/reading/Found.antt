@@ -5,57 +5,28 @@ use mathlib.Core.Bool.{Bool, true, false, not, cond, ◌||◌}
 use mathlib.Core.List.{List}
 use Prim.Native.Nat.{ℕ, ◌+◌, ◌-◌, ◌*◌, ◌/◌, ◌<◌}
 use native.Mathlib.Omega.{arith}
-use native.Mathlib.Decide.{ℕ_discrete}
 use lib.ListN.{length}
 use lib.Dec.{eqb, leb, ltb}
 use borrow.Author.Tests.{eq-eqb, ne_eqb}
 use Rattle.problem.specs.Lists.{every}
 use Rattle.problem.specs.Tests.FirstChecks.{refusal_of_numbers}
-use Rattle.search.specs.Tests.FirstChecks.{refusal_of_lengths, sizes_refusal}
 use Rattle.problem.proofs.FirstLoops.{every_stop, every_turn}
-use Rattle.problem.proofs.first_checks.Parts.{numbers_pass}
 use Rattle.blocks.specs.Blocks.{blocks_for}
 use Rattle.blocks.specs.Reading.{content_word}
 use Rattle.files.specs.Loops.Said.{numbers_in, zero_in, filled}
 
 -- ---- the numbers
 
--- Numbers that are refused are 1 or 2.
-not_three : (n d : ℕ) → refusal_of_numbers n d ≡ 3 → ⊥
-unfolding refusal_of_numbers
-not_three n d = go (ltb n 1 || ltb 32 n) (ltb d 1 || ltb 16 d)
-  where
-    go : (a b : Bool) → ◌≡◌ {A = ℕ} (cond a 1 (cond b 2 0)) 3 → ⊥
-    go true b e = omega arith
-    go false true e = omega arith
-    go false false e = omega arith
-
--- Of numbers that are not refused, no memory at all is 3.
-none_three : (n d : ℕ) → refusal_of_numbers n d ≡ 0 → sizes_refusal n d 0 0 0 ≡ 3
-unfolding sizes_refusal refusal_of_lengths
-none_three n d e =
-    let other : 0 ≡ n → ⊥ = λ z. absurd (omega (arith, (numbers_pass n d e).some_variable)) in
-    rw (e, ne_eqb 0 n other) refl
-
-module _ (n d m r : ℕ) (is-r : r ≡ sizes_refusal n d 0 0 0) where
+module _ (n d m r : ℕ) (is-r : r ≡ refusal_of_numbers n d) where
   -- They are refused.
-  pub numbers_bad : (r ≡ 3 → ⊥) → false ≡ numbers_in n d m
+  pub numbers_bad : (r ≡ 0 → ⊥) → false ≡ numbers_in n d m
   unfolding numbers_in
-  numbers_bad f =
-      let some : refusal_of_numbers n d ≡ 0 → ⊥ = λ e. f (is-r ∙ none_three n d e) in
-      rw (ne_eqb (refusal_of_numbers n d) 0 some) refl
-
-  none_refused : r ≡ 3 → refusal_of_numbers n d ≡ 0
-  unfolding sizes_refusal
-  none_refused h = elim (ℕ_discrete (refusal_of_numbers n d) 0) [
-    | yes e ↦ e
-    | no f ↦ absurd (not_three n d (sym (rw (ne_eqb (refusal_of_numbers n d) 0 f) at is-r) ∙ h))
-  ]
+  numbers_bad f = rw (ne_eqb (refusal_of_numbers n d) 0 (λ e. f (is-r ∙ e))) refl
 
   -- They are not: the subproblems decide.
-  pub numbers_good : r ≡ 3 → leb m 512 ≡ numbers_in n d m
+  pub numbers_good : r ≡ 0 → leb m 512 ≡ numbers_in n d m
   unfolding numbers_in
-  numbers_good h = rw (eq-eqb (refusal_of_numbers n d) 0 (none_refused h)) refl
+  numbers_good h = rw (eq-eqb (refusal_of_numbers n d) 0 (sym is-r ∙ h)) refl
 
 -- ---- 15: zeros after the words
 

@@ -1,24 +1,27 @@
 -- `save` meets its contract: refused, nothing is changed; else the blocks are written.
 use mathlib.Core.Path.{refl, ◌∙◌}
 use native.Mathlib.Omega.{arith}
+use Rattle.problem.proofs.Refused.{never_0, handed_err}
 use Rattle.files.proofs.SaveOutcomes.{save_passed, save_refused, save_short, save_written, save_part}
 use Rattle.files.proofs.filling.Filled.{zeros_long}
 use Rattle.files.proofs.save.Goals as goal
 
-pub returns-then-refusal-ne0 : goal.returns-then-refusal-ne0
-returns-then-refusal-ne0 c = save_refused _ _ _ _ _ _ _ _ _ c.search_refusal-refusal.ensures c.if-refusal-ne0.true refl refl
+pub returns-in_err-search_refusal : goal.returns-in_err-search_refusal
+returns-in_err-search_refusal c =
+    rw (handed_err _ _ c.from_residual.ensures.1)
+    (save_refused _ _ _ _ _ _ _ _ _ c.in_err-search_refusal.ensures (never_0 _) refl refl)
 
 pub words-requires : goal.words-requires
-words-requires c = let hands = save_passed _ _ _ _ _ _ _ c.search_refusal-refusal.ensures c.if-refusal-ne0.false in (hands.numbers, hands.few)
+words-requires c = let hands = save_passed _ _ _ _ _ _ _ c.in_ok-search_refusal.ensures refl in (hands.numbers, hands.few)
 
 pub returns-then-file-blocks : goal.returns-then-file-blocks
 returns-then-file-blocks c =
     let small = c.type_inv.agenda in
-    save_short _ _ _ _ _ _ _ (λ i. omega (arith, small i)) _ _ c.search_refusal-refusal.ensures c.if-refusal-ne0.false
+    save_short _ _ _ _ _ _ _ (λ i. omega (arith, small i)) _ _ c.in_ok-search_refusal.ensures refl
     c.words.ensures.0 _ c.if-file-blocks.true refl refl
 
 pub put-requires : goal.put-requires
-put-requires c = (save_passed _ _ _ _ _ _ _ c.search_refusal-refusal.ensures c.if-refusal-ne0.false, c.room_for_content-words.ensures)
+put-requires c = (save_passed _ _ _ _ _ _ _ c.in_ok-search_refusal.ensures refl, c.room_for_content-words.ensures)
 
 pub slice_bounds-put_blocks-end : goal.slice_bounds-put_blocks-end
 slice_bounds-put_blocks-end c =
@@ -33,6 +36,6 @@ pub returns : goal.returns
 returns c =
     let counted = c in
     let small = c.type_inv.agenda in
-    save_written _ _ _ _ _ _ _ (λ i. omega (arith, small i)) _ _ c.search_refusal-refusal.ensures c.if-refusal-ne0.false
+    save_written _ _ _ _ _ _ _ (λ i. omega (arith, small i)) _ _ c.in_ok-search_refusal.ensures refl
     counted.words.ensures.0 _ _ _ c.if-file-blocks.false counted.words.ensures.1 refl refl c.put.ensures
     c.put_blocks.ensures

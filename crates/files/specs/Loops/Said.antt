@@ -11,7 +11,7 @@ use Rattle.files.specs.Reading.{said_n, said_d, said_subproblems, said_allowed, 
 use Rattle.blocks.specs.Tests.Whole.{refusal_of_file}
 use Rattle.files.specs.Calls.{HeaderOf}
 use Rattle.files.specs.declared.saved.Header.{Header}
-use Rattle.files.specs.declared.saved.Loaded.{Loaded}
+use Rattle.files.specs.Outcomes.{Loaded}
 
 -- n and d are in their ranges.
 pub record Numbers (n d : ℕ) : Type 0 where

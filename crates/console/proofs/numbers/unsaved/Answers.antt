@@ -1,7 +1,7 @@
 -- `console::numbers::unsaved` meets its contract.
 use mathlib.Core.Path.{ap}
 use Prim.Native.Nat.{ℕ}
-use Rattle.files.specs.declared.saved.Saved.{Saved}
+use Rattle.files.specs.Outcomes.{Saved}
 use Rattle.console.proofs.numbers.unsaved.Goals as goal
 
 pub returns : goal.returns

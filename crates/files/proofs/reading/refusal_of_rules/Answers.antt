@@ -1,7 +1,7 @@
 -- `reading::refusal_of_rules` meets its contract.
 use native.Mathlib.Omega.{arith}
 use Rattle.files.proofs.reading.Refused.{read_numbers}
-use Rattle.files.proofs.reading.Checked.{rules_kept, rules_broken}
+use Rattle.files.proofs.reading.Checked.{rules_kept, rules_broken, fifteen_or}
 use Rattle.files.proofs.reading.refusal_of_rules.Goals as goal
 
 pub part-requires : goal.part-requires
@@ -14,14 +14,11 @@ slots-requires c =
     let read = c.requires.read in
     ((read_numbers _ _ _ read).0, (omega arith, read.long))
 
-pub returns-then-refusal-eq0 : goal.returns-then-refusal-eq0
-returns-then-refusal-eq0 c =
-    let small = c.type_inv.file in
-    rules_kept _ _ _ _ _ _ (λ i. omega (arith, small i)) c.requires _ c.part.ensures.0 c.slots.ensures.0
-    c.search_refusal-refusal.ensures c.if-refusal-eq0.true
-
 pub returns : goal.returns
 returns c =
     let small = c.type_inv.file in
-    rules_broken _ _ _ _ _ _ (λ i. omega (arith, small i)) c.requires _ c.part.ensures.0 c.slots.ensures.0
-    c.search_refusal-refusal.ensures c.if-refusal-eq0.false
+    let said = c.search_refusal.ensures in
+    rw c.or.ensures
+    (fifteen_or c.search_refusal.result _
+    (rules_kept _ _ _ _ _ _ (λ i. omega (arith, small i)) c.requires _ c.part.ensures.0 c.slots.ensures.0 said)
+    (rules_broken _ _ _ _ _ _ (λ i. omega (arith, small i)) c.requires _ c.part.ensures.0 c.slots.ensures.0 said))
