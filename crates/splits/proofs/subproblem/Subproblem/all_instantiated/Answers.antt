@@ -17,4 +17,4 @@ pub overflow_sub-result : goal.overflow_sub-result
 overflow_sub-result c = rw (shifted _ c.if-n-gt32.false) (pow_pos _)
 
 pub returns : goal.returns
-returns c = marks_all _ _ c.if-n-gt32.false
+returns c = rw c.from.ensures (marks_all _ _ c.if-n-gt32.false)
