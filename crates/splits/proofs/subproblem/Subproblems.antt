@@ -18,7 +18,7 @@ use Rattle.splits.specs.Subproblems.{domain, empty, all_instantiated}
 use Rattle.problem.specs.Lists.{some, every, changed}
 use Rattle.problem.specs.Problem.{Table}
 use Rattle.splits.specs.Requests.{target_of}
-use Rattle.problem.proofs.Tests.{some_at, some_more, same_test, and_left, and_right, every_not, some_same}
+use Rattle.problem.proofs.Tests.{some_at, same_test, and_left, and_right, every_not, some_same}
 use Rattle.splits.specs.Splits.{instantiate, without, cut, cut_beside, at_targets, precluded}
 use Rattle.splits.specs.declared.subproblem.Subproblem.{Subproblem}
 use native.Mathlib.Numerals.{add-one, one-add}

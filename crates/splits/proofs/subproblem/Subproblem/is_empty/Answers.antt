@@ -1,5 +1,5 @@
 -- `subproblem::Subproblem::is_empty` meets its contract.
-use mathlib.Core.Path.{sym, ◌∙◌}
+use mathlib.Core.Path.{◌∙◌}
 use borrow.Author.Rules.{rules}
 use borrow.Author.Tests.{lt-ltb}
 use Rattle.splits.proofs.subproblem.Subproblems.{empty_over, empty_any}
