@@ -52,11 +52,17 @@ pub(crate) fn look(
         if i != variable && top.is_instantiated(i) {
             count += 1;
             if does_forbid(top, n, d, tables, variable, value, i) {
-                return Looked { count, conflict: true };
+                return Looked {
+                    count,
+                    conflict: true,
+                };
             }
         }
     }
-    Looked { count, conflict: false }
+    Looked {
+        count,
+        conflict: false,
+    }
 }
 
 // The number of values in all other domains.

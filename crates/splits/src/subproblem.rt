@@ -18,7 +18,7 @@ impl Subproblem {
     pub fn domain(self, variable: usize) -> u16
         ensures { Domain self variable result }
     {
-        if variable < 32 { self.domains[variable] } else { 0 }
+        self.domains.get(variable).copied().unwrap_or(0)
     }
 
     // Whether a split instantiated the variable.
