@@ -5,6 +5,7 @@ use Rattle.splits.specs.Promises.{OneByOne, ByRow, RequestRefusals, RequestAccep
 use Rattle.splits.proofs.split.OneByOne.{all_one_by_one}
 use Rattle.splits.proofs.subproblem.Rows.{row_made}
 use Rattle.splits.proofs.Apart.{apart_piece, apart_checks}
+use Rattle.problem.proofs.Refusing.{first_one as one_first}
 use Rattle.splits.proofs.refusal.Refusals.{first_refusal, is_none, same_refusal, same_pieces, same_checks}
 use Rattle.problem.proofs.Answers.{one}
 

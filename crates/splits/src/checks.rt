@@ -48,21 +48,21 @@ pub(crate) fn look(
     ensures { LookedAt n (table_of n d tables.now) top variable value result.count result.conflict }
 {
     let mut count = 0;
-    let mut conflict = false;
-    let mut i = 0;
-    while i < n {
-        if i != variable {
-            if top.is_instantiated(i) {
-                count += 1;
-                if does_forbid(top, n, d, tables, variable, value, i) {
-                    conflict = true;
-                    break;
-                }
+    for i in 0..n {
+        if i != variable && top.is_instantiated(i) {
+            count += 1;
+            if does_forbid(top, n, d, tables, variable, value, i) {
+                return Looked {
+                    count,
+                    conflict: true,
+                };
             }
         }
-        i += 1;
     }
-    Looked { count, conflict }
+    Looked {
+        count,
+        conflict: false,
+    }
 }
 
 // The number of values in all other domains.
@@ -71,12 +71,10 @@ fn values_in_others(top: Subproblem, n: usize, variable: usize) -> usize
     ensures { result ≡ values_in (others variable) n top }
 {
     let mut sum = 0;
-    let mut i = 0;
-    while i < n {
+    for i in 0..n {
         if i != variable {
             sum += mask::count(top.domain(i));
         }
-        i += 1;
     }
     sum
 }

@@ -15,10 +15,7 @@ use problem::refusal::Refusal;
 fn is_target_bad(target: u16, domain: u16) -> bool
     ensures { result ≡ bad target domain }
 {
-    if target == 0 {
-        return true;
-    }
-    target & !domain != 0
+    target == 0 || target & !domain != 0
 }
 
 // The refusal that a request deserves, in the order 7, 8, 9, 10.
@@ -64,10 +61,7 @@ fn deserves_9(domain: u16, d: usize, request: &[u16]) -> bool
         return mask::count(domain) == 1;
     }
     let value = words::value(request);
-    if d <= value {
-        return true;
-    }
-    !mask::has(domain, value)
+    d <= value || !mask::has(domain, value)
 }
 
 // 8, 9 or none, of kinds 1 to 4.

@@ -114,11 +114,10 @@ pub fn candidates(n: usize, request: &[u16]) -> usize
     if 32 < n {
         return 0;
     }
-    let kind = words::kind(request);
-    match kind {
+    match words::kind(request) {
+        1 | 2 | 4 => 2,
         3 | 5 => n + 1,
-        0 => 0,
-        _ => if kind < 5 { 2 } else { 0 },
+        _ => 0,
     }
 }
 

@@ -18,20 +18,14 @@ impl Subproblem {
     pub fn domain(self, variable: usize) -> u16
         ensures { Domain self variable result }
     {
-        if variable < 32 {
-            return self.domains[variable];
-        }
-        0
+        self.domains.get(variable).copied().unwrap_or(0)
     }
 
     // Whether a split instantiated the variable.
     pub fn is_instantiated(self, variable: usize) -> bool
         ensures { IsInstantiated self variable result }
     {
-        if variable < 32 {
-            return (self.marked >> variable) % 2 == 1;
-        }
-        false
+        variable < 32 && (self.marked >> variable) % 2 == 1
     }
 
     // Whether each of the first `n` variables is instantiated: the lowest n marks are all set.
@@ -42,35 +36,23 @@ impl Subproblem {
             return false;
         }
         let bound: u64 = 1 << n;
-        (self.marked as u64) % bound == bound - 1
+        u64::from(self.marked) % bound == bound - 1
     }
 
     // Whether one of the first `n` domains is empty.
     pub fn is_empty(self, n: usize) -> bool
         ensures { IsEmpty self n result }
     {
-        if 32 < n {
-            return true;
-        }
-        let mut i = 0;
-        while i < n {
-            if self.domains[i] == 0 {
-                return true;
-            }
-            i += 1;
-        }
-        false
+        32 < n || self.domains[..n].contains(&0)
     }
 
     // The variable instantiated to the value.
     pub fn instantiate(mut self, variable: usize, value: usize) -> Subproblem
         ensures { Instantiate self variable value result }
     {
-        if variable < 32 {
-            if value < 16 {
-                self.domains[variable] = mask::only(value);
-                self.marked |= 1 << variable;
-            }
+        if variable < 32 && value < 16 {
+            self.domains[variable] = mask::only(value);
+            self.marked |= 1 << variable;
         }
         self
     }
@@ -99,10 +81,8 @@ impl Subproblem {
     pub fn cut_each(mut self, masks: [u16; 32]) -> Subproblem
         ensures { CutEach self masks result }
     {
-        let mut i = 0;
-        while i < 32 {
+        for i in 0..32 {
             self.domains[i] &= masks[i];
-            i += 1;
         }
         self
     }
@@ -126,12 +106,10 @@ impl Subproblem {
         requires { j ≤ 32 }
         ensures { result ≡ cut_before self variable row j }
     {
-        let mut i = 0;
-        while i < j {
+        for i in 0..j {
             if i != variable {
                 self.domains[i] &= row[i];
             }
-            i += 1;
         }
         self
     }
@@ -141,10 +119,8 @@ impl Subproblem {
         requires { j ≤ 32 }
         ensures { result ≡ at_targets self request.now j }
     {
-        let mut i = 0;
-        while i < j {
+        for i in 0..j {
             self.domains[i] = words::target(request, i);
-            i += 1;
         }
         self
     }

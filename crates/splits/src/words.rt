@@ -6,25 +6,25 @@ ghost use Rattle.splits.specs.Requests.{kind_of, variable_of, value_of, target_o
 pub(crate) fn word(words: &[u16], at: usize) -> u16
     ensures { result ≡ get_or words.now at 0 }
 {
-    if at < words.len() { words[at] } else { 0 }
+    words.get(at).copied().unwrap_or(0)
 }
 
 pub(crate) fn kind(request: &[u16]) -> usize
     ensures { result ≡ kind_of request.now }
 {
-    word(request, 0) as usize
+    usize::from(word(request, 0))
 }
 
 pub(crate) fn variable(request: &[u16]) -> usize
     ensures { result ≡ variable_of request.now }
 {
-    word(request, 1) as usize
+    usize::from(word(request, 1))
 }
 
 pub(crate) fn value(request: &[u16]) -> usize
     ensures { result ≡ value_of request.now }
 {
-    word(request, 2) as usize
+    usize::from(word(request, 2))
 }
 
 // The target mask of one of the 32 variables.

@@ -57,13 +57,6 @@ one_to_three k a d e other =
     (λ f l. absurd (omega arith)) (λ f l. absurd (omega arith))
     (λ k o f l. absurd (⊎_elim (λ z. f (omega arith)) (λ z. omega arith) o)) k
 
--- what is said of kinds 1, 2 and 4 alike
-pub two_pieces : {A : Type 0} (k : ℕ) (a c other : A) → (k ≡ 3 → ⊥) → (k ≡ 0 → ⊥) → k < 5 → by_kind k a a c a c other ≡ a
-two_pieces k a c other =
-    kinds (λ k. (k ≡ 3 → ⊥) → (k ≡ 0 → ⊥) → k < 5 → by_kind k a a c a c other ≡ a) (λ f g l. refl) (λ f g l. refl)
-    (λ f g l. absurd (f refl)) (λ f g l. refl) (λ f g l. absurd (omega arith))
-    (λ k o f g l. absurd (⊎_elim (λ z. g (omega arith)) (λ z. omega arith) o)) k
-
 either : {A : Type 0} {x y : A} (Q : A → Type 0) (t : Bool) → Q x → Q y → Q (cond t x y)
 either Q true p q = p
 either Q false p q = q

@@ -6,17 +6,19 @@ use mathlib.Core.List.{List}
 use Prim.Native.Nat.{ℕ, zero, suc, ◌+◌, ◌-◌, ◌*◌, ◌%◌, ◌^◌, ◌≤◌, ◌<◌}
 use native.Mathlib.Nat.{one-mul, mod-eq_of_lt, le_trans, le_refl, mod-one, mod-lt, lt_irrefl}
 use native.Mathlib.Decide.{ℕ_discrete}
-use lib.ListN.{length, get_or, set, get_or-eq_default}
+use lib.ListN.{length, get_or, take, set, get_or-eq_default}
 use lib.Seq.{set_out, get_or-set_same, get_or-set_other}
 use lib.Bits.{bit_and, bit_or}
 use lib.Dec.{ltb, eqb}
 use borrow.Author.Tests.{lt-ltb, eq-eqb, ne_eqb, eqb-true}
+use Rattle.std.specs.List.{list_any}
+use Rattle.std.proofs.lemmas.List.Folds.{list_any_more}
 use Rattle.problem.specs.Masks.{bit, single, minus, common}
 use Rattle.splits.specs.Subproblems.{domain, empty, all_instantiated}
 use Rattle.problem.specs.Lists.{some, every, changed}
 use Rattle.problem.specs.Problem.{Table}
 use Rattle.splits.specs.Requests.{target_of}
-use Rattle.problem.proofs.Tests.{some_at, some_more, same_test, and_left, and_right, every_not, some_same}
+use Rattle.problem.proofs.Tests.{some_at, same_test, and_left, and_right, every_not, some_same}
 use Rattle.splits.specs.Splits.{instantiate, without, cut, cut_beside, at_targets, precluded}
 use Rattle.splits.specs.declared.subproblem.Subproblem.{Subproblem}
 use native.Mathlib.Numerals.{add-one, one-add}
@@ -51,7 +53,7 @@ instantiate_in P i v m e h k =
     let bit : 1 * 2 ^ i % 2 ^ 32 ≡ single i = simp one-mul (mod-eq_of_lt (single_lt 32 i h)) in
     simp (lt-ltb i 32 h, lt-ltb v 16 k) (λ t. record { domains = set P.domains i (e t); marked = bit_or P.marked (bit t) })
 
--- a loop that looks for an empty domain
+-- a search for an empty domain
 pub empty_at : (n : ℕ) (P : Subproblem) (i : ℕ) → i < n → domain P i ≡ 0 → true ≡ empty n P
 unfolding empty
 empty_at n P i h e = sym (some_at (λ k. eqb (domain P k) 0) n i h (eq-eqb (domain P i) 0 e))
@@ -59,9 +61,15 @@ empty_at n P i h e = sym (some_at (λ k. eqb (domain P k) 0) n i h (eq-eqb (doma
 pub empty_over : (n : ℕ) (P : Subproblem) → length P.domains ≡ 32 → 32 < n → true ≡ empty n P
 empty_over n P e h = empty_at n P 32 h (sym (domain_out P 32 e (le_refl 32)))
 
-pub empty_more : (P : Subproblem) (i : ℕ) → empty i P ≡ false → (domain P i ≡ 0 → ⊥) → empty (i + 1) P ≡ false
-unfolding empty
-empty_more P i e h = some_more (λ k. eqb (domain P k) 0) i e (ne_eqb (domain P i) 0 h)
+-- one of the first n is 0
+empty_front : (P : Subproblem) (n : ℕ) → n ≤ length P.domains → list_any (λ (y : ℕ). eqb y 0) (take n P.domains) ≡ empty n P
+unfolding empty some
+empty_front P zero h = refl
+empty_front P (suc n) h =
+    rw (← add-one, list_any_more (λ (y : ℕ). eqb y 0) P.domains n 0 (omega arith), empty_front P n (omega arith))
+
+pub empty_any : (P : Subproblem) (n : ℕ) → length P.domains ≡ 32 → n ≤ 32 → list_any (λ (y : ℕ). eqb y 0) (take n P.domains) ≡ empty n P
+empty_any P n e h = empty_front P n (omega arith)
 
 -- one variable more at its target
 pub target_next : (P Q : Subproblem) (r : List ℕ) (i t : ℕ) → Q ≡ at_targets P r i → t ≡ target_of r i

@@ -1,13 +1,8 @@
 -- `splits::checks::look` meets its contract.
 use Rattle.splits.proofs.checks.Counting.{Looking}
 use Rattle.problem.specs.Problem.{table_of}
-use Prim.Native.Nat.{◌≤◌, ◌-◌}
-use mathlib.Core.Bool.{false}
-use mathlib.Core.Path.{◌≡◌}
+use Prim.Native.Nat.{◌≤◌}
 use Rattle.splits.proofs.checks.look.Given as goal
 
 abbrev pub invariant-loop-i : goal.invariant-loop-i
-invariant-loop-i l = (l.i ≤ l.n) × ((l.count ≤ l.i) × ((l.conflict ≡ false) × Looking l.n (table_of l.n l.d l.tables) l.top l.variable l.value l.i l.count))
-
-abbrev pub decreases-loop-i : goal.decreases-loop-i
-decreases-loop-i l = l.n - l.i
+invariant-loop-i l = (l.count ≤ l.i) × Looking l.n (table_of l.n l.d l.tables) l.top l.variable l.value l.i l.count

@@ -1,4 +1,4 @@
--- `splits::refusal::deserves_9` meets its contract, test by test.
+-- `refusal::deserves_9` meets its contract, test by test.
 use borrow.Author.Tests.{le-leb, lt-leb, ne_eqb}
 use Rattle.splits.specs.Loops.Kinds.{deserves9}
 use Rattle.splits.proofs.refusal.Refusals.{lacks}
@@ -14,9 +14,9 @@ returns-then-d-value c =
     rw
     (← c.kind.ensures, ← c.value-value.ensures, ne_eqb _ _ c.if-kind-eq4.false, le-leb _ _ c.if-d-value.true)
 
-pub returns : goal.returns
+pub returns-else-d-value : goal.returns-else-d-value
 unfolding deserves9
-returns c =
+returns-else-d-value c =
     rw (
       ← c.kind.ensures,
       ← c.value-value.ensures,

@@ -6,9 +6,6 @@ pub returns-then-k-ne0 : goal.returns-then-k-ne0
 returns-then-k-ne0 c = backtracked_rest _ _ _ _ _ _ _ c.if-k-ne0.true _
     (its_only _ _ _ _ _ _ c.requires c.only.ensures) c.without.ensures
 
-pub look-looked-requires : goal.look-looked-requires
-look-looked-requires c = c.requires
-
 pub returns-then-looked : goal.returns-then-looked
 returns-then-looked c =
     backtracked_none _ _ _ _ _ _ _ _ c.requires c.if-k-ne0.false _

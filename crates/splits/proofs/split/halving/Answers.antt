@@ -1,10 +1,7 @@
 -- `splits::split::halving` meets its contract.
-use borrow.Author.Tests.{le-ltb, lt-ltb}
+use borrow.Author.Tests.{lt-ltb}
 use Rattle.splits.proofs.split.Places.{halved_first, halved_rest}
 use Rattle.splits.proofs.split.halving.Goals as goal
-
-pub returns-then-n-variable : goal.returns-then-n-variable
-returns-then-n-variable c = rw (← c.variable-variable.ensures, le-ltb _ _ c.if-n-variable.true)
 
 pub returns-then-k-ne0 : goal.returns-then-k-ne0
 returns-then-k-ne0 c =

@@ -1,7 +1,5 @@
 -- `splits::subproblem::Subproblem::all_instantiated` meets its contract.
 use Rattle.splits.proofs.subproblem.Subproblems.{marks_all, marks_over}
-use Rattle.problem.proofs.mask.Masks.{shifted}
-use lib.Pow.{pow_pos}
 use mir.Syntax.{w32}
 use mir.Val.{Fits}
 use borrow.Author.Rules.{rules}
@@ -10,11 +8,5 @@ use Rattle.splits.proofs.subproblem.Subproblem.all_instantiated.Goals as goal
 pub returns-then-n-gt32 : goal.returns-then-n-gt32
 returns-then-n-gt32 c = let h : Fits w32 c.args.self.marked = search rules in marks_over _ _ h.fits c.if-n-gt32.true
 
-pub nonzero_rem-result : goal.nonzero_rem-result
-nonzero_rem-result c = rw (shifted _ c.if-n-gt32.false) (pow_pos _)
-
-pub overflow_sub-result : goal.overflow_sub-result
-overflow_sub-result c = rw (shifted _ c.if-n-gt32.false) (pow_pos _)
-
 pub returns : goal.returns
-returns c = marks_all _ _ c.if-n-gt32.false
+returns c = rw c.from.ensures (marks_all _ _ c.if-n-gt32.false)
