@@ -99,8 +99,7 @@ fn run_on(
 {
     let count = requests.len() / (n + 3);
     let mut state = state;
-    let mut taken = 0;
-    while taken < count {
+    for taken in 0..count {
         let request = request_at(n, requests, taken);
         let mut stop = step_by(n, d, tables, agenda, request, state);
         state = stop.state;
@@ -108,11 +107,10 @@ fn run_on(
             stop.taken = taken;
             return stop;
         }
-        taken += 1;
     }
     Stop {
         refusal: 0,
-        taken,
+        taken: count,
         state,
     }
 }
@@ -172,22 +170,20 @@ fn choose_on(
     ensures { ChoosesAll n d tables.now agenda.old agenda.new limit state result }
 {
     let mut state = state;
-    let mut taken = 0;
     let none = [0u16; 32];
     let mut rows = [none; 512];
     let lanes = lanes::below(n);
-    while taken < limit {
+    for taken in 0..limit {
         let mut stop = step_chosen(lanes, n, d, tables, agenda, &mut rows, state);
         state = stop.state;
         if stop.taken == 0 {
             stop.taken = taken;
             return stop;
         }
-        taken += 1;
     }
     Stop {
         refusal: 0,
-        taken,
+        taken: limit,
         state,
     }
 }

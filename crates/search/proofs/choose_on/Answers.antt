@@ -1,45 +1,25 @@
 -- `search::choose_on` meets its contract. The invariant: the chooser from here on is the whole chooser, and the rows kept are rows.
-use mathlib.Core.Path.{◌∙◌}
 use native.Mathlib.Omega.{arith}
 use Rattle.search.proofs.kept.Kept.{rows_none}
 use Rattle.search.proofs.Running.{choosing_none, choosing_on, choosing_stops, choosing_end}
 use Rattle.search.proofs.choose_on.Goals as goal
 
-pub below-lanes-requires : goal.below-lanes-requires
-below-lanes-requires c = c.requires.fitting.few
-
 pub loop-taken-init : goal.loop-taken-init
-loop-taken-init c = (omega arith, (choosing_none _ _ _ _ _ _ c.requires, rows_none 16 _ _ _))
-
-pub step_chosen-stop-requires : goal.step_chosen-stop-requires
-step_chosen-stop-requires c = (
-  c.loop-taken.invariant.1.0.ready,
-  (c.loop-taken.invariant.1.1, c.below-lanes.ensures),
-)
-
-pub shape_of-agenda-then-stop-eq0 : goal.shape_of-agenda-then-stop-eq0
-shape_of-agenda-then-stop-eq0 c =
-    c.step_chosen-stop.ensures.0.same ∙ c.loop-taken.invariant.1.0.room
+loop-taken-init c = (choosing_none _ _ _ _ _ _ c.requires, rows_none 16 _ _ _)
 
 pub returns-then-stop-eq0 : goal.returns-then-stop-eq0
 returns-then-stop-eq0 c =
-    choosing_stops _ _ _ _ _ _ _ _ _ c.loop-taken.invariant.1.0
+    choosing_stops _ _ _ _ _ _ _ _ _ c.loop-taken.invariant.0
     c.loop-taken-test.true _ _
     c.step_chosen-stop.ensures.0 c.if-stop-eq0.true
 
 pub loop-taken-preserved : goal.loop-taken-preserved
 loop-taken-preserved c = (
-  omega arith,
-  (
-    choosing_on _ _ _ _ _ _ _ _ _ c.loop-taken.invariant.1.0
-        c.loop-taken-test.true _ _
-        c.step_chosen-stop.ensures.0 c.if-stop-eq0.false,
-    c.step_chosen-stop.ensures.1,
-  ),
+  choosing_on _ _ _ _ _ _ _ _ _ c.loop-taken.invariant.0
+      c.loop-taken-test.true _ _
+      c.step_chosen-stop.ensures.0 c.if-stop-eq0.false,
+  c.step_chosen-stop.ensures.1,
 )
 
-pub shape_of-agenda : goal.shape_of-agenda
-shape_of-agenda c = c.loop-taken.invariant.1.0.room
-
 pub returns : goal.returns
-returns c = choosing_end _ _ _ _ _ _ _ _ _ c.loop-taken.invariant.1.0 c.loop-taken-test.false
+returns c = choosing_end _ _ _ _ _ _ _ _ _ c.loop-taken.invariant.0 (omega arith)

@@ -1,10 +1,6 @@
 -- `search::run_on` meets its contract. The invariant: the run from here on is the whole run.
-use Prim.Native.Nat.{◌≤◌, ◌-◌}
 use Rattle.search.proofs.Running.{Going}
 use Rattle.search.proofs.run_on.Given as goal
 
 abbrev pub invariant-loop-taken : goal.invariant-loop-taken
-invariant-loop-taken l = (l.taken ≤ l.count) × Going l.n l.d l.tables l.requests l.initial.agenda l.initial.state l.agenda l.state l.taken
-
-abbrev pub decreases-loop-taken : goal.decreases-loop-taken
-decreases-loop-taken l = l.count - l.taken
+invariant-loop-taken l = Going l.n l.d l.tables l.requests l.initial.agenda l.initial.state l.agenda l.state l.taken
