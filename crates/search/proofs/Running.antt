@@ -158,15 +158,15 @@ going_none n d t requests before start h = record { ready = h; room = refl; same
 
 module _ (n d : ℕ) (t requests before : List ℕ) (start : State) (agenda : List ℕ) (s : State) (taken : ℕ) (g : Going n d t requests before start agenda s taken) where
   -- At the end of the list.
-  pub going_end : length requests / (n + 3) ≤ taken
+  pub going_end : taken ≡ length requests / (n + 3)
       → StopsAt n d t before agenda (run (problem_of n d [] t) (slots (slots_in n (length before))) (requests_in n requests) (search_of n before start))
-      (record { refusal = 0; taken = taken; state = s })
+      (record { refusal = 0; taken = length requests / (n + 3); state = s })
   unfolding requests_in run_from
   going_end h =
-      rw (g.same, cut_end taken (length requests / (n + 3)) (n + 3) requests h)
+      rw (g.same, cut_end taken (length requests / (n + 3)) (n + 3) requests (omega arith))
       (record {
         refusal = refl;
-        taken = refl;
+        taken = sym h;
         steps = refl;
         checks = refl;
         subproblems = sym (length_stack_of n agenda s.subproblems);
@@ -255,16 +255,16 @@ choosing_none n d t limit before start h =
 module _ (n d : ℕ) (t : List ℕ) (limit : ℕ) (before : List ℕ) (start : State) (agenda : List ℕ) (s : State) (taken : ℕ)
     (g : GoingChosen n d t limit before start agenda s taken) where
   -- At the limit.
-  pub choosing_end : limit ≤ taken
+  pub choosing_end : taken ≡ limit
       → StopsAt n d t before agenda (choose (problem_of n d [] t) (slots (slots_in n (length before))) limit (search_of n before start))
-      (record { refusal = 0; taken = taken; state = s })
+      (record { refusal = 0; taken = limit; state = s })
   unfolding choose_from
   choosing_end h =
       let none : limit - taken ≡ 0 = omega arith in
       rw (g.same, none)
       (record {
         refusal = refl;
-        taken = refl;
+        taken = sym h;
         steps = refl;
         checks = refl;
         subproblems = sym (length_stack_of n agenda s.subproblems);

@@ -36,7 +36,7 @@ fn look(top: Subproblem, n: usize, d: usize, tables: &[u16], rows: &mut [[u16; 3
 {
     let domains = top.domains;
     let key = lanes::least_key(domains, top.marked | lanes::beyond(n));
-    let variable = (key % 32) as usize;
+    let variable = usize::from(key % 32);
     let value = mask::lowest(top.domain(variable));
     let row = kept::row(n, d, tables, rows, variable * 16 + value, variable, value);
     let lost = at_once::loses(domains, row);
@@ -52,10 +52,7 @@ fn look(top: Subproblem, n: usize, d: usize, tables: &[u16], rows: &mut [[u16; 3
 fn is_several(choice: Choice) -> bool
     ensures { result ≡ several choice }
 {
-    if choice.lost {
-        return false;
-    }
-    choice.values != 1
+    !choice.lost && choice.values != 1
 }
 
 // The precluded piece.
@@ -210,7 +207,7 @@ fn with_checks(top: Subproblem, choice: Choice, before: u64) -> u64
     ensures { result ≡ before + (total 32 (λ j. size (domain top j)) - choice.values) }
 {
     let domains = top.domains;
-    before + ((at_once::values(domains) - choice.values) as u64)
+    before + u64::from(at_once::values(domains) - choice.values)
 }
 
 // One step of the chooser by a search that runs and whose top is `top`: the state after it.

@@ -44,13 +44,11 @@ fn piece_count(top: Subproblem, n: usize, d: usize, tables: &[u16], request: &[u
 {
     let candidates = split::candidates(n, request);
     let mut count = 0;
-    let mut k = 0;
-    while k < candidates {
+    for k in 0..candidates {
         let piece = split::piece(top, n, d, tables, request, k);
         if !piece.is_empty(n) {
             count += 1;
         }
-        k += 1;
     }
     count
 }
@@ -131,9 +129,8 @@ fn place(
     ensures { Placed n (pieces n (table_of n d tables.now) top request.now) from agenda.old agenda.new result }
 {
     let mut at = from;
-    let mut k = split::candidates(n, request);
-    while 0 < k {
-        k -= 1;
+    let candidates = split::candidates(n, request);
+    for k in (0..candidates).rev() {
         if !keeps_none(top, n, d, tables, request, k) {
             let piece = split::piece(top, n, d, tables, request, k);
             if !piece.is_empty(n) {

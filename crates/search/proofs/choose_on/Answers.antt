@@ -1,26 +1,12 @@
 -- `search::choose_on` meets its contract. The invariant: the chooser from here on is the whole chooser, and the rows kept are rows.
-use mathlib.Core.Path.{refl, ◌∙◌}
-use native.Mathlib.Nat.{le_antisymm}
+use mathlib.Core.Path.{refl}
 use native.Mathlib.Omega.{arith}
 use Rattle.search.proofs.kept.Kept.{rows_none}
 use Rattle.search.proofs.Running.{choosing_none, choosing_on, choosing_stops, choosing_end}
 use Rattle.search.proofs.choose_on.Goals as goal
 
-pub below-lanes-requires : goal.below-lanes-requires
-below-lanes-requires c = c.requires.fitting.few
-
 pub loop-taken-init : goal.loop-taken-init
 loop-taken-init c = (choosing_none _ _ _ _ _ _ c.requires, rows_none 16 _ _ _)
-
-pub step_chosen-requires : goal.step_chosen-requires
-step_chosen-requires c = (
-  c.loop-taken.invariant.0.ready,
-  (c.loop-taken.invariant.1, c.below-lanes.ensures),
-)
-
-pub shape_of-agenda-in-Break : goal.shape_of-agenda-in-Break
-shape_of-agenda-in-Break c =
-    c.in-Break.ensures.0.same ∙ c.loop-taken.invariant.0.room
 
 pub returns-in-Break : goal.returns-in-Break
 returns-in-Break c =
@@ -35,10 +21,5 @@ loop-taken-preserved c = (
   c.in-Continue.ensures.1,
 )
 
-pub shape_of-agenda : goal.shape_of-agenda
-shape_of-agenda c = c.loop-taken.invariant.0.room
-
 pub returns : goal.returns
-returns c =
-    rw (le_antisymm c.loop-taken.auto.taken-end c.loop-taken-test.false) at
-    (choosing_end _ _ _ _ _ _ _ _ _ c.loop-taken.invariant.0 c.loop-taken-test.false)
+returns c = choosing_end _ _ _ _ _ _ _ _ _ c.loop-taken.invariant.0 (omega arith)

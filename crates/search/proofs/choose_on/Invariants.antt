@@ -4,4 +4,4 @@ use Rattle.search.proofs.Running.{GoingChosen}
 use Rattle.search.proofs.choose_on.Given as goal
 
 abbrev pub invariant-loop-taken : goal.invariant-loop-taken
-invariant-loop-taken l = (GoingChosen l.n l.d l.tables l.limit l.initial.agenda l.initial.state l.agenda l.state l.taken × Rows 16 l.n l.d l.tables l.rows)
+invariant-loop-taken l = GoingChosen l.n l.d l.tables l.limit l.initial.agenda l.initial.state l.agenda l.state l.taken × Rows 16 l.n l.d l.tables l.rows

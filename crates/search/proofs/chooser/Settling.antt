@@ -49,21 +49,6 @@ use Rattle.search.proofs.chooser.Lone.{lost_is, rest_full, two_none, two_rest, t
 use Rattle.search.proofs.Running.{top_regular}
 use Rattle.search.proofs.chooser.Choosing.{variable_below, value_below}
 
--- ---- the tests
-
-module _ (c : Choice) where
-  pub several_lost : c.lost ≡ true → false ≡ several c
-  unfolding several
-  several_lost e = rw e refl
-
-  pub several_is : c.lost ≡ false → not (eqb c.values 1) ≡ several c
-  unfolding several
-  several_is e = rw e (go (eqb c.values 1))
-    where
-      go : (b : Bool) → not b ≡ cond b false true
-      go true = refl
-      go false = refl
-
 -- ---- the pieces, as the code makes them
 
 module _ (n : ℕ) (P : Subproblem) (c : Choice) (before after : List ℕ) (below : ℕ) (slot : SlotIn n below (length before)) where

@@ -1,9 +1,12 @@
--- `search::choice::is_several` meets its contract.
-use Rattle.search.proofs.chooser.Settling.{several_lost, several_is}
+-- `search::chooser::is_several` meets its contract.
+use Rattle.std.proofs.Common.{rules, tests}
+use Rattle.search.specs.Loops.Found.{several}
 use Rattle.search.proofs.chooser.is_several.Goals as goal
 
-pub returns-then-choice : goal.returns-then-choice
-returns-then-choice c = several_lost _ c.if-choice.true
+pub returns-then-not-choice : goal.returns-then-not-choice
+unfolding several
+returns-then-not-choice c = search (rules, tests)
 
-pub returns : goal.returns
-returns c = several_is _ c.if-choice.false
+pub returns-else-not-choice : goal.returns-else-not-choice
+unfolding several
+returns-else-not-choice c = search (rules, tests)

@@ -1,41 +1,15 @@
--- `search::choice::look` meets its contract.
-use borrow.Author.Rules.{rules}
-use mathlib.Core.Path.{refl}
+-- `search::chooser::look` meets its contract.
 use Rattle.search.proofs.kept.Kept.{its_place, row_at, row_more}
 use Rattle.search.proofs.chooser.Settling.{found_inside, found_is}
 use Rattle.search.proofs.chooser.look.Goals as goal
-
-pub beyond-requires : goal.beyond-requires
-beyond-requires c = c.requires.0.few
-
-pub least_key-key-requires : goal.least_key-key-requires
-least_key-key-requires c = tt
-
-pub domain-requires : goal.domain-requires
-domain-requires c = tt
-
-pub lowest-value-requires : goal.lowest-value-requires
-lowest-value-requires c = tt
-
-pub overflow_add-variable : goal.overflow_add-variable
-overflow_add-variable c =
-    let k = c.requires in
-    let inside = found_inside _ _ _ _ k.0 k.1.0 k.1.1.0 _ _ _ _ _ c.beyond.ensures
-    c.least_key-key.ensures refl c.domain.ensures c.lowest-value.ensures in
-    let value = inside.a_value in
-    let small = inside.fit.small in
-    search rules
 
 pub row-row-requires : goal.row-row-requires
 row-row-requires c =
     let k = c.requires in
     let inside = found_inside _ _ _ _ k.0 k.1.0 k.1.1.0 _ _ _ _ _ c.beyond.ensures
-    c.least_key-key.ensures refl c.domain.ensures c.lowest-value.ensures in
+    c.least_key-key.ensures c.from-variable.ensures c.domain.ensures c.lowest-value.ensures in
     let place = its_place _ _ _ _ _ inside in
     (inside, row_at _ _ _ _ _ _ _ k.1.1.1 place.0 place.1)
-
-pub loses-lost-requires : goal.loses-lost-requires
-loses-lost-requires c = tt
 
 pub returns : goal.returns
 returns c =
@@ -45,8 +19,8 @@ returns c =
     let its = c.domain.ensures in
     let low = c.lowest-value.ensures in
     let row = c.row-row.ensures in
-    let inside = found_inside _ _ _ _ k.0 k.1.0 k.1.1.0 _ _ _ _ _ beyond least refl its low in
+    let inside = found_inside _ _ _ _ k.0 k.1.0 k.1.1.0 _ _ _ _ _ beyond least c.from-variable.ensures its low in
     let place = its_place _ _ _ _ _ inside in (
-      found_is _ _ _ _ k.0 k.1.0 k.1.1.0 _ _ _ _ _ beyond least refl its low _ _ row.0 c.loses-lost.ensures,
+      found_is _ _ _ _ k.0 k.1.0 k.1.1.0 _ _ _ _ _ beyond least c.from-variable.ensures its low _ _ row.0 c.loses-lost.ensures,
       row_more _ _ _ _ _ _ _ k.1.1.1 place.0 place.1 _ _ _ row.0 row.1,
     )

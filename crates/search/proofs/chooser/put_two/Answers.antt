@@ -1,4 +1,4 @@
--- `search::choice::put_two` meets its contract.
+-- `search::chooser::put_two` meets its contract.
 use mathlib.Core.Path.{◌≡◌}
 use native.Mathlib.Omega.{arith}
 use lib.ListN.{length}

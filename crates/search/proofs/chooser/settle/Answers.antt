@@ -1,4 +1,4 @@
--- `search::choice::settle` meets its contract.
+-- `search::chooser::settle` meets its contract.
 use mathlib.Core.Path.{◌≡◌}
 use native.Mathlib.Omega.{arith}
 use lib.ListN.{length}

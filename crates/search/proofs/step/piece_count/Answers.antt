@@ -11,7 +11,7 @@ use Rattle.search.proofs.step.piece_count.Goals as goal
 
 pub loop-k-init : goal.loop-k-init
 unfolding firsts
-loop-k-init c = (search rules, (omega arith, omega arith))
+loop-k-init c = (omega arith, omega arith)
 
 pub loop-k-preserved : goal.loop-k-preserved
 loop-k-preserved c =
@@ -20,22 +20,20 @@ loop-k-preserved c =
     let named = c.candidates-candidates.ensures in
     let more = c.loop-k-test.true in
     let piece = c.piece-piece.ensures in
-    let told = c.is_empty.ensures in (
-      omega arith,
-      elim c.if-not-is_empty.branch [
-        | then-not-is_empty w ↦ (
-          omega (arith, w.count-is),
-          w.count-is ∙ count_more _ _ _ _ _ pre _ _ _ _ _ named more piece inv.1.1 told (ap not w.if-not-is_empty.true),
-        )
-        | else-not-is_empty w ↦ (
-          omega (arith, w.count-is),
-          w.count-is ∙ count_same _ _ _ _ _ pre _ _ _ _ _ named more piece inv.1.1 told (ap not w.if-not-is_empty.false),
-        )
-      ],
-    )
+    let told = c.is_empty.ensures in
+    elim c.if-not-is_empty.branch [
+      | then-not-is_empty w ↦ (
+        omega (arith, w.count-is),
+        w.count-is ∙ count_more _ _ _ _ _ pre _ _ _ _ _ named more piece inv.1 told (ap not w.if-not-is_empty.true),
+      )
+      | else-not-is_empty w ↦ (
+        omega (arith, w.count-is),
+        w.count-is ∙ count_same _ _ _ _ _ pre _ _ _ _ _ named more piece inv.1 told (ap not w.if-not-is_empty.false),
+      )
+    ]
 
 pub returns : goal.returns
 returns c =
     let inv = c.loop-k.invariant in
     let long : length c.args.top.domains ≡ 32 = search rules in
-    count_end _ _ _ _ _ c.requires _ _ _ long c.candidates-candidates.ensures inv.0 c.loop-k-test.false inv.1.1
+    count_end _ _ _ _ _ c.requires _ _ _ long c.candidates-candidates.ensures c.loop-k.auto.k-end c.loop-k-test.false inv.1
