@@ -3,7 +3,8 @@
 use mathlib.Core.Path.{ap, ◌∙◌}
 use Prim.Native.Nat.{ℕ}
 use Rattle.problem.specs.Masks.{bit}
-use Rattle.problem.specs.Promises.{NoConstraint, LowestValue, SmallerHalfOf, CountOne, LowestOne, HasOne, SmallerHalfOne, SizesRefusals, ProblemRefusals, NumbersPass, ProblemPass, TurnedOne, OnlyOne, WithinOne, AllowedOne, RowOne, BitsOfOne, RefusalOfNumbersOne, SizesRefusalOne, RefusalOne}
+use Rattle.problem.specs.Promises.{NoConstraint, LowestValue, SmallerHalfOf, CountOne, LowestOne, HasOne, SmallerHalfOne, SizesRefusals, ProblemRefusals, NumbersPass, ProblemPass, TurnedOne, OnlyOne, WithinOne, AllowedOne, RowOne, BitsOfOne, RefusalOfNumbersOne, SizesRefusalOne, RefusalOne, NumberOne, ToldOne}
+use Rattle.problem.proofs.Refused.{number_once, told_once}
 use Rattle.problem.proofs.mask.Masks.{all_set, trailing_member, trailing_least, half_part, half_size, half_below}
 use Rattle.problem.proofs.Answers.{one}
 use Rattle.problem.proofs.matrix.Turning
@@ -61,6 +62,12 @@ row_one = one_row
 
 pub bits_of_one : BitsOfOne
 bits_of_one words = one _
+
+pub number_one : NumberOne
+number_one = number_once
+
+pub told_one : ToldOne
+told_one = told_once
 
 pub refusal_of_numbers_one : RefusalOfNumbersOne
 refusal_of_numbers_one n d = one _

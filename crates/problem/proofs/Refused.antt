@@ -1,5 +1,5 @@
 -- A refusal that is handed on.
-use Rattle.std.specs.Prelude.{◌≡◌, ℕ, true, false, Result, Ok, Err, IsErrAnd, is_ok}
+use Rattle.std.specs.Prelude.{◌≡◌, ℕ, List, [], ◌∷◌, get_or, true, false, Result, Ok, Err, IsErrAnd, is_ok}
 use mathlib.Core.Path.{refl, sym, ap, ◌∙◌}
 use Rattle.problem.specs.declared.refusal.Refusal.{Refusal}
 use Rattle.problem.specs.declared.refusal.Refusal.TheVariants.{Variables, Values, Lengths, Masks, OneWay, Search, Kind, Variable, Value, Targets, Steps, Room, Buffer, Blocks, Content}
@@ -26,6 +26,42 @@ never_0 Room h = omega arith
 never_0 Buffer h = omega arith
 never_0 Blocks h = omega arith
 never_0 Content h = omega arith
+
+-- the refusals in the order of their numbers
+numbered : ℕ → Refusal
+numbered k =
+    get_or
+    (Variables ∷ Variables ∷ Values ∷ Lengths ∷ Masks ∷ OneWay ∷ Search ∷ Kind ∷ Variable ∷ Value ∷ Targets ∷ Steps ∷ Room ∷ Buffer ∷ Blocks
+    ∷ Content ∷ []) k Variables
+
+numbered_is : (refusal : Refusal) → numbered (number_of refusal) ≡ refusal
+unfolding numbered
+numbered_is Variables = refl
+numbered_is Values = refl
+numbered_is Lengths = refl
+numbered_is Masks = refl
+numbered_is OneWay = refl
+numbered_is Search = refl
+numbered_is Kind = refl
+numbered_is Variable = refl
+numbered_is Value = refl
+numbered_is Targets = refl
+numbered_is Steps = refl
+numbered_is Room = refl
+numbered_is Buffer = refl
+numbered_is Blocks = refl
+numbered_is Content = refl
+
+-- No two have one number.
+pub number_once : (a b : Refusal) → number_of a ≡ number_of b → a ≡ b
+number_once a b e = sym (numbered_is a) ∙ ap numbered e ∙ numbered_is b
+
+-- Nor do two results of a check tell one.
+pub told_once : (r s : Result Unit Refusal) → told r ≡ told s → r ≡ s
+told_once (Ok a) (Ok b) e = refl
+told_once (Ok a) (Err f) e = absurd (never_0 f (sym e))
+told_once (Err f) (Ok b) e = absurd (never_0 f e)
+told_once (Err f) (Err g) e = ap Err (number_once f g e)
 
 -- What `?` hands on is the refusal that it was told.
 pub handed_err : {A : Type 0} (r : Result A Refusal) (refusal : Refusal) → IsErrAnd r (λ e. e ≡ refusal) → r ≡ Err refusal

@@ -3,6 +3,9 @@ use Rattle.std.specs.Prelude.{◌≡◌, ℕ, ◌+◌, ◌/◌, ◌^◌, ◌<◌
 use Rattle.problem.specs.Masks.{◌∈◌, Part, size, lowest_of, smaller_half_of, LowestIn, all_values}
 use Rattle.problem.specs.Problem.{Problem, problem_of}
 use Rattle.problem.specs.Calls.{Count, Lowest, Only, Has, SmallerHalf, Within, Allowed, Row, BitsOf, RefusalOfNumbers, SizesRefusal, Refusal}
+use Rattle.std.specs.Prelude.{Result}
+use Rattle.problem.specs.declared.refusal.Refusal.{Refusal as RefusalByName}
+use Rattle.problem.specs.Refused.{number_of, told}
 use Rattle.problem.specs.Answers.{One}
 use Rattle.problem.specs.Matrix.{Turned}
 use Rattle.problem.specs.FirstChecks.{Deserves1, Deserves2, Deserves3Problem, Deserves4, Deserves5}
@@ -65,6 +68,13 @@ NumbersPass = (n d : ℕ) → (refusal_of_numbers n d ≡ 0) ↔ ((Deserves1 n �
 -- The problem passes exactly when neither 4 nor 5 is deserved.
 abbrev pub ProblemPass : Type 0
 ProblemPass = (p : Problem) → (refusal_of_problem p ≡ 0) ↔ ((Deserves4 p → ⊥) × (Deserves5 p → ⊥))
+
+-- A number tells which refusal it is, and 0 that there is none: so what speaks of the number leaves one result.
+abbrev pub NumberOne : Type 0
+NumberOne = (a b : RefusalByName) → number_of a ≡ number_of b → a ≡ b
+
+abbrev pub ToldOne : Type 0
+ToldOne = (r s : Result Unit RefusalByName) → told r ≡ told s → r ≡ s
 
 -- The mask of one value.
 abbrev pub OnlyOne : Type 0
