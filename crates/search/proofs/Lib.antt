@@ -4,6 +4,7 @@ pub mod Ending
 pub mod Exactly
 pub mod HandedOn
 pub mod Opening
+pub mod Outcomes
 pub mod Planners
 pub mod Promises
 pub mod Reaching

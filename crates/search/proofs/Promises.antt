@@ -15,8 +15,9 @@ use Rattle.search.specs.Calls.{Ends}
 use Rattle.search.specs.declared.state.State.{State}
 use Rattle.search.specs.Outcomes.{Ran}
 use Rattle.search.specs.Cases.{cases}
-use Rattle.search.specs.Promises.{SlotsLawful, SlotsFull, SlotsRefusals, SlotsChosen, OpeningPlaces, ReachedOpened, OpenOne, RunOne, ChooseOne, OpenLeaves, RunLeaves, ChooserLeaves, HandedPasses, RunSays, ChooserSays, EndsSo, MarkedCases, NoneIfRun, NoneIfChoose, RunExact, ChooseExact, RightOnly, NotOnlyRefuses, NotAlwaysUnsolvable, NotIdle, NotSolvedAtOnce, NotInvented, OpenRefusals, SearchRefusals, RunRefusals, LengthsPass, RequestsPass, SearchPass, OpenApart, SearchApart, RunApart, FreshOne, SizesRefusalOne, OpenRefusalOne, SearchRefusalOne, RunRefusalOne}
+use Rattle.search.specs.Promises.{SlotsLawful, SlotsFull, SlotsRefusals, SlotsChosen, OpenedOne, RanOne, OpeningPlaces, ReachedOpened, OpenOne, RunOne, ChooseOne, OpenLeaves, RunLeaves, ChooserLeaves, HandedPasses, RunSays, ChooserSays, EndsSo, MarkedCases, NoneIfRun, NoneIfChoose, RunExact, ChooseExact, RightOnly, NotOnlyRefuses, NotAlwaysUnsolvable, NotIdle, NotSolvedAtOnce, NotInvented, OpenRefusals, SearchRefusals, RunRefusals, LengthsPass, RequestsPass, SearchPass, OpenApart, SearchApart, RunApart, FreshOne, SizesRefusalOne, OpenRefusalOne, SearchRefusalOne, RunRefusalOne}
 use Rattle.search.proofs.Slots
+use Rattle.search.proofs.Outcomes
 use Rattle.search.proofs.Reaching
 use Rattle.search.proofs.Cases
 use Rattle.search.proofs.Planners
@@ -39,6 +40,12 @@ pub slots_chosen : SlotsChosen
 slots_chosen p room P S s h top e =
     let fits : length (P ∷ S) ≤ room = rw top at h.fits in
     Slots.slots_chosen p room P S s top fits (chosen p (slots room) s.memory) (chosen_so p (slots room) P S s h top e)
+
+pub opened_one : OpenedOne
+opened_one = Outcomes.opened_once
+
+pub ran_one : RanOne
+ran_one = Outcomes.ran_once
 
 pub opening_places : OpeningPlaces
 opening_places = Reaching.opening_places

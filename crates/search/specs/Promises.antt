@@ -5,6 +5,8 @@ use mathlib.Core.List.{List, Memᴰ, [], ◌∷◌, map}
 use Rattle.problem.specs.Problem.{Problem, Proper, AgreeApart, Words, problem_of}
 use Rattle.splits.specs.Subproblems.{size_of}
 use Rattle.problem.specs.Refusing.{Refusals, FirstOf}
+use Rattle.std.specs.Prelude.{Result}
+use Rattle.problem.specs.declared.refusal.Refusal.{Refusal}
 use Rattle.problem.specs.Answers.{One}
 use Rattle.splits.specs.declared.subproblem.Subproblem.{Subproblem}
 use Rattle.searches.specs.Verdicts.{number_of, verdict_of}
@@ -21,11 +23,10 @@ use Rattle.search.specs.FirstChecks.{WholeRequests, Deserves3, Deserves3Run, Des
 use Rattle.search.specs.Tests.FirstChecks.{search_refusal, refusal_of_lengths, refusal_of_requests, refusal_of_search, sizes_refusal, open_refusal, run_refusal}
 use Rattle.problem.specs.FirstChecks.{Deserves1, Deserves2, Deserves4, Deserves5}
 use Rattle.search.specs.Calls.{opening, begun, search_of, Opens, Runs, Chooses, Fresh}
-use Rattle.search.specs.Outcomes.{fresh}
 use Rattle.search.specs.declared.state.State.{State}
-use Rattle.search.specs.Outcomes.{Opened}
 use Rattle.search.specs.Cases.{Case, problem_in, expected, cases}
-use Rattle.search.specs.Outcomes.{Ran}
+use Rattle.search.specs.declared.state.Ran.{Ran as Returned}
+use Rattle.search.specs.Outcomes.{fresh, Opened, opened, Ran, ran}
 
 -- ---- slots
 
@@ -50,6 +51,15 @@ abbrev pub SlotsChosen : Type 0
 SlotsChosen =
     (p : Problem) (room : ℕ) (P : Subproblem) (S : List Subproblem) (s : Search) → Passes p (slots room) s → s.memory ≡ P ∷ S
     → number_of (verdict_of p.n s.memory) ≡ 1 → Chosen p (Deserves12 p room P S) P (chosen p (slots room) s.memory)
+
+-- ---- what is read of a result
+
+-- What opening, a run and the chooser tell leaves one result each.
+abbrev pub OpenedOne : Type 0
+OpenedOne = (r s : Result State Refusal) → opened r ≡ opened s → r ≡ s
+
+abbrev pub RanOne : Type 0
+RanOne = (r s : Returned) → ran r ≡ ran s → r ≡ s
 
 -- ---- searches begun by opening
 
