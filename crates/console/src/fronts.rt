@@ -2,26 +2,13 @@
 ghost use Rattle.std.specs.Prelude.{◌≡◌, ◌+◌, ◌-◌, ◌*◌, ◌≤◌, ◌<◌, length};
 ghost use Rattle.console.specs.Loops.Fronts.{Front, WritesBack, Reach, FrontOf};
 
-// The larger of two numbers.
-fn larger(a: usize, b: usize) -> usize
-    ensures { (a ≤ result) × ((b ≤ result) × (result ≤ a + b)) }
-{
-    if a < b {
-        return b;
-    }
-    a
-}
-
 // How many words of slots were used before or after a call; all if there are no more.
 fn front(n: usize, before: usize, after: usize, words: usize) -> usize
     requires { (n ≤ 32) × ((before < 4294967296) × (after < 4294967296)) }
     ensures { Front n before after words result }
 {
-    let used = larger(before, after) * (n + 2);
-    if used < words {
-        return used;
-    }
-    words
+    let used = before.max(after) * (n + 2);
+    used.min(words)
 }
 
 // How many words stand in the slots below those that so many requests can have replaced; `most` if that is fewer.
@@ -29,14 +16,8 @@ fn lower(n: usize, subproblems: usize, taken: usize, most: usize) -> usize
     requires { (n ≤ 32) × (subproblems < 4294967296) }
     ensures { (result ≤ most) × (result ≤ (subproblems - taken) * (n + 2)) }
 {
-    if subproblems <= taken {
-        return 0;
-    }
-    let words = (subproblems - taken) * (n + 2);
-    if words < most {
-        return words;
-    }
-    most
+    let words = subproblems.saturating_sub(taken) * (n + 2);
+    words.min(most)
 }
 
 // Writes back the words of an agenda that a run can have changed: of the slots used before or after it those that its requests can have replaced.
@@ -63,21 +44,12 @@ fn reach(n: usize, subproblems: usize, requests: usize, agenda: usize) -> usize
     ensures { Reach n subproblems requests agenda result }
 {
     let slot = 2 * (n + 2);
-    if agenda % slot != 0 {
-        return agenda;
-    }
-    if 512 * slot < agenda {
-        return agenda;
-    }
-    if 1120 < requests {
+    if agenda % slot != 0 || 512 * slot < agenda || 1120 < requests {
         return agenda;
     }
     let slots = subproblems + (n + 1) * (requests / (2 * (n + 3))) + 1;
     let reached = slots * slot;
-    if agenda <= reached {
-        return agenda;
-    }
-    reached
+    reached.min(agenda)
 }
 
 // The same if all bytes after them are 0, else all: as much of an agenda as tells how a run ends.
@@ -87,7 +59,8 @@ pub(crate) fn front_of(n: usize, subproblems: usize, requests: usize, agenda: &[
 {
     let front = reach(n, subproblems, requests, agenda.len());
     if word_bytes::zeros(&agenda[front..]) {
-        return front;
+        front
+    } else {
+        agenda.len()
     }
-    agenda.len()
 }

@@ -49,11 +49,10 @@ pub fn rastwob_run(
     let ran = calls::run(
         n as usize, d as usize, domains, tables, agenda, requests, state,
     );
-    let its_verdict = ran.verdict;
     *steps = ran.state.counts.steps.0;
     *checks = ran.state.counts.checks.0;
     *subproblems = ran.state.subproblems as u32;
-    *verdict = numbers::number_of(its_verdict);
+    *verdict = u32::from(ran.verdict);
     *taken = ran.taken as u32;
     ran.refusal
 }
@@ -84,11 +83,10 @@ pub fn rastwob_choose(
         limit as usize,
         state,
     );
-    let its_verdict = ran.verdict;
     *steps = ran.state.counts.steps.0;
     *checks = ran.state.counts.checks.0;
     *subproblems = ran.state.subproblems as u32;
-    *verdict = numbers::number_of(its_verdict);
+    *verdict = u32::from(ran.verdict);
     *taken = ran.taken as u32;
     ran.refusal
 }

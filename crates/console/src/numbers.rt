@@ -1,6 +1,5 @@
-// Numbers that go in and out: a state, a verdict, a refusal of what is not turned into words.
+// Numbers that go in and out: a state, a refusal of what is not turned into words.
 ghost use Rattle.std.specs.Prelude.{◌≡◌, ◌<◌};
-ghost use Rattle.searches.specs.Verdicts.{number_of};
 ghost use Rattle.console.specs.Calls.{state_of, unwhole, unopened, refused, unsaved};
 
 use files::saved::Saved;
@@ -17,18 +16,6 @@ pub(crate) fn state_of(steps: u32, checks: u64, subproblems: u32) -> State
             checks: Checks(checks),
         },
         subproblems: subproblems as usize,
-    }
-}
-
-// The number of a verdict.
-pub(crate) fn number_of(verdict: Verdict) -> u32
-    ensures { result ≡ number_of verdict }
-{
-    match verdict {
-        Verdict::None => 0,
-        Verdict::Running => 1,
-        Verdict::Solved => 2,
-        Verdict::Unsolvable => 3,
     }
 }
 

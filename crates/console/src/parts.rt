@@ -4,18 +4,15 @@ ghost use Rattle.search.specs.Calls.{Runs};
 ghost use Rattle.word_bytes.specs.Bytes.{words_of};
 ghost use Rattle.console.specs.Loops.Parts.{goes_on, WholeAt, Listed, Part, Narrow};
 
-use crate::numbers;
 use search::state::{Ran, State};
+use searches::verdict::Verdict;
 
 // Whether a run that ended so goes on with the next part: none refused and still running.
+#[tactic(auto, unfolding(crate::specs::Loops::Parts::goes_on))]
 fn goes_on(ran: Ran) -> bool
     ensures { result ≡ goes_on ran }
 {
-    if ran.refusal != 0 {
-        return false;
-    }
-    let verdict = ran.verdict;
-    numbers::number_of(verdict) == 1
+    ran.refusal == 0 && ran.verdict == Verdict::Running
 }
 
 // The end of the part that begins at `at`: 200 requests on, or the list's end.

@@ -29,21 +29,17 @@ pub(crate) fn room_for(domains: usize, tables: usize, agenda: usize) -> bool
 }
 
 // Whether so many bytes of an agenda are short and those of requests few.
+#[tactic(auto, unfolding(crate::specs::Loops::Rooms::few))]
 pub(crate) fn few(agenda: usize, requests: usize) -> bool
     ensures { result ≡ few agenda requests }
 {
-    if 2 * SHORT_WORDS < agenda {
-        return false;
-    }
-    requests <= 2 * FEW_WORDS
+    agenda <= 2 * SHORT_WORDS && requests <= 2 * FEW_WORDS
 }
 
 // Whether so many bytes are whole requests; of n above 32 no length is.
+#[tactic(auto, unfolding(crate::specs::Loops::Rooms::whole_list))]
 pub(crate) fn whole_list(n: usize, bytes: usize) -> bool
     ensures { result ≡ whole_list n bytes }
 {
-    if 32 < n {
-        return false;
-    }
-    bytes % (2 * (n + 3)) == 0
+    n <= 32 && bytes % (2 * (n + 3)) == 0
 }

@@ -15,8 +15,8 @@ fn pair_at(file: &[u8], k: usize) -> u32
     requires { k < 65535 }
     ensures { result ≡ content_word file.now k * 65536 + content_word file.now (k + 1) }
 {
-    (blocks::reading::content_word(file, k) as u32) * 65536
-        + (blocks::reading::content_word(file, k + 1) as u32)
+    u32::from(blocks::reading::content_word(file, k)) * 65536
+        + u32::from(blocks::reading::content_word(file, k + 1))
 }
 
 // n, d, the steps taken in two words, the checks made in four, the number of subproblems.
@@ -24,14 +24,14 @@ pub fn header_of(file: &[u8]) -> Header
     ensures { HeaderOf file.now result }
 {
     Header {
-        n: blocks::reading::content_word(file, 0) as usize,
-        d: blocks::reading::content_word(file, 1) as usize,
+        n: usize::from(blocks::reading::content_word(file, 0)),
+        d: usize::from(blocks::reading::content_word(file, 1)),
         state: State {
             counts: Counts {
                 steps: Steps(pair_at(file, 2)),
-                checks: Checks((pair_at(file, 4) as u64) * 4294967296 + (pair_at(file, 6) as u64)),
+                checks: Checks(u64::from(pair_at(file, 4)) * 4294967296 + u64::from(pair_at(file, 6))),
             },
-            subproblems: blocks::reading::content_word(file, 8) as usize,
+            subproblems: usize::from(blocks::reading::content_word(file, 8)),
         },
     }
 }

@@ -4,9 +4,10 @@ use mathlib.Core.Path.{◌≡◌, refl, sym, ap, ap₂, subst, ◌∙◌}
 use mathlib.Core.Logic.{◌⊎◌, inl, inr}
 use mathlib.Core.Bool.{Bool, true}
 use mathlib.Core.List.{List, ◌++◌}
-use Prim.Native.Nat.{ℕ, ◌+◌, ◌-◌, ◌*◌, ◌/◌, ◌%◌, ◌^◌, ◌≤◌, ◌<◌}
+use Prim.Native.Nat.{ℕ, ◌+◌, ◌-◌, ◌*◌, ◌/◌, ◌%◌, ◌^◌, ◌≤◌, ◌<◌, min}
 use native.Mathlib.Omega.{arith}
 use native.Mathlib.Nat.{mul-le-mul, mul-le-mul_right, lt_of_mul-lt-mul_right, div-le_self, div-add-mod'}
+use native.Mathlib.Decide.{dec_lt}
 use lib.ListN.{length, get_or, take, drop, length-drop, get_or-eq_default}
 use lib.Seq.{take_all, take-take, length-take-le, get_or-drop}
 use borrow.Rule.Slice.PartMut.{put_mid, Post-is}
@@ -19,33 +20,6 @@ use Rattle.console.specs.Loops.Rooms.{Room}
 use Rattle.console.specs.Loops.Fronts.{Front, WritesBack, Shorter, Reach, FrontOf}
 
 -- ---- what is written back
-
-pub front_few : (n before after slots : ℕ) → n ≤ 32 → before < 4294967296 → after < 4294967296 → slots ≤ before + after → slots * (n + 2) < 2 ^ 64
-front_few n before after slots few b a h =
-    let most : slots ≤ 8589934592 = omega arith in
-    let slot : n + 2 ≤ 34 = omega arith in
-    omega (arith, mul-le-mul most slot)
-
--- The slots used before and after take no more words than so many times the larger number.
-pub front_used : (n before after slots words used : ℕ) → before ≤ slots → after ≤ slots → used ≡ slots * (n + 2) → used < words
-    → Front n before after words used
-front_used n before after slots words used b a e l = record {
-  inside = omega arith;
-  past = λ i h m.
-      let low : before * (n + 2) ≤ slots * (n + 2) = mul-le-mul_right (n + 2) b in
-      let high : after * (n + 2) ≤ slots * (n + 2) = mul-le-mul_right (n + 2) a in
-      (omega arith, omega arith);
-}
-
-pub front_all : (n before after words : ℕ) → Front n before after words words
-front_all n before after words = record { inside = omega arith; past = λ i h m. absurd (omega arith) }
-
--- No more than the words of the slots below.
-pub lower_few : (n subproblems taken : ℕ) → n ≤ 32 → subproblems < 4294967296 → taken < subproblems → (subproblems - taken) * (n + 2) < 2 ^ 64
-lower_few n subproblems taken few h l =
-    let slots : subproblems - taken ≤ 4294967296 = omega arith in
-    let slot : n + 2 ≤ 34 = omega arith in
-    omega (arith, mul-le-mul slots slot)
 
 pub written_back : (n before taken after from to : ℕ) (words b bytes : List ℕ) → (from ≤ to) × (from ≤ (before - taken) * (n + 2))
     → Front n before after (length words) to → length b ≡ 2 * length words
@@ -84,7 +58,7 @@ reach_bytes n subproblems requests few h l =
     omega (arith, mul-le-mul slots slot)
 
 -- Fewer bytes than there are.
-pub reach_shorter : (n subproblems requests agenda slots : ℕ) → agenda % (2 * (n + 2)) ≡ 0 → agenda ≤ 512 * (2 * (n + 2))
+reach_shorter : (n subproblems requests agenda slots : ℕ) → agenda % (2 * (n + 2)) ≡ 0 → agenda ≤ 512 * (2 * (n + 2))
     → slots ≡ subproblems + (n + 1) * (requests / (2 * (n + 3))) + 1 → slots * (2 * (n + 2)) < agenda
     → Reach n subproblems requests agenda (slots * (2 * (n + 2)))
 reach_shorter n subproblems requests agenda slots even most e l =
@@ -108,6 +82,19 @@ reach_shorter n subproblems requests agenda slots even most e l =
 -- All of them.
 pub reach_all : (n subproblems requests agenda : ℕ) → Reach n subproblems requests agenda agenda
 reach_all n subproblems requests agenda = record { inside = omega arith; how = inr refl }
+
+-- So many, or all if there are no more.
+pub reach_least : (n subproblems requests agenda slots r : ℕ) → agenda % (2 * (n + 2)) ≡ 0 → agenda ≤ 512 * (2 * (n + 2))
+    → slots ≡ subproblems + (n + 1) * (requests / (2 * (n + 3))) + 1 → r ≡ min (slots * (2 * (n + 2))) agenda
+    → Reach n subproblems requests agenda r
+reach_least n subproblems requests agenda slots r even most e is = elim (dec_lt (slots * (2 * (n + 2))) agenda) [
+  | yes l ↦
+      let fewer : slots * (2 * (n + 2)) ≡ r = omega arith in
+      subst (λ (k : ℕ). Reach n subproblems requests agenda k) fewer (reach_shorter n subproblems requests agenda slots even most e l)
+  | no l ↦
+      let all : agenda ≡ r = omega arith in
+      subst (λ (k : ℕ). Reach n subproblems requests agenda k) all (reach_all n subproblems requests agenda)
+]
 
 -- Where all that is past them is zero.
 pub front_zeros : (n subproblems requests : ℕ) (agenda : List ℕ) (r : ℕ) (b : Bool) → Reach n subproblems requests (length agenda) r

@@ -14,7 +14,7 @@ returns c =
         its_steps = refl;
         its_checks = refl;
         its_subproblems = refl;
-        its_verdict = c.number_of.ensures;
+        its_verdict = c.from.ensures;
         its_taken = refl;
       };
     }

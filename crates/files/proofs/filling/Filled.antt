@@ -22,7 +22,7 @@ use Rattle.files.specs.Loops.Said.{Numbers, allowed_in, column_part, pair_part, 
 use Rattle.blocks.proofs.Lists.{map_length, map_at, map_is, each_more, each_same, each_split, each_one, each_length, total_const, seq, seq_is, seq_each}
 use Rattle.blocks.proofs.Contents.{content_from_lem, length_from}
 use Rattle.blocks.proofs.reading.Filled.{from_join, content_past}
-use Rattle.files.proofs.filling.Mirrors.{after_within, part_at, pair_turned, pair_zeros, mask_at}
+use Rattle.files.proofs.filling.Mirrors.{part_at, pair_turned, pair_zeros, mask_at}
 
 -- ---- zeros, and words written in their place
 
@@ -275,20 +275,3 @@ module _ (words : List ℕ) (n d : ℕ) where
     inv.made ∙ ap (λ (k : ℕ). splice l 0 (each (λ k. row_part words n d k n) (below k))) last,
     inv.ends ∙ omega (arith, table_length i ∙ ap (λ (k : ℕ). k * (n * d)) last),
   )
-
--- The pairs that stand before are those counted.
-pub after_read : (words ws : List ℕ) (n d i p : ℕ) → p ≡ total i (λ h. n - suc h) → ws ≡ part_in words (9 + n + p * d) ((n - (i + 1)) * d)
-    → ws ≡ part_in words (9 + n + total i (λ h. n - suc h) * d) ((n - (i + 1)) * d)
-after_read words ws n d i p e s = s ∙ rw e refl
-
--- Those of a variable with the ones after it: what is worked out to find them fits, and they lie within.
-pub record AfterFits (n d i p : ℕ) : Type 0 where
-  pub pairs : Fits w64 (p * d)
-  pub start : Fits w64 (9 + n + p * d)
-  pub row : Fits w64 ((n - (i + 1)) * d)
-  pub within : 9 + n + p * d + (n - (i + 1)) * d ≤ 25553
-
-pub after_fits : (n d i p : ℕ) → Numbers n d → i < n → p ≡ total i (λ h. n - suc h) → AfterFits n d i p
-after_fits n d i p s h e =
-    let few = after_within n d i p s h e in
-    record { pairs = omega arith; start = omega arith; row = omega arith; within = omega arith }

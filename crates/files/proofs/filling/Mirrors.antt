@@ -3,11 +3,9 @@
 use mathlib.Core.Path.{◌≡◌, refl, sym, ap, ◌∙◌}
 use mathlib.Core.Bool.{cond}
 use mathlib.Core.List.{List, ◌++◌, map}
-use mir.Syntax.{w64}
-use mir.Val.{Fits}
 use Prim.Native.Nat.{ℕ, zero, suc, ◌+◌, ◌-◌, ◌*◌, ◌/◌, ◌^◌, ◌≤◌, ◌<◌}
 use native.Mathlib.Omega.{arith}
-use native.Mathlib.Nat.{mul-le-mul, mul-le-mul_right, zero-mul, zero-add, add-zero, add-suc, add-mul}
+use native.Mathlib.Nat.{mul-le-mul, zero-mul, zero-add, add-zero, add-suc}
 use native.Mathlib.Numerals.{add-one}
 use lib.ListN.{length, get_or, take, drop, replicate, length-drop, length-replicate, get_or-eq_default}
 use lib.Seq.{get_or-take, get_or-drop, length-take-le}
@@ -21,8 +19,8 @@ use Rattle.problem.proofs.Copies.{zeros_at, drop_zeros}
 use Rattle.blocks.specs.Reading.{content_word}
 use Rattle.files.specs.Reading.{said_n, said_d, said_allowed, triangle_words, triangle_place, gathered, agenda_from}
 use Rattle.files.specs.Loops.Said.{Numbers, mask_in, allowed_in, column_of, column_part, pair_part, part_in, slots_part}
-use Rattle.blocks.proofs.Lists.{map_is, map_same, total_below, padded_at}
-use Rattle.files.proofs.Triangle.{rest_total, place_lt}
+use Rattle.blocks.proofs.Lists.{map_is, map_same, padded_at}
+use Rattle.files.proofs.Triangle.{place_lt}
 use Rattle.files.proofs.Gathered.{gathered_same, gathered_bits}
 
 -- ---- the pairs before those of i
@@ -79,13 +77,6 @@ place_within n d i j p s h l e =
     (omega (arith, s.some_value)) in
     let same : (p + (j - (i + 1))) * d ≡ (total i (λ h. n - suc h) + (j - suc i)) * d = rw (e, add-one) refl in
     omega (arith, triangle_few n d s, s.variables, s.some_value)
-
--- So do those with the variables after i.
-pub after_within : (n d i p : ℕ) → Numbers n d → i < n → p ≡ total i (λ h. n - suc h) → 9 + n + p * d + (n - (i + 1)) * d ≤ 7977
-after_within n d i p s h e =
-    let all : total i (λ h. n - suc h) + (n - suc i) ≤ n * (n - 1) / 2 = rw (← rest_total n) (total_below n (λ h. n - suc h) i h) in
-    let up : (p + (n - (i + 1))) * d ≤ n * (n - 1) / 2 * d = mul-le-mul_right d (rw (e, add-one) all) in
-    omega (arith, add-mul p (n - (i + 1)) d, triangle_few n d s, s.variables)
 
 -- Where they begin.
 pub place_made : (n d i j p : ℕ) → p ≡ total i (λ h. n - suc h) → 9 + n + (p + (j - (i + 1))) * d ≡ 9 + n + triangle_place n d i j 0
@@ -209,20 +200,6 @@ part_in_lem words out from w e = e
 -- The domains.
 pub domains_put : (words part out : List ℕ) (k n : ℕ) → part ≡ part_in words 9 k → out ≡ part → k ≡ n → out ≡ part_in words 9 n
 domains_put words part out k n e s h = s ∙ e ∙ ap (part_in words 9) h
-
--- Slots in the words of a content lie within.
-module _ (n d count : ℕ) (s : Numbers n d) (few : count ≤ 512) where
-  pub slots_fit : Fits w64 (count * (n + 2))
-  slots_fit = omega (arith, slots_few n count 512 s.variables few (omega arith))
-
-  pub slots_within : (from words : ℕ) → from ≤ 7977 → words ≡ 25553 → from + count * (n + 2) ≤ words
-  slots_within from words start long = omega (arith, slots_few n count 512 s.variables few (omega arith))
-
--- They are those from where the agenda begins.
-pub slots_found : (n d count from : ℕ) (words slots : List ℕ) → from ≡ agenda_from n d
-    → (slots ≡ part_in words from (count * (n + 2))) × (length slots ≡ count * (n + 2))
-    → (slots ≡ part_in words (agenda_from n d) (count * (n + 2))) × (length slots ≡ count * (n + 2))
-slots_found n d count from words slots e (found, size) = (found ∙ rw e refl, size)
 
 -- They fit into memory, and zeros stand after them.
 module _ (words slots : List ℕ) (n d m all : ℕ) (found : (slots ≡ part_in words (agenda_from n d) (m * (n + 2))) × (length slots ≡ m * (n + 2))) where

@@ -7,5 +7,5 @@ returns-then-zeros c =
     front_zeros _ _ _ c.args.agenda.now _ _ c.reach-front.ensures
     c.zeros.ensures c.if-zeros.true
 
-pub returns : goal.returns
-returns c = front_whole _ _ _ _
+pub returns-else-zeros : goal.returns-else-zeros
+returns-else-zeros c = front_whole _ _ _ _

@@ -1,5 +1,5 @@
 -- `reading::zeros_from` meets its contract. The invariant: the words passed are zero.
-use Rattle.problem.proofs.FirstLoops.{every_start, every_end}
+use Rattle.problem.proofs.FirstLoops.{every_start}
 use Rattle.files.proofs.reading.Found.{zero_stop, zero_turn}
 use Rattle.files.proofs.reading.zeros_from.Goals as goal
 
@@ -11,6 +11,3 @@ returns-then-content_word-ne0 c = zero_stop _ _ _ _ _ c.loop-k-test.true c.conte
 
 pub loop-k-preserved : goal.loop-k-preserved
 loop-k-preserved c = zero_turn _ _ _ _ c.loop-k.invariant c.content_word.ensures c.if-content_word-ne0.false
-
-pub returns : goal.returns
-returns c = every_end _ _ _ c.loop-k.auto.k-end c.loop-k-test.false c.loop-k.invariant

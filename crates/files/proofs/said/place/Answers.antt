@@ -3,22 +3,6 @@ use native.Mathlib.Omega.{arith}
 use Rattle.files.proofs.filling.Mirrors.{place_within, place_made}
 use Rattle.files.proofs.said.place.Goals as goal
 
-pub overflow_mul-result : goal.overflow_mul-result
-overflow_mul-result c =
-    let a = c.args in
-    omega (
-      arith,
-      place_within a.n a.d a.i a.j _ c.requires.0 c.requires.1.0 c.requires.1.1 c.pairs_before.ensures.0,
-    )
-
-pub overflow_add-result-4 : goal.overflow_add-result-4
-overflow_add-result-4 c =
-    let a = c.args in
-    omega (
-      arith,
-      place_within a.n a.d a.i a.j _ c.requires.0 c.requires.1.0 c.requires.1.1 c.pairs_before.ensures.0,
-    )
-
 pub returns : goal.returns
 returns c =
     let a = c.args in (
