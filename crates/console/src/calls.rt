@@ -3,20 +3,23 @@
 // of a run before its agenda: the first checks begin with them, and find them in the cache.
 ghost use Rattle.std.specs.Prelude.{◌≡◌, ◌≤◌, ◌<◌, length};
 ghost use Rattle.console.specs.Calls.{OpensBytes, RunsBytes, RunsWords, ChoosesBytes, SavesBytes, unloaded, LoadsBytes};
+ghost use Rattle.search.specs.Outcomes.{opened, ran};
+ghost use Rattle.files.specs.Outcomes.{saved, loaded};
 ghost use Rattle.word_bytes.specs.Bytes.{Fits};
 ghost use Rattle.console.specs.Loops.Rooms.{Room};
 ghost use Rattle.console.specs.Loops.Parts.{Listed, RunsAt, Narrow, NarrowLoaded};
 
 use crate::{fronts, numbers, parts, rooms};
-use files::saved::{Loaded, Saved};
-use search::state::{Opened, Ran, State};
+use files::saved::Header;
+use problem::refusal::Refusal;
+use search::state::{Ran, State};
 
 // Opening.
-pub(crate) fn open(n: usize, d: usize, domains: &[u8], tables: &[u8], agenda: &mut [u8]) -> Opened
-    ensures { OpensBytes n d domains.now tables.now agenda.old agenda.new result × (result.state.subproblems < 4294967296) }
+pub(crate) fn open(n: usize, d: usize, domains: &[u8], tables: &[u8], agenda: &mut [u8]) -> Result<State, Refusal>
+    ensures { OpensBytes n d domains.now tables.now agenda.old agenda.new (opened result) × ((opened result).state.subproblems < 4294967296) }
 {
     if !rooms::room_for(domains.len(), tables.len(), agenda.len()) {
-        return numbers::unopened(n, d);
+        return Err(numbers::unwhole(n, d));
     }
     let mut domain_words = [0u16; rooms::DOMAIN_WORDS];
     let mut agenda_words = [0u16; rooms::AGENDA_WORDS];
@@ -51,7 +54,7 @@ fn run_short(
     state: State,
 ) -> Ran
     requires { Fits (length agenda.old) 8704 × ((length requests.now ≤ 1120) × (Listed n (length requests.now) × (state.subproblems < 4294967296))) }
-    ensures { RunsAt n d domains.now tables.now agenda.old agenda.new requests.now state result × Narrow result }
+    ensures { RunsAt n d domains.now tables.now agenda.old agenda.new requests.now state (ran result) × Narrow (ran result) }
 {
     let mut words = [0u16; rooms::SHORT_WORDS];
     let room = word_bytes::words_of(agenda, &mut words);
@@ -88,7 +91,7 @@ fn run_long(
     state: State,
 ) -> Ran
     requires { Fits (length agenda.old) 17408 × (Listed n (length requests.now) × (state.subproblems < 4294967296)) }
-    ensures { RunsAt n d domains.now tables.now agenda.old agenda.new requests.now state result × Narrow result }
+    ensures { RunsAt n d domains.now tables.now agenda.old agenda.new requests.now state (ran result) × Narrow (ran result) }
 {
     let mut words = [0u16; rooms::AGENDA_WORDS];
     let room = word_bytes::words_of(agenda, &mut words);
@@ -115,7 +118,7 @@ fn run_words(
     state: State,
 ) -> Ran
     requires { Room domains.now tables.now agenda.old 17408 × (Listed n (length requests.now) × (state.subproblems < 4294967296)) }
-    ensures { RunsWords n d domains.now tables.now agenda.old agenda.new requests.now state result × Narrow result }
+    ensures { RunsWords n d domains.now tables.now agenda.old agenda.new requests.now state (ran result) × Narrow (ran result) }
 {
     let mut domain_words = [0u16; rooms::DOMAIN_WORDS];
     let variables = word_bytes::words_of(domains, &mut domain_words);
@@ -141,7 +144,7 @@ pub(crate) fn run(
     state: State,
 ) -> Ran
     requires { state.subproblems < 4294967296 }
-    ensures { RunsBytes n d domains.now tables.now agenda.old agenda.new requests.now state result × Narrow result }
+    ensures { RunsBytes n d domains.now tables.now agenda.old agenda.new requests.now state (ran result) × Narrow (ran result) }
 {
     if !rooms::whole_list(n, requests.len()) {
         return numbers::refused(n, d, state);
@@ -164,7 +167,7 @@ pub(crate) fn choose(
     state: State,
 ) -> Ran
     requires { state.subproblems < 4294967296 }
-    ensures { ChoosesBytes n d domains.now tables.now agenda.old agenda.new limit state result × Narrow result }
+    ensures { ChoosesBytes n d domains.now tables.now agenda.old agenda.new limit state (ran result) × Narrow (ran result) }
 {
     if !rooms::room_for(domains.len(), tables.len(), agenda.len()) {
         return numbers::refused(n, d, state);
@@ -202,11 +205,11 @@ pub(crate) fn save(
     agenda: &[u8],
     state: State,
     file: &mut [u8],
-) -> Saved
-    ensures { SavesBytes n d domains.now tables.now agenda.now state file.old file.new result × (result.blocks < 4294967296) }
+) -> Result<usize, Refusal>
+    ensures { SavesBytes n d domains.now tables.now agenda.now state file.old file.new (saved result) × ((saved result).blocks < 4294967296) }
 {
     if !rooms::room_for(domains.len(), tables.len(), agenda.len()) {
-        return numbers::unsaved(n, d);
+        return Err(numbers::unwhole(n, d));
     }
     let mut domain_words = [0u16; rooms::DOMAIN_WORDS];
     let mut agenda_words = [0u16; rooms::AGENDA_WORDS];
@@ -231,8 +234,8 @@ pub(crate) fn save(
 }
 
 // Load into no words at all: what the file deserves, or 3.
-fn load_none(file: &[u8]) -> Loaded
-    ensures { result ≡ unloaded file.now }
+fn load_none(file: &[u8]) -> Result<Header, Refusal>
+    ensures { loaded result ≡ unloaded file.now }
 {
     let mut domain_words = [0u16; 0];
     let mut table_words = [0u16; 0];
@@ -241,8 +244,8 @@ fn load_none(file: &[u8]) -> Loaded
 }
 
 // Load.
-pub(crate) fn load(file: &[u8], domains: &mut [u8], tables: &mut [u8], agenda: &mut [u8]) -> Loaded
-    ensures { LoadsBytes file.now domains.old domains.new tables.old tables.new agenda.old agenda.new result × NarrowLoaded result }
+pub(crate) fn load(file: &[u8], domains: &mut [u8], tables: &mut [u8], agenda: &mut [u8]) -> Result<Header, Refusal>
+    ensures { LoadsBytes file.now domains.old domains.new tables.old tables.new agenda.old agenda.new (loaded result) × NarrowLoaded (loaded result) }
 {
     if !rooms::room_for(domains.len(), tables.len(), agenda.len()) {
         return load_none(file);

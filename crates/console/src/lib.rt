@@ -9,6 +9,8 @@ mod rooms;
 
 ghost use Rattle.console.specs.Calls.{OpensForC, RunsForC, ChoosesForC, SavesForC, LoadsForC};
 
+use search::state::State;
+
 // Opens a search.
 pub fn rastwob_open(
     n: u32,
@@ -22,11 +24,16 @@ pub fn rastwob_open(
 ) -> u32
     ensures { OpensForC n d domains.now tables.now agenda.old agenda.new steps.new checks.new subproblems.new result }
 {
-    let opened = calls::open(n as usize, d as usize, domains, tables, agenda);
-    *steps = opened.state.counts.steps.0;
-    *checks = opened.state.counts.checks.0;
-    *subproblems = opened.state.subproblems as u32;
-    opened.refusal
+    match calls::open(n as usize, d as usize, domains, tables, agenda) {
+        Ok(state) => {
+            numbers::hand_state(state, steps, checks, subproblems);
+            0
+        }
+        Err(refusal) => {
+            numbers::hand_state(State::fresh(0), steps, checks, subproblems);
+            u32::from(refusal)
+        }
+    }
 }
 
 // Runs a list of requests.
@@ -49,12 +56,7 @@ pub fn rastwob_run(
     let ran = calls::run(
         n as usize, d as usize, domains, tables, agenda, requests, state,
     );
-    *steps = ran.state.counts.steps.0;
-    *checks = ran.state.counts.checks.0;
-    *subproblems = ran.state.subproblems as u32;
-    *verdict = u32::from(ran.verdict);
-    *taken = ran.taken as u32;
-    ran.refusal
+    numbers::hand_out(ran, steps, checks, subproblems, verdict, taken)
 }
 
 // Runs up to `limit` steps by the house chooser.
@@ -83,12 +85,7 @@ pub fn rastwob_choose(
         limit as usize,
         state,
     );
-    *steps = ran.state.counts.steps.0;
-    *checks = ran.state.counts.checks.0;
-    *subproblems = ran.state.subproblems as u32;
-    *verdict = u32::from(ran.verdict);
-    *taken = ran.taken as u32;
-    ran.refusal
+    numbers::hand_out(ran, steps, checks, subproblems, verdict, taken)
 }
 
 // Writes the blocks of a search into the file buffer.
@@ -107,9 +104,16 @@ pub fn rastwob_save(
     ensures { SavesForC n d domains.now tables.now agenda.now steps checks subproblems file.old file.new blocks.new result }
 {
     let state = numbers::state_of(steps, checks, subproblems);
-    let saved = calls::save(n as usize, d as usize, domains, tables, agenda, state, file);
-    *blocks = saved.blocks as u32;
-    saved.refusal
+    match calls::save(n as usize, d as usize, domains, tables, agenda, state, file) {
+        Ok(count) => {
+            *blocks = count as u32;
+            0
+        }
+        Err(refusal) => {
+            *blocks = 0;
+            u32::from(refusal)
+        }
+    }
 }
 
 // Hands out what the file says and writes it into the lent memory.
@@ -126,11 +130,18 @@ pub fn rastwob_load(
 ) -> u32
     ensures { LoadsForC file.now domains.old domains.new tables.old tables.new agenda.old agenda.new n.new d.new steps.new checks.new subproblems.new result }
 {
-    let loaded = calls::load(file, domains, tables, agenda);
-    *n = loaded.n as u32;
-    *d = loaded.d as u32;
-    *steps = loaded.state.counts.steps.0;
-    *checks = loaded.state.counts.checks.0;
-    *subproblems = loaded.state.subproblems as u32;
-    loaded.refusal
+    match calls::load(file, domains, tables, agenda) {
+        Ok(header) => {
+            *n = header.n as u32;
+            *d = header.d as u32;
+            numbers::hand_state(header.state, steps, checks, subproblems);
+            0
+        }
+        Err(refusal) => {
+            *n = 0;
+            *d = 0;
+            numbers::hand_state(State::fresh(0), steps, checks, subproblems);
+            u32::from(refusal)
+        }
+    }
 }

@@ -1,5 +1,6 @@
 // A list of requests of any length, turned into words and run a part at a time.
 ghost use Rattle.std.specs.Prelude.{◌≡◌, ◌%◌, ◌≤◌, ◌<◌, length};
+ghost use Rattle.search.specs.Outcomes.{ran as ran_of};
 ghost use Rattle.search.specs.Calls.{Runs};
 ghost use Rattle.word_bytes.specs.Bytes.{words_of};
 ghost use Rattle.console.specs.Loops.Parts.{goes_on, WholeAt, Listed, Part, Narrow};
@@ -10,9 +11,9 @@ use searches::verdict::Verdict;
 // Whether a run that ended so goes on with the next part: none refused and still running.
 #[tactic(auto, unfolding(crate::specs::Loops::Parts::goes_on))]
 fn goes_on(ran: Ran) -> bool
-    ensures { result ≡ goes_on ran }
+    ensures { result ≡ goes_on (ran_of ran) }
 {
-    ran.refusal == 0 && ran.verdict == Verdict::Running
+    ran.refusal.is_none() && ran.verdict == Verdict::Running
 }
 
 // The end of the part that begins at `at`: 200 requests on, or the list's end.
@@ -38,7 +39,7 @@ fn run_part(
     state: State,
 ) -> Ran
     requires { (length requests.now % 2 ≡ 0) × (length requests.now ≤ 14000) }
-    ensures { Runs n d domains.now tables.now agenda.old agenda.new (words_of requests.now) state result }
+    ensures { Runs n d domains.now tables.now agenda.old agenda.new (words_of requests.now) state (ran_of result) }
 {
     let mut words = [0u16; 7000];
     let count = word_bytes::words_of(requests, &mut words);
@@ -57,7 +58,7 @@ pub(crate) fn run_parts(
     state: State,
 ) -> Ran
     requires { Listed n (length requests.now) × (state.subproblems < 4294967296) }
-    ensures { Runs n d domains.now tables.now agenda.old agenda.new (words_of requests.now) state result × Narrow result }
+    ensures { Runs n d domains.now tables.now agenda.old agenda.new (words_of requests.now) state (ran_of result) × Narrow (ran_of result) }
 {
     let mut state = state;
     let mut at = 0;

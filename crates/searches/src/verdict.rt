@@ -5,10 +5,10 @@ ghost use Rattle.searches.specs.Verdicts.{number_of};
 // None: refused by the first checks.
 #[derive(Clone, Copy, PartialEq, Eq)]
 pub enum Verdict {
-    None,
-    Running,
-    Solved,
-    Unsolvable,
+    None = 0,
+    Running = 1,
+    Solved = 2,
+    Unsolvable = 3,
 }
 
 // The number of a verdict, as the C header has it.
@@ -16,11 +16,6 @@ impl From<Verdict> for u32 {
     ghost from_gives = { λ verdict number. number ≡ number_of verdict };
 
     fn from(verdict: Verdict) -> u32 {
-        match verdict {
-            Verdict::None => 0,
-            Verdict::Running => 1,
-            Verdict::Solved => 2,
-            Verdict::Unsolvable => 3,
-        }
+        verdict as u32
     }
 }

@@ -17,18 +17,6 @@ returns-then-not-room_for c =
     let agenda : (i : ℕ) → get_or c.args.agenda.now i 0 < 256 = λ i. omega (arith, c.type_inv.agenda i) in
     loads_refused (λ w. room_false _ _ _ _ _ c.room_for.ensures (ap not c.if-not-room_for.true) w (λ f. f)) domains tables agenda c.load_none.ensures
 
-pub slice_bounds-three_of-end : goal.slice_bounds-three_of-end
-slice_bounds-three_of-end c = refl
-
-pub slice_bounds-three_of-end-2 : goal.slice_bounds-three_of-end-2
-slice_bounds-three_of-end-2 c = refl
-
-pub slice_bounds-three_of-end-3 : goal.slice_bounds-three_of-end-3
-slice_bounds-three_of-end-3 c = refl
-
-pub three_of-made-requires : goal.three_of-made-requires
-three_of-made-requires c = tt
-
 pub slice_bounds-domain_words-end : goal.slice_bounds-domain_words-end
 slice_bounds-domain_words-end c = c.three_of-made.ensures.of_first.lent.room
 
@@ -47,32 +35,20 @@ slice_bounds-agenda_words-end c = c.three_of-made.ensures.of_second.lent.room
 pub slice_bounds-load-end-3 : goal.slice_bounds-load-end-3
 slice_bounds-load-end-3 c = count_is c.three_of-made.ensures.of_second.lent
 
-pub load-loaded-requires : goal.load-loaded-requires
-load-loaded-requires c = tt
-
 pub slice_bounds-bytes_of-end : goal.slice_bounds-bytes_of-end
 slice_bounds-bytes_of-end c =
     let called = c in
     left_long called.load-loaded.new.domains called.three_of-made.ensures.of_first.lent called.load-loaded.auto.domains
-
-pub bytes_of-requires : goal.bytes_of-requires
-bytes_of-requires c = tt
 
 pub slice_bounds-bytes_of-end-2 : goal.slice_bounds-bytes_of-end-2
 slice_bounds-bytes_of-end-2 c =
     let called = c in
     left_long called.load-loaded.new.tables called.three_of-made.ensures.of_third.lent called.load-loaded.auto.tables
 
-pub bytes_of-requires-2 : goal.bytes_of-requires-2
-bytes_of-requires-2 c = tt
-
 pub slice_bounds-bytes_of-end-3 : goal.slice_bounds-bytes_of-end-3
 slice_bounds-bytes_of-end-3 c =
     let called = c in
     left_long called.load-loaded.new.agenda called.three_of-made.ensures.of_second.lent called.load-loaded.auto.agenda
-
-pub bytes_of-requires-3 : goal.bytes_of-requires-3
-bytes_of-requires-3 c = tt
 
 pub shape_of-domains : goal.shape_of-domains
 shape_of-domains c = c.bytes_of.auto.bytes

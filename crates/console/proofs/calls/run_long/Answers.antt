@@ -5,12 +5,6 @@ use Rattle.word_bytes.proofs.Fitting.{count_is}
 use Rattle.console.proofs.calls.Lending.{said_one, left_fits, left_count, left_bytes, runs_at}
 use Rattle.console.proofs.calls.run_long.Goals as goal
 
-pub slice_bounds-words_of-end : goal.slice_bounds-words_of-end
-slice_bounds-words_of-end c = refl
-
-pub words_of-room-requires : goal.words_of-room-requires
-words_of-room-requires c = tt
-
 pub slice_bounds-words-end : goal.slice_bounds-words-end
 slice_bounds-words-end c = c.words_of-room.ensures.lent.room
 

@@ -5,18 +5,6 @@ use Rattle.console.proofs.rooms.Testing.{few_short}
 use Rattle.console.proofs.calls.Lending.{said_one, runs_words}
 use Rattle.console.proofs.calls.run_words.Goals as goal
 
-pub slice_bounds-words_of-end : goal.slice_bounds-words_of-end
-slice_bounds-words_of-end c = refl
-
-pub words_of-variables-requires : goal.words_of-variables-requires
-words_of-variables-requires c = tt
-
-pub slice_bounds-words_of-end-2 : goal.slice_bounds-words_of-end-2
-slice_bounds-words_of-end-2 c = refl
-
-pub words_of-masks-requires : goal.words_of-masks-requires
-words_of-masks-requires c = tt
-
 pub slice_bounds-domain_words-end : goal.slice_bounds-domain_words-end
 slice_bounds-domain_words-end c = c.words_of-variables.ensures.lent.room
 

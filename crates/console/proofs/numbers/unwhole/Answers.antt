@@ -1,19 +1,14 @@
 -- `console::numbers::unwhole` meets its contract.
-use mathlib.Core.Path.{refl, ◌∙◌}
-use Rattle.console.proofs.numbers.Unfit.{none_unwhole}
+use Rattle.problem.proofs.Refused.{never_0}
+use Rattle.problem.proofs.first_checks.Parts.{else_first, else_rest}
+use mathlib.Core.Path.{refl, sym}
+use Rattle.console.specs.Calls.{unwhole}
 use Rattle.console.proofs.numbers.unwhole.Goals as goal
 
-pub slice_bounds-open_refusal-end : goal.slice_bounds-open_refusal-end
-slice_bounds-open_refusal-end c = refl
+pub returns-in-Err : goal.returns-in-Err
+unfolding unwhole
+returns-in-Err c = else_first _ _ _ c.in-Err.ensures (never_0 _)
 
-pub slice_bounds-open_refusal-end-2 : goal.slice_bounds-open_refusal-end-2
-slice_bounds-open_refusal-end-2 c = refl
-
-pub slice_bounds-open_refusal-end-3 : goal.slice_bounds-open_refusal-end-3
-slice_bounds-open_refusal-end-3 c = refl
-
-pub open_refusal-requires : goal.open_refusal-requires
-open_refusal-requires c = tt
-
-pub returns : goal.returns
-returns c = c.open_refusal.ensures ∙ none_unwhole _ _
+pub returns-in-Ok : goal.returns-in-Ok
+unfolding unwhole
+returns-in-Ok c = else_rest _ _ _ (sym c.in-Ok.ensures) refl
