@@ -6,7 +6,7 @@ use mathlib.Core.List.{List, [], ◌∷◌, ◌++◌, append_assoc, append-nil}
 use Prim.Native.Nat.{ℕ, zero, suc, ◌+◌, ◌-◌, ◌*◌, ◌/◌, ◌%◌, ◌≤◌, ◌<◌}
 use native.Mathlib.Omega.{arith}
 use native.Mathlib.Numerals.{add-one}
-use lib.ListN.{length, get_or, take, drop, set, length-append, length-drop, get_or-append}
+use lib.ListN.{length, get_or, take, drop, set, length-append, get_or-append}
 use lib.Seq.{length-take-le, take-suc, drop-cons, append_snoc, set_at, take_all, take_at, drop-length}
 use borrow.Author.Tests.{eq-eqb, ne_eqb, le-leb, lt-leb}
 use borrow.Rule.Slice.PartMut.{put_mid}
@@ -94,14 +94,6 @@ module _ (blocks : ℕ) (content : List ℕ) (b : ℕ) where
       → length l ≡ 512 → after ≡ set (set m (2 * k) (w / 256)) (2 * k + 1) (w % 256) → after ≡ block_part blocks content b (k + 1) l
   block_more l m after k w e s h long put = put ∙ word_more l m k w e s h long
 
-  -- The block stays as long.
-  pub part_length : (l m : List ℕ) (k : ℕ) → m ≡ block_part blocks content b k l → k ≤ 256 → length l ≡ 512 → length m ≡ 512
-  unfolding block_part
-  part_length l m k e h long =
-      let words : List ℕ = block_words blocks content b in
-      ap length e ∙ length-append (file_bytes (take k words)) (drop (2 * k) l)
-      ∙ omega (arith, bytes_length (take k words), length-take-le k words (omega (arith, block_length blocks content b)), length-drop (2 * k) l)
-
   -- Before its check stand the headed words.
   pub head_word : (k w : ℕ) → k < 255 → w ≡ get_or (headed_block blocks content b) k 0 → w ≡ get_or (block_words blocks content b) k 0
   head_word k w h e = e ∙ sym (block_headed blocks content b k h)
@@ -119,10 +111,6 @@ module _ (blocks : ℕ) (content : List ℕ) (b : ℕ) where
       let size : length head ≡ 255 = headed_length blocks content b in
       rw head_taken (map_is (λ k. word_at (file_bytes head ++ drop 510 l) (256 * 0 + k)) 255 head size
       (λ k h. let place : 256 * 0 + k ≡ k = omega arith in rw place (word_append head (drop 510 l) k (omega arith))))
-
-  -- All 255 words before the check.
-  pub head_end : (l m : List ℕ) (k : ℕ) → m ≡ block_part blocks content b k l → k ≡ 255 → m ≡ block_part blocks content b 255 l
-  head_end l m k e h = e ∙ ap (λ (x : ℕ). block_part blocks content b x l) h
 
   -- So the check that is worked out of it is right.
   pub check_written : (l m : List ℕ) (w : ℕ) → m ≡ block_part blocks content b 255 l → w ≡ check_of (head_of m 0)
@@ -156,17 +144,6 @@ module _ (blocks : ℕ) (content : List ℕ) where
       let up : 512 * b + 512 ≡ 512 * (b + 1) = omega arith in
       part_more (first_blocks b blocks content) (file_bytes words) l m ys (512 * b) 512 e (blocks_length b blocks content) y h
       ∙ rw (← up, add-one) refl
-
-  -- The buffer stays as long.
-  pub file_kept : (l m : List ℕ) (b : ℕ) → m ≡ file_part blocks content b l → 512 * b ≤ length l → length m ≡ length l
-  unfolding file_part
-  file_kept l m b e h =
-      ap length e ∙ length-append (first_blocks b blocks content) (drop (512 * b) l) ∙ omega
-      (arith, blocks_length b blocks content, length-drop (512 * b) l)
-
-  -- All blocks are written.
-  pub file_end : (l m : List ℕ) (b : ℕ) → m ≡ file_part blocks content b l → b ≡ blocks → m ≡ file_part blocks content blocks l
-  file_end l m b e h = e ∙ ap (λ (x : ℕ). file_part blocks content x l) h
 
 -- ---- what is left of the buffer
 
