@@ -5,15 +5,15 @@ use Rattle.problem.proofs.FirstLoops.{every_start, every_stop, every_turn}
 use Rattle.blocks.proofs.reading.Found.{good_part}
 use Rattle.blocks.proofs.reading.all_good.Goals as goal
 
-pub loop-b-init : goal.loop-b-init
-loop-b-init c = every_start _
+pub loop-index-init : goal.loop-index-init
+loop-index-init c = every_start _
 
 pub returns-then-not-is_good : goal.returns-then-not-is_good
 returns-then-not-is_good c =
     let good = good_part _ _ _ _ _ c.requires.0 c.block_at.ensures.0 c.is_good.ensures in
-    every_stop _ _ _ _ c.loop-b-test.true good (ap not c.if-not-is_good.true)
+    every_stop _ _ _ _ c.loop-index-test.true good (ap not c.if-not-is_good.true)
 
-pub loop-b-preserved : goal.loop-b-preserved
-loop-b-preserved c =
+pub loop-index-preserved : goal.loop-index-preserved
+loop-index-preserved c =
     let good = good_part _ _ _ _ _ c.requires.0 c.block_at.ensures.0 c.is_good.ensures in
-    every_turn _ _ _ c.loop-b.invariant good (ap not c.if-not-is_good.false)
+    every_turn _ _ _ c.loop-index.invariant good (ap not c.if-not-is_good.false)

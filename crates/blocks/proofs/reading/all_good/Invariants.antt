@@ -5,5 +5,5 @@ use Rattle.problem.specs.Lists.{every}
 use Rattle.blocks.specs.Tests.Whole.{good_block}
 use Rattle.blocks.proofs.reading.all_good.Given as goal
 
-abbrev pub invariant-loop-b : goal.invariant-loop-b
-invariant-loop-b l = every l.b (good_block l.file) ≡ true
+abbrev pub invariant-loop-index : goal.invariant-loop-index
+invariant-loop-index l = every l.index (good_block l.file) ≡ true
