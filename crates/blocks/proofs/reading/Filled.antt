@@ -2,11 +2,11 @@
 -- Assumes nothing.
 use mathlib.Core.Path.{◌≡◌, refl, sym, ap, ◌∙◌}
 use mathlib.Core.List.{List, ◌++◌}
-use Prim.Native.Nat.{ℕ, ◌+◌, ◌-◌, ◌*◌, ◌/◌, ◌%◌, ◌≤◌, ◌<◌}
+use Prim.Native.Nat.{ℕ, ◌+◌, ◌-◌, ◌*◌, ◌/◌, ◌%◌, ◌≤◌}
 use native.Mathlib.Omega.{arith}
 use native.Mathlib.Nat.{zero-add}
 use lib.ListN.{length, get_or-eq_default}
-use borrow.Author.Tests.{le-leb, lt-leb}
+use borrow.Author.Tests.{le-leb}
 use borrow.Rule.Slice.PartMut.{put_mid}
 use Rattle.problem.specs.Lists.{below}
 use Rattle.blocks.specs.Blocks.{word_at}
@@ -64,10 +64,6 @@ module _ (file l : List ℕ) where
       part_more (content_from file 0 (b * 253)) (content_from file (b * 253) 253) l m ys (b * 253) 253 e (length_from file 0 (b * 253))
       (y ∙ ap (λ (x : List ℕ). content_from x 0 253) is_Block ∙ content_part_lem file b) h
       ∙ rw (← from_join file (b * 253) 253, up) refl
-
-  -- There is no room.
-  pub content_left : length l < length file / 512 * 253 → PutContent file l l
-  content_left h = rw (lt-leb (length file / 512 * 253) (length l) h) refl
 
   -- There is.
   pub content_put : (m : List ℕ) → length file / 512 * 253 ≤ length l → m ≡ content_part file (length file / 512) l → PutContent file l m
