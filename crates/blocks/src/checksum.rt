@@ -1,5 +1,5 @@
 // The check of a block: the ones' complement checksum of RFC 1071 over the 255 words before it.
-ghost use Rattle.std.specs.Prelude.{◌≡◌, ◌+◌, ◌-◌, ◌/◌, ◌%◌, ◌<◌, length};
+ghost use Rattle.std.specs.Prelude.{◌≡◌, ◌+◌, ◌-◌, ◌/◌, ◌%◌, length};
 ghost use Rattle.problem.specs.Lists.{total};
 ghost use Rattle.blocks.specs.Blocks.{check_of};
 ghost use Rattle.blocks.specs.Reading.{block_word, head_of};
@@ -13,11 +13,9 @@ fn sum(words: &[u16]) -> u32
     requires { length words.now ≡ 256 }
     ensures { result ≡ total 255 (value_at words.now) }
 {
-    let mut sum: u32 = 0;
-    let mut k = 0;
-    while k < 255 {
-        sum += words[k] as u32;
-        k += 1;
+    let mut sum = 0;
+    for word in &words[..255] {
+        sum += u32::from(*word);
     }
     sum
 }
@@ -49,11 +47,9 @@ pub(crate) fn check(block: &[u8]) -> u16
 fn sum_of(bytes: &[u8]) -> u32
     ensures { result ≡ total 255 (block_word bytes.now 0) }
 {
-    let mut sum: u32 = 0;
-    let mut k = 0;
-    while k < 255 {
-        sum += block::word(bytes, k) as u32;
-        k += 1;
+    let mut sum = 0;
+    for k in 0..255 {
+        sum += u32::from(block::word(bytes, k));
     }
     sum
 }

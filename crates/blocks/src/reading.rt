@@ -15,13 +15,9 @@ fn is_good(block: &[u8], number: usize, blocks: usize) -> bool
     requires { length block.now ≡ 512 }
     ensures { result ≡ good_in block.now number blocks }
 {
-    if (block::word(block, 0) as usize) != number {
-        return false;
-    }
-    if (block::word(block, 1) as usize) != blocks {
-        return false;
-    }
-    block::word(block, 255) == checksum::check(block)
+    usize::from(block::word(block, 0)) == number
+        && usize::from(block::word(block, 1)) == blocks
+        && block::word(block, 255) == checksum::check(block)
 }
 
 // Whether every block is good.
@@ -29,12 +25,10 @@ fn all_good(file: &[u8], blocks: usize) -> bool
     requires { (length file.now ≡ blocks * 512) × (blocks ≤ 101) }
     ensures { result ≡ every blocks (good_block file.now) }
 {
-    let mut number = 1;
-    while number <= blocks {
-        if !is_good(block::block_at(file, number - 1), number, blocks) {
+    for index in 0..blocks {
+        if !is_good(block::block_at(file, index), index + 1, blocks) {
             return false;
         }
-        number += 1;
     }
     true
 }
@@ -74,12 +68,9 @@ fn put_each(file: &[u8], blocks: usize, words: &mut [u16])
     requires { (blocks * 512 ≤ length file.now) × (blocks * 253 ≤ length words.old) }
     ensures { words.new ≡ content_part file.now blocks words.old }
 {
-    let mut b = 0;
-    while b < blocks {
+    for b in 0..blocks {
         let at = b * CONTENT;
-        let end = at + CONTENT;
-        block::put_content(block::block_at(file, b), &mut words[at..end]);
-        b += 1;
+        block::put_content(block::block_at(file, b), &mut words[at..at + CONTENT]);
     }
 }
 

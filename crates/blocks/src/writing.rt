@@ -11,8 +11,7 @@ fn put_word(block: &mut [u8], k: usize, word: u16)
     requires { (k < 65536) × (2 * k + 1 < length block.old) }
     ensures { block.new ≡ set (set block.old (2 * k) (word / 256)) (2 * k + 1) (word % 256) }
 {
-    block[2 * k] = (word / 256) as u8;
-    block[2 * k + 1] = (word % 256) as u8;
+    block[2 * k..2 * k + 2].copy_from_slice(&word.to_be_bytes());
 }
 
 // Word `k` of block `b` before its check: its number from 1, the number of blocks, its content.
@@ -20,13 +19,11 @@ fn head_word(words: &[u16], blocks: usize, b: usize, k: usize) -> u16
     requires { (blocks * 253 ≤ length words.now) × ((blocks ≤ 101) × ((b < blocks) × (k < 255))) }
     ensures { result ≡ get_or (headed_block blocks words.now b) k 0 }
 {
-    if k == 0 {
-        return (b + 1) as u16;
+    match k {
+        0 => (b + 1) as u16,
+        1 => blocks as u16,
+        _ => words[b * CONTENT + (k - 2)],
     }
-    if k == 1 {
-        return blocks as u16;
-    }
-    words[b * CONTENT + (k - 2)]
 }
 
 // The words of block `b` before its check.
@@ -34,11 +31,8 @@ fn put_head(words: &[u16], blocks: usize, b: usize, block: &mut [u8])
     requires { (blocks * 253 ≤ length words.now) × ((blocks ≤ 101) × ((b < blocks) × (length block.old ≡ 512))) }
     ensures { block.new ≡ block_part blocks words.now b 255 block.old }
 {
-    let mut k = 0;
-    while k < 255 {
-        let word = head_word(words, blocks, b, k);
-        put_word(block, k, word);
-        k += 1;
+    for k in 0..255 {
+        put_word(block, k, head_word(words, blocks, b, k));
     }
 }
 
@@ -57,12 +51,9 @@ fn put_each(words: &[u16], blocks: usize, file: &mut [u8])
     requires { (blocks * 253 ≤ length words.now) × ((blocks ≤ 101) × (512 * blocks ≤ length file.old)) }
     ensures { file.new ≡ file_part blocks words.now blocks file.old }
 {
-    let mut b = 0;
-    while b < blocks {
+    for b in 0..blocks {
         let at = BYTES * b;
-        let end = at + BYTES;
-        put_block(words, blocks, b, &mut file[at..end]);
-        b += 1;
+        put_block(words, blocks, b, &mut file[at..at + BYTES]);
     }
 }
 

@@ -1,5 +1,5 @@
 // What is asked of all 32 domains of a subproblem at once: loops of a fixed number of turns with no way out, so that the machine takes eight masks at once.
-ghost use Rattle.std.specs.Prelude.{◌≡◌, cond, ◌≤◌, eqb};
+ghost use Rattle.std.specs.Prelude.{◌≡◌, cond};
 ghost use Rattle.splits.specs.AtOnce.{lost};
 ghost use Rattle.splits.specs.Calls.{Few, Values, Loses, Outside, Outsides, Filled};
 

@@ -1,12 +1,12 @@
 -- Memory that is filled from the front.
 -- Assumes nothing.
 use mathlib.Core.Path.{◌≡◌, refl, sym, ap, ◌∙◌}
-use mathlib.Core.List.{List, [], ◌∷◌, ◌++◌, map, map-append, append_assoc, append-nil}
+use mathlib.Core.List.{List, [], ◌∷◌, ◌++◌, map, map-append, append_assoc}
 use Prim.Native.Nat.{ℕ, suc, ◌+◌, ◌-◌, ◌≤◌, ◌<◌}
 use native.Mathlib.Omega.{arith}
 use native.Mathlib.Numerals.{add-one}
 use lib.ListN.{length, get_or, take, drop, set}
-use lib.Seq.{drop-cons, append_snoc, set_at, take_at, drop_at, drop-drop, drop-length}
+use lib.Seq.{drop-cons, append_snoc, set_at, take_at, drop_at, drop-drop}
 use borrow.Rule.Slice.PartMut.{put_mid, Post-is}
 use Rattle.problem.specs.Lists.{below}
 use Rattle.blocks.proofs.Lists.{map_length}
@@ -25,10 +25,6 @@ module _ (f : ℕ → ℕ) where
       rw (e, s, drop-cons l k 0 h)
       (set_at (map f (below k)) (get_or l k 0) (drop (suc k) l) (f k) k (map_length f k)
       ∙ sym (append_snoc (map f (below k)) (f k) (drop (suc k) l)) ∙ rw (add-one, map-append f (below k) (k ∷ [])) refl)
-
-  -- All.
-  pub front_end : (l m : List ℕ) (k n : ℕ) → m ≡ map f (below k) ++ drop k l → k ≡ n → length l ≡ n → m ≡ map f (below n)
-  front_end l m k n e s h = rw (e, s, sym h, drop-length, append-nil) refl
 
 -- What a callee left in the part that was lent to it comes after what was written before.
 pub part_more : (p q l m ys : List ℕ) (a w : ℕ) → m ≡ p ++ drop a l → length p ≡ a → ys ≡ q → a + w ≤ length l

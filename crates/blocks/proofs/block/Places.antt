@@ -5,13 +5,13 @@ use mathlib.Core.List.{List, map}
 use Prim.Native.Nat.{ℕ, ◌+◌, ◌-◌, ◌*◌, ◌/◌, ◌%◌, ◌≤◌, ◌<◌}
 use native.Mathlib.Omega.{arith}
 use native.Mathlib.Nat.{zero-add}
-use lib.ListN.{length, get_or, take, drop, length-drop, get_or-eq_default}
-use lib.Seq.{length-take-le}
+use lib.ListN.{length, get_or, take, drop, length-take, length-drop, get_or-eq_default}
+use lib.Seq.{length-take-le, get_or-take, get_or-drop}
 use Rattle.problem.specs.Lists.{total, below}
 use Rattle.blocks.specs.Blocks.{word_at, check_of}
-use Rattle.blocks.specs.Reading.{block_word, head_of, content_word}
-use Rattle.blocks.specs.Loops.Read.{value_at, low_word, block_of}
-use Rattle.blocks.proofs.Lists.{map_at, total_same}
+use Rattle.blocks.specs.Reading.{block_word, head_of, content_word, content_from}
+use Rattle.blocks.specs.Loops.Read.{value_at, block_of}
+use Rattle.blocks.proofs.Lists.{map_at, map_is, map_length, total_same}
 use Rattle.blocks.proofs.checksum.Sums.{total_is}
 use Rattle.blocks.proofs.Contents.{block_word_small}
 
@@ -38,31 +38,26 @@ pub word_here : (block : List ℕ) (k w : ℕ) → w ≡ word_at block k → w �
 unfolding block_word
 word_here block k w e = e ∙ ap (word_at block) (sym (zero-add k))
 
-word_in : (block : List ℕ) (k high low : ℕ) → high ≡ get_or block (2 * k) 0 → low ≡ get_or block (2 * k + 1) 0 → high * 256 + low ≡ block_word block 0 k
+pub word_in : (block : List ℕ) (k high low : ℕ) → high ≡ get_or block (2 * k) 0 → low ≡ get_or block (2 * k + 1) 0 → high * 256 + low ≡ block_word block 0 k
 word_in block k high low e h = word_here block k (high * 256 + low) (word_made block k high low e h)
 
--- The same by its low byte first and its bytes exchanged.
-pub low_made : (block : List ℕ) (k low high : ℕ) → low ≡ get_or block (2 * k) 0 → high ≡ get_or block (2 * k + 1) 0 → low + high * 256 ≡ low_word block k
-unfolding low_word
-low_made block k low high e h = rw (e, h) refl
-
-pub low_exchanged : (block : List ℕ) → ((i : ℕ) → get_or block i 0 < 256) → (low : List ℕ) → low ≡ map (low_word block) (below 256) → (k x : ℕ) → k < 256
-    → x ≡ get_or low k 0 % 256 * 256 + get_or low k 0 / 256 → x ≡ block_word block 0 k
-unfolding low_word
-low_exchanged block small low e k x h s =
-    let w : ℕ = get_or block (2 * k) 0 + get_or block (2 * k + 1) 0 * 256 in
-    let read : get_or low k 0 ≡ w = ap (λ (l : List ℕ). get_or l k 0) e ∙ map_at (low_word block) 256 k 0 h in
-    let first : w % 256 ≡ get_or block (2 * k) 0 = omega (arith, small (2 * k), small (2 * k + 1)) in
-    let second : w / 256 ≡ get_or block (2 * k + 1) 0 = omega (arith, small (2 * k), small (2 * k + 1)) in
-    s ∙ rw (read, first, second) (word_in block k (get_or block (2 * k) 0) (get_or block (2 * k + 1) 0) refl refl)
-
 -- Word k of a block's content.
-pub content_in : (block : List ℕ) (k x : ℕ) → k < 253 → x ≡ block_word block 0 (k + 2) → x ≡ content_word block (0 + k)
+pub content_in : (block : List ℕ) (k x : ℕ) → k < 253 → x ≡ block_word block 0 (2 + k) → x ≡ content_word block (0 + k)
 unfolding content_word
 content_in block k x h e =
     let div : (0 + k) / 253 ≡ 0 = omega arith in
-    let at : 2 + (0 + k) % 253 ≡ k + 2 = omega arith in
+    let at : 2 + (0 + k) % 253 ≡ 2 + k = omega arith in
     e ∙ rw (div, at) refl
+
+-- The words of a block's content, cut out of all.
+pub content_cut : (block words : List ℕ) → words ≡ map (block_word block 0) (below 256) → take (255 - 2) (drop 2 words) ≡ content_from block 0 253
+unfolding content_from
+content_cut block words e =
+    let all : List ℕ = map (block_word block 0) (below 256) in
+    let long : length (take (255 - 2) (drop 2 all)) ≡ 253 = simp (length-take, length-drop) (omega (arith, map_length (block_word block 0) 256)) in
+    rw e (sym (map_is (λ k. content_word block (0 + k)) 253 (take (255 - 2) (drop 2 all)) long
+    (λ k h. sym (content_in block k (get_or (take (255 - 2) (drop 2 all)) k 0) h
+    (get_or-take (255 - 2) (drop 2 all) k 0 h ∙ get_or-drop 2 all k 0 ∙ map_at (block_word block 0) 256 (2 + k) 0 (omega arith))))))
 
 -- The sum of no words.
 pub total_none : (f : ℕ → ℕ) → 0 ≡ total 0 f

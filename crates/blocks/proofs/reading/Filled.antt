@@ -2,11 +2,11 @@
 -- Assumes nothing.
 use mathlib.Core.Path.{◌≡◌, refl, sym, ap, ◌∙◌}
 use mathlib.Core.List.{List, ◌++◌}
-use Prim.Native.Nat.{ℕ, ◌+◌, ◌-◌, ◌*◌, ◌/◌, ◌%◌, ◌≤◌, ◌<◌}
+use Prim.Native.Nat.{ℕ, ◌+◌, ◌-◌, ◌*◌, ◌/◌, ◌%◌, ◌≤◌}
 use native.Mathlib.Omega.{arith}
 use native.Mathlib.Nat.{zero-add}
-use lib.ListN.{length, drop, length-append, length-drop, get_or-eq_default}
-use borrow.Author.Tests.{le-leb, lt-leb}
+use lib.ListN.{length, get_or-eq_default}
+use borrow.Author.Tests.{le-leb}
 use borrow.Rule.Slice.PartMut.{put_mid}
 use Rattle.problem.specs.Lists.{below}
 use Rattle.blocks.specs.Blocks.{word_at}
@@ -26,8 +26,8 @@ content_part_lem file b =
     let block : List ℕ = block_of file b in
     map_same (λ k. content_word block (0 + k)) (λ k. content_word file (b * 253 + k)) 253 (λ k h.
     let div : (b * 253 + k) / 253 ≡ b = omega arith in
-    let at : 2 + (b * 253 + k) % 253 ≡ k + 2 = omega arith in
-    sym (content_in block k (block_word block 0 (k + 2)) h refl) ∙ part_words file b (k + 2) (omega arith) ∙ rw (div, at) refl)
+    let at : 2 + (b * 253 + k) % 253 ≡ 2 + k = omega arith in
+    sym (content_in block k (block_word block 0 (2 + k)) h refl) ∙ part_words file b (2 + k) (omega arith) ∙ rw (div, at) refl)
 
 -- Words of the content one after the other.
 pub from_join : (file : List ℕ) (a b : ℕ) → content_from file 0 (a + b) ≡ content_from file 0 a ++ content_from file a b
@@ -64,21 +64,6 @@ module _ (file l : List ℕ) where
       part_more (content_from file 0 (b * 253)) (content_from file (b * 253) 253) l m ys (b * 253) 253 e (length_from file 0 (b * 253))
       (y ∙ ap (λ (x : List ℕ). content_from x 0 253) is_Block ∙ content_part_lem file b) h
       ∙ rw (← from_join file (b * 253) 253, up) refl
-
-  -- The words stay as many.
-  pub content_kept : (m : List ℕ) (b : ℕ) → m ≡ content_part file b l → b * 253 ≤ length l → length m ≡ length l
-  unfolding content_part
-  content_kept m b e h =
-      ap length e ∙ length-append (content_from file 0 (b * 253)) (drop (b * 253) l)
-      ∙ omega (arith, length_from file 0 (b * 253), length-drop (b * 253) l)
-
-  -- All blocks are read.
-  pub content_end : (m : List ℕ) (b blocks : ℕ) → m ≡ content_part file b l → b ≡ blocks → m ≡ content_part file blocks l
-  content_end m b blocks e h = e ∙ ap (λ (x : ℕ). content_part file x l) h
-
-  -- There is no room.
-  pub content_left : length l < length file / 512 * 253 → PutContent file l l
-  content_left h = rw (lt-leb (length file / 512 * 253) (length l) h) refl
 
   -- There is.
   pub content_put : (m : List ℕ) → length file / 512 * 253 ≤ length l → m ≡ content_part file (length file / 512) l → PutContent file l m

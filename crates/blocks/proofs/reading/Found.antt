@@ -7,10 +7,9 @@ use Prim.Native.Nat.{ℕ, ◌+◌, ◌-◌, ◌*◌, ◌/◌, ◌≤◌, ◌<◌
 use native.Mathlib.Omega.{arith}
 use lib.ListN.{length, get_or, take, drop}
 use lib.Seq.{get_or-take, get_or-drop}
-use lib.Dec.{eqb}
 use borrow.Author.Tests.{le-leb, lt-leb, eq-eqb, ne_eqb}
 use Rattle.problem.specs.Lists.{every}
-use Rattle.blocks.specs.Blocks.{word_at, check_of}
+use Rattle.blocks.specs.Blocks.{word_at}
 use Rattle.blocks.specs.Reading.{block_word, head_of}
 use Rattle.blocks.specs.Tests.Whole.{good_block, refusal_of_file}
 use Rattle.blocks.specs.Loops.Read.{good_in, block_of}
@@ -42,33 +41,12 @@ part_words file b = words_same (take ((b * 512 + 512) - b * 512) (drop (b * 512)
 
 -- ---- 14: one block
 
-module _ (block : List ℕ) (number blocks : ℕ) where
-  -- its number is wrong; the number of blocks is; else the check decides
-  pub bad_number : (w : ℕ) → w ≡ block_word block 0 0 → (w ≡ number → ⊥) → false ≡ good_in block number blocks
-  unfolding good_in
-  bad_number w e f = simp (ne_eqb (block_word block 0 0) number (λ z. f (e ∙ z)))
-
-  -- The number of blocks is wrong.
-  pub bad_count : (w : ℕ) → w ≡ block_word block 0 1 → (w ≡ blocks → ⊥) → false ≡ good_in block number blocks
-  unfolding good_in
-  bad_count w e f = simp (ne_eqb (block_word block 0 1) blocks (λ z. f (e ∙ z)), and-false)
-
-  -- Both are right: the check decides.
-  pub good_check : (v w x y : ℕ) → v ≡ block_word block 0 0 → v ≡ number → w ≡ block_word block 0 1 → w ≡ blocks → x ≡ block_word block 0 255
-      → y ≡ check_of (head_of block 0) → eqb x y ≡ good_in block number blocks
-  unfolding good_in
-  good_check v w x y a b c d e f =
-      simp (eq-eqb (block_word block 0 0) number (sym a ∙ b), eq-eqb (block_word block 0 1) blocks (sym c ∙ d), sym e, sym f)
-
 -- A block that was cut out of a file of so many.
-pub good_part : (file block : List ℕ) (number blocks : ℕ) (r : Bool) → 1 ≤ number → length file ≡ blocks * 512
-    → block ≡ block_of file (number - 1)
-    → r ≡ good_in block number blocks → r ≡ good_block file (number - 1)
+pub good_part : (file block : List ℕ) (b blocks : ℕ) (r : Bool) → length file ≡ blocks * 512 → block ≡ block_of file b
+    → r ≡ good_in block (b + 1) blocks → r ≡ good_block file b
 unfolding good_in good_block
-good_part file block number blocks r some e is_Block h =
-    let b : ℕ = number - 1 in
+good_part file block b blocks r e is_Block h =
     let count : length file / 512 ≡ blocks = omega arith in
-    let next : b + 1 ≡ number = omega arith in
     h ∙ rw (
       is_Block,
       part_words file b 0 (omega arith),
@@ -76,7 +54,6 @@ good_part file block number blocks r some e is_Block h =
       part_words file b 255 (omega arith),
       heads_same _ file b (part_words file b),
       count,
-      next,
     )
     refl
 

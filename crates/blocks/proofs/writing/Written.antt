@@ -1,15 +1,14 @@
 -- Blocks that are written, word by word and one after the other.
 -- Assumes nothing.
 use mathlib.Core.Path.{◌≡◌, refl, sym, ap, ◌∙◌}
-use mathlib.Core.Bool.{and-false}
-use mathlib.Core.List.{List, [], ◌∷◌, ◌++◌, append_assoc, append-nil}
+use mathlib.Core.List.{List, [], ◌∷◌, ◌++◌, append-nil}
 use Prim.Native.Nat.{ℕ, zero, suc, ◌+◌, ◌-◌, ◌*◌, ◌/◌, ◌%◌, ◌≤◌, ◌<◌}
 use native.Mathlib.Omega.{arith}
 use native.Mathlib.Numerals.{add-one}
 use lib.ListN.{length, get_or, take, drop, set, length-append, length-drop, get_or-append}
-use lib.Seq.{length-take-le, take-suc, drop-cons, append_snoc, set_at, take_all, take_at, drop-length}
-use borrow.Author.Tests.{eq-eqb, ne_eqb, le-leb, lt-leb}
-use borrow.Rule.Slice.PartMut.{put_mid}
+use lib.Seq.{length-take-le, take-suc, take_all, take_at, drop-length}
+use borrow.Author.Tests.{eq-eqb, le-leb}
+use borrow.Rule.Slice.PartMut.{put_mid, Post-is}
 use Rattle.blocks.specs.Blocks.{file_bytes, word_at, check_of, blocks_for, headed_block, block_words, first_blocks, file_of}
 use Rattle.blocks.specs.Reading.{block_word, head_of}
 use Rattle.blocks.specs.Calls.{PutBlocks}
@@ -37,6 +36,18 @@ word_append ws r k h = same ∙ word_read ws k
 one_word : (front : List ℕ) (w : ℕ) → front ++ file_bytes (w ∷ []) ≡ front ++ (w / 256 ∷ w % 256 ∷ [])
 unfolding file_bytes
 one_word front w = refl
+
+-- Two bytes written over two others, one by one or at once.
+two_set : (l : List ℕ) (a x y : ℕ) → suc a < length l → take a l ++ (x ∷ y ∷ drop (suc (suc a)) l) ≡ set (set l a x) (suc a) y
+two_set [] a x y h = absurd (omega arith)
+two_set (m ∷ []) zero x y h = absurd (omega arith)
+two_set (m ∷ n ∷ l) zero x y h = refl
+two_set (m ∷ l) (suc a) x y h = ap (m ∷◌) (two_set l a x y (omega arith))
+
+pub two_put : (l ys : List ℕ) (a x y : ℕ) → a + 1 < length l → ys ≡ x ∷ y ∷ [] → put_mid a ((a + 2) - a) l ys ≡ set (set l a x) (a + 1) y
+two_put l ys a x y h e =
+    let two : a + 2 ≡ suc (suc a) = omega arith in
+    rw (e, Post-is a (a + 2) l (omega arith), two, add-one) (two_set l a x y (omega arith))
 
 module _ (blocks : ℕ) (content : List ℕ) (b : ℕ) where
   -- Its number comes first.
@@ -73,34 +84,18 @@ module _ (blocks : ℕ) (content : List ℕ) (b : ℕ) where
       let front : List ℕ = file_bytes (take k words) in
       let size : length words ≡ 256 = block_length blocks content b in
       let seam : length front ≡ 2 * k = bytes_length (take k words) ∙ omega (arith, length-take-le k words (omega arith)) in
-      let two : drop (2 * k) l ≡ get_or l (2 * k) 0 ∷ get_or l (suc (2 * k)) 0 ∷ drop (suc (suc (2 * k))) l =
-      drop-cons l (2 * k) 0 (omega arith) ∙ ap (λ (r : List ℕ). get_or l (2 * k) 0 ∷ r) (drop-cons l (suc (2 * k)) 0 (omega arith)) in
-      let rest : List ℕ = drop (suc (suc (2 * k))) l in
       let next : take (k + 1) words ≡ take k words ++ (w ∷ []) = rw (add-one, s) (take-suc words k 0 (omega arith)) in
-      let seam-2 : length (front ++ ((w / 256) ∷ [])) ≡ 2 * k + 1 = length-append front ((w / 256) ∷ []) ∙ omega arith in
-      let place : suc (suc (2 * k)) ≡ 2 * (k + 1) = omega arith in
       let bytes : file_bytes (take (k + 1) words) ≡ front ++ (w / 256 ∷ w % 256 ∷ []) = ap file_bytes next ∙ bytes_append (take k words) (w ∷ []) ∙
       one_word front w in
-      ap (λ (x : List ℕ). set (set x (2 * k) (w / 256)) (2 * k + 1) (w % 256)) (e ∙ ap (λ (x : List ℕ). front ++ x) two)
-      ∙ ap (λ (x : List ℕ). set x (2 * k + 1) (w % 256)) (set_at front (get_or l (2 * k) 0) (get_or l (suc (2 * k)) 0 ∷ rest) (w / 256) (2 * k) seam
-      ∙ sym (append_snoc front (w / 256) (get_or l (suc (2 * k)) 0 ∷ rest)))
-      ∙ set_at (front ++ ((w / 256) ∷ [])) (get_or l (suc (2 * k)) 0) rest (w % 256) (2 * k + 1) seam-2
-      ∙ append_snoc front (w / 256) (w % 256 ∷ rest)
-      ∙ sym (append_assoc front (w / 256 ∷ w % 256 ∷ []) rest) ∙ ap (λ (x : ℕ). (front ++ (w / 256 ∷ w % 256 ∷ [])) ++ drop x l) place
-      ∙ ap (λ (x : List ℕ). x ++ drop (2 * (k + 1)) l) (sym bytes)
+      let place : 2 * k + 2 ≡ 2 * (k + 1) = omega arith in
+      let room : 2 * k + 1 < length m = rw (e, length-append, length-drop) (omega arith) in
+      sym (two_put m _ (2 * k) (w / 256) (w % 256) room refl) ∙ part_more front (w / 256 ∷ w % 256 ∷ []) l m _ (2 * k) 2 e seam refl (omega arith)
+      ∙ rw (← bytes, place) refl
 
   -- One word more of a block.
   pub block_more : (l m after : List ℕ) (k w : ℕ) → m ≡ block_part blocks content b k l → w ≡ get_or (block_words blocks content b) k 0 → k < 256
       → length l ≡ 512 → after ≡ set (set m (2 * k) (w / 256)) (2 * k + 1) (w % 256) → after ≡ block_part blocks content b (k + 1) l
   block_more l m after k w e s h long put = put ∙ word_more l m k w e s h long
-
-  -- The block stays as long.
-  pub part_length : (l m : List ℕ) (k : ℕ) → m ≡ block_part blocks content b k l → k ≤ 256 → length l ≡ 512 → length m ≡ 512
-  unfolding block_part
-  part_length l m k e h long =
-      let words : List ℕ = block_words blocks content b in
-      ap length e ∙ length-append (file_bytes (take k words)) (drop (2 * k) l)
-      ∙ omega (arith, bytes_length (take k words), length-take-le k words (omega (arith, block_length blocks content b)), length-drop (2 * k) l)
 
   -- Before its check stand the headed words.
   pub head_word : (k w : ℕ) → k < 255 → w ≡ get_or (headed_block blocks content b) k 0 → w ≡ get_or (block_words blocks content b) k 0
@@ -119,10 +114,6 @@ module _ (blocks : ℕ) (content : List ℕ) (b : ℕ) where
       let size : length head ≡ 255 = headed_length blocks content b in
       rw head_taken (map_is (λ k. word_at (file_bytes head ++ drop 510 l) (256 * 0 + k)) 255 head size
       (λ k h. let place : 256 * 0 + k ≡ k = omega arith in rw place (word_append head (drop 510 l) k (omega arith))))
-
-  -- All 255 words before the check.
-  pub head_end : (l m : List ℕ) (k : ℕ) → m ≡ block_part blocks content b k l → k ≡ 255 → m ≡ block_part blocks content b 255 l
-  head_end l m k e h = e ∙ ap (λ (x : ℕ). block_part blocks content b x l) h
 
   -- So the check that is worked out of it is right.
   pub check_written : (l m : List ℕ) (w : ℕ) → m ≡ block_part blocks content b 255 l → w ≡ check_of (head_of m 0)
@@ -157,17 +148,6 @@ module _ (blocks : ℕ) (content : List ℕ) where
       part_more (first_blocks b blocks content) (file_bytes words) l m ys (512 * b) 512 e (blocks_length b blocks content) y h
       ∙ rw (← up, add-one) refl
 
-  -- The buffer stays as long.
-  pub file_kept : (l m : List ℕ) (b : ℕ) → m ≡ file_part blocks content b l → 512 * b ≤ length l → length m ≡ length l
-  unfolding file_part
-  file_kept l m b e h =
-      ap length e ∙ length-append (first_blocks b blocks content) (drop (512 * b) l) ∙ omega
-      (arith, blocks_length b blocks content, length-drop (512 * b) l)
-
-  -- All blocks are written.
-  pub file_end : (l m : List ℕ) (b : ℕ) → m ≡ file_part blocks content b l → b ≡ blocks → m ≡ file_part blocks content blocks l
-  file_end l m b e h = e ∙ ap (λ (x : ℕ). file_part blocks content x l) h
-
 -- ---- what is left of the buffer
 
 module _ (c l : List ℕ) where
@@ -175,21 +155,6 @@ module _ (c l : List ℕ) where
   whole_blocks : length c ≡ length c / 253 * 253 → blocks_for (length c) ≡ length c / 253
   unfolding blocks_for
   whole_blocks e = omega arith
-
-  -- The last block is not full.
-  pub blocks_cut : (length c ≡ length c / 253 * 253 → ⊥) → PutBlocks c l l
-  unfolding blocks_for
-  blocks_cut f =
-      let other : length c ≡ (length c + 252) / 253 * 253 → ⊥ = λ e. absurd (f (omega arith)) in
-      simp (ne_eqb (length c) ((length c + 252) / 253 * 253) other)
-
-  -- There are more than 101.
-  pub blocks_many : length c ≡ length c / 253 * 253 → 101 < length c / 253 → PutBlocks c l l
-  blocks_many e h = simp (whole_blocks e, lt-leb (length c / 253) 101 h, and-false)
-
-  -- The buffer is too short.
-  pub blocks_short : length c ≡ length c / 253 * 253 → length l < 512 * (length c / 253) → PutBlocks c l l
-  blocks_short e h = simp (whole_blocks e, lt-leb (512 * (length c / 253)) (length l) h, and-false)
 
   -- It takes them.
   pub blocks_put : (m : List ℕ) → length c ≡ length c / 253 * 253 → length c / 253 ≤ 101 → 512 * (length c / 253) ≤ length l

@@ -7,10 +7,6 @@ use Rattle.blocks.specs.Reading.{block_word, head_of, content_from}
 unfoldable pub value_at : List ℕ → ℕ → ℕ
 value_at values i = get_or values i 0
 
--- Word k of bytes, the low byte first.
-unfoldable pub low_word : List ℕ → ℕ → ℕ
-low_word bytes k = get_or bytes (2 * k) 0 + get_or bytes (2 * k + 1) 0 * 256
-
 -- The bytes of block b, from 0.
 unfoldable pub block_of : List ℕ → ℕ → List ℕ
 block_of file b = take ((b * 512 + 512) - b * 512) (drop (b * 512) file)

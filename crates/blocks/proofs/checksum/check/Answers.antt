@@ -1,13 +1,8 @@
 -- `checksum::check` meets its contract.
-use mathlib.Core.Path.{refl, ap, ◌∙◌}
+use mathlib.Core.Path.{refl, ◌∙◌}
 use native.Mathlib.Omega.{arith}
-use lib.ListN.{length}
-use Rattle.blocks.proofs.Lists.{map_length}
 use Rattle.blocks.proofs.block.Places.{sum_read, check_made}
 use Rattle.blocks.proofs.checksum.check.Goals as goal
-
-pub sum-requires : goal.sum-requires
-sum-requires c = ap length c.words_of-words.ensures ∙ map_length _ 256
 
 pub returns : goal.returns
 returns c =
