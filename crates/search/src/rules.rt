@@ -28,10 +28,8 @@ fn wrong_in(domains: &[u16], slot: &[u16]) -> u16
     ensures { result ≡ joined (length domains.now) (wrong_in domains.now slot.now) }
 {
     let mut wrong: u16 = 0;
-    let mut i = 0;
-    while i < domains.len() {
-        wrong = wrong | part_wrong(domains[i], slot[i]);
-        i += 1;
+    for i in 0..domains.len() {
+        wrong |= part_wrong(domains[i], slot[i]);
     }
     wrong
 }
@@ -74,10 +72,8 @@ fn missing(held: [u16; 32], row: [u16; 32]) -> u16
     ensures { result ≡ joined 32 (missing_in held row) }
 {
     let mut wrong: u16 = 0;
-    let mut j = 0;
-    while j < 32 {
-        wrong = wrong | at_once::outside(held[j], row[j]);
-        j += 1;
+    for j in 0..32 {
+        wrong |= at_once::outside(held[j], row[j]);
     }
     wrong
 }
@@ -180,14 +176,12 @@ pub(crate) fn all_obey(
 {
     let none = [0u16; 32];
     let mut rows = [none; 32];
-    let mut k = 0;
-    while k < count {
+    for k in 0..count {
         let known = as_below(n, agenda, k);
         let slot = agenda::slot(n, agenda, k);
         if !obeys(slot, n, d, domains, tables, &mut rows, known) {
             return false;
         }
-        k += 1;
     }
     true
 }
