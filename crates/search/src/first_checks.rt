@@ -14,14 +14,8 @@ fn whole_slots(n: usize, words: usize) -> bool
     requires { n ≤ 32 }
     ensures { result ≡ whole_slots n words }
 {
-    if words % (n + 2) != 0 {
-        return false;
-    }
     let slots = words / (n + 2);
-    if slots < 1 {
-        return false;
-    }
-    slots <= 512
+    words % (n + 2) == 0 && 1 <= slots && slots <= 512
 }
 
 // 6, or none.

@@ -28,10 +28,8 @@ fn wrong_in(domains: &[u16], slot: &[u16]) -> u16
     ensures { result ≡ joined (length domains.now) (wrong_in domains.now slot.now) }
 {
     let mut wrong: u16 = 0;
-    let mut i = 0;
-    while i < domains.len() {
-        wrong = wrong | part_wrong(domains[i], slot[i]);
-        i += 1;
+    for i in 0..domains.len() {
+        wrong |= part_wrong(domains[i], slot[i]);
     }
     wrong
 }
@@ -52,7 +50,7 @@ fn next_in(set: u32, from: usize) -> usize
     requires { from ≤ 32 }
     ensures { Next set from result }
 {
-    from + u64::trailing_zeros((set as u64) >> from) as usize
+    from + ((set as u64) >> from).trailing_zeros() as usize
 }
 
 // The domains of a slot's instantiated variables, nothing for the others.
@@ -62,6 +60,7 @@ fn held_of(slot: &[u16], marked: u32, n: usize) -> [u16; 32]
 {
     let mut held = [0u16; 32];
     let mut i = next_in(marked, 0);
+    // No `for`: a test of each of n variables is slower than to go from one of the set to the next; likewise below.
     while i < n {
         held[i] = slot[i];
         i = next_in(marked, i + 1);
@@ -74,10 +73,8 @@ fn missing(held: [u16; 32], row: [u16; 32]) -> u16
     ensures { result ≡ joined 32 (missing_in held row) }
 {
     let mut wrong: u16 = 0;
-    let mut j = 0;
-    while j < 32 {
-        wrong = wrong | at_once::outside(held[j], row[j]);
-        j += 1;
+    for j in 0..32 {
+        wrong |= at_once::outside(held[j], row[j]);
     }
     wrong
 }
@@ -96,6 +93,7 @@ fn marks_obey(
 {
     let held = held_of(slot, marked, n);
     let mut i = next_in(marked, 0);
+    // No `for`, as in `held_of`.
     while i < n {
         let row = kept::row(n, d, tables, rows, i, i, mask::lowest(slot[i]));
         if missing(held, row) != 0 {
@@ -116,6 +114,7 @@ fn same_marks(slot: &[u16], other: &[u16], n: usize) -> bool
         return false;
     }
     let mut i = next_in(marked, 0);
+    // No `for`, as in `held_of`.
     while i < n {
         if slot[i] != other[i] {
             return false;
@@ -130,14 +129,12 @@ fn as_below(n: usize, agenda: &[u16], k: usize) -> bool
     requires { SlotIn n k (length agenda.now) }
     ensures { TellsBelow n agenda.now k result }
 {
-    if k == 0 {
-        return false;
-    }
-    same_marks(
-        agenda::slot(n, agenda, k),
-        agenda::slot(n, agenda, k - 1),
-        n,
-    )
+    k != 0
+        && same_marks(
+            agenda::slot(n, agenda, k),
+            agenda::slot(n, agenda, k - 1),
+            n,
+        )
 }
 
 // Whether the subproblem in the words of a slot obeys the rules; `known`: its instantiated variables do.
@@ -154,16 +151,10 @@ fn obeys(
     ensures { (result ≡ obeys (problem_of n d domains.now tables.now) (subproblem_of n slot.now)) × Rows 1 n d tables.now rows.new }
 {
     let marked = agenda::marked_at(slot, n);
-    if (1 << n) <= (marked as u64) {
+    if (1 << n) <= (marked as u64) || wrong_with(n, domains, slot) != 0 {
         return false;
     }
-    if wrong_with(n, domains, slot) != 0 {
-        return false;
-    }
-    if known {
-        return true;
-    }
-    marks_obey(slot, marked, n, d, tables, rows)
+    known || marks_obey(slot, marked, n, d, tables, rows)
 }
 
 // Whether the subproblems in the first `count` slots do. Values that are those of the slot below are not looked at again.
@@ -180,14 +171,12 @@ pub(crate) fn all_obey(
 {
     let none = [0u16; 32];
     let mut rows = [none; 32];
-    let mut k = 0;
-    while k < count {
+    for k in 0..count {
         let known = as_below(n, agenda, k);
         let slot = agenda::slot(n, agenda, k);
         if !obeys(slot, n, d, domains, tables, &mut rows, known) {
             return false;
         }
-        k += 1;
     }
     true
 }

@@ -58,10 +58,7 @@ fn exceed(top: Subproblem, n: usize, d: usize, tables: &[u16], request: &[u16], 
     requires { readable n d tables.now request.now ≡ true }
     ensures { result ≡ ltb free (length (pieces n (table_of n d tables.now) top request.now)) }
 {
-    if split::candidates(n, request) <= free {
-        return false;
-    }
-    free < piece_count(top, n, d, tables, request)
+    free < split::candidates(n, request) && free < piece_count(top, n, d, tables, request)
 }
 
 // The refusal of a request, in the order 11, 7 to 10, 12.

@@ -1,6 +1,6 @@
 -- Slots with the same variables instantiated to the same values: where those of one agree, so do those of the other.
 -- Assumes nothing.
-use mathlib.Core.Path.{◌≡◌, refl, sym, ap, ◌∙◌, subst}
+use mathlib.Core.Path.{◌≡◌, refl, sym, ap, ◌∙◌}
 use mathlib.Core.Bool.{Bool, true}
 use mathlib.Core.List.{List}
 use Prim.Native.Nat.{ℕ, ◌+◌, ◌-◌, ◌*◌, ◌≤◌, ◌<◌}
@@ -18,7 +18,7 @@ use Rattle.splits.specs.declared.subproblem.Subproblem.{Subproblem}
 use Rattle.problem.proofs.Tests.{every_at, every_all}
 use Rattle.search.specs.Agenda.{holding, subproblem_of, slot_at}
 use Rattle.search.specs.Loops.Slots.{SlotIn}
-use Rattle.search.specs.Loops.FirstTests.{Mirrored, Next, held_at, beside_at, mark_obeys, SameMarks, AsBelow, TellsSame, TellsBelow, MarksKnown}
+use Rattle.search.specs.Loops.FirstTests.{Mirrored, Next, held_at, beside_at, mark_obeys, SameMarks, AsBelow, TellsBelow, MarksKnown}
 use Rattle.search.proofs.Encoding.{slot_long}
 use Rattle.search.proofs.agenda.Slots.{slot_below}
 use Rattle.search.proofs.rules.Obeying.{is_marked}
@@ -97,10 +97,6 @@ known_below n d domains tables agenda k fits slot e h =
 
 -- As the code has the words of the slots.
 module _ (n k : ℕ) (agenda words : List ℕ) (own : words ≡ slot_at n agenda k) where
-  pub tells_below : (lower : List ℕ) (r : Bool) → (k ≡ 0 → ⊥) → lower ≡ slot_at n agenda (k - 1) → TellsSame n words lower r → TellsBelow n agenda k r
-  tells_below lower r h under t e =
-      (omega arith, subst (λ (l : List ℕ). SameMarks n l (slot_at n agenda (k - 1))) own (subst (SameMarks n words) under (t e)))
-
   pub marks_known : (d : ℕ) (domains tables : List ℕ) (r : Bool) → Mirrored n d domains tables → SlotIn n k (length agenda)
       → every k (slot_obeys (problem_of n d domains tables) n agenda) ≡ true → TellsBelow n agenda k r → MarksKnown n d tables words r
   marks_known d domains tables r fits slot e t h = rw own (known_below n d domains tables agenda k fits slot e (t h))

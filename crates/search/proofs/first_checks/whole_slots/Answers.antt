@@ -1,17 +1,17 @@
--- `first::whole_slots` meets its contract: the remainder, then the quotient.
-use mathlib.Core.Bool.{and-false}
-use borrow.Author.Tests.{le-leb, lt-leb, eq-eqb, ne_eqb}
+-- `first_checks::whole_slots` meets its contract.
+use Rattle.std.proofs.Common.{rules, tests}
 use Rattle.search.specs.Tests.FirstChecks.{whole_slots}
+use Rattle.search.proofs.first_checks.whole_slots.Goals.{then-words-n-eq0, else-words-n-eq0}
 use Rattle.search.proofs.first_checks.whole_slots.Goals as goal
 
-pub returns-then-words-n-ne0 : goal.returns-then-words-n-ne0
+pub returns-then-slots-ge1 : goal.returns-then-slots-ge1
 unfolding whole_slots
-returns-then-words-n-ne0 c = simp (ne_eqb _ _ c.if-words-n-ne0.true)
+returns-then-slots-ge1 c = search (rules, tests)
 
-pub returns-then-slots-lt1 : goal.returns-then-slots-lt1
+pub returns-else-slots-ge1 : goal.returns-else-slots-ge1
 unfolding whole_slots
-returns-then-slots-lt1 c = simp (lt-leb _ _ c.if-slots-lt1.true, and-false)
-
-pub returns : goal.returns
-unfolding whole_slots
-returns c = simp (eq-eqb _ _ c.if-words-n-ne0.false, le-leb _ _ c.if-slots-lt1.false)
+returns-else-slots-ge1 c =
+    elim c.if-words-n-eq0.branch [
+      | then-words-n-eq0 w ↦ search (rules, tests)
+      | else-words-n-eq0 w ↦ search (rules, tests)
+    ]

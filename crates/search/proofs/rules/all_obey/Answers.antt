@@ -1,7 +1,6 @@
 -- `rules::all_obey` meets its contract: the loop's invariant: the subproblem of every slot passed obeys the rules.
 use mathlib.Core.Bool.{not}
 use mathlib.Core.Path.{ap, ◌∙◌}
-use native.Mathlib.Omega.{arith}
 use Rattle.search.specs.Agenda.{subproblem_of}
 use Rattle.search.proofs.agenda.Slots.{slot_below}
 use Rattle.problem.proofs.FirstLoops.{every_start, every_stop, every_turn, every_end}
@@ -11,22 +10,12 @@ use Rattle.search.proofs.rules.Alike.{marks_known}
 use Rattle.search.proofs.rules.all_obey.Goals as goal
 
 pub loop-k-init : goal.loop-k-init
-loop-k-init c = (omega arith, (every_start _, rows_none 1 _ _ _))
-
-pub as_below-known-requires : goal.as_below-known-requires
-as_below-known-requires c =
-    slot_below _ _ _ _ c.requires.0.fitting.sized.few c.loop-k-test.true
-    c.requires.1
-
-pub slot-slot-requires : goal.slot-slot-requires
-slot-slot-requires c =
-    slot_below _ _ _ _ c.requires.0.fitting.sized.few c.loop-k-test.true
-    c.requires.1
+loop-k-init c = (every_start _, rows_none 1 _ _ _)
 
 pub obeys-requires : goal.obeys-requires
 obeys-requires c =
     let p = c.requires in
-    let inv = c.loop-k.invariant.1 in
+    let inv = c.loop-k.invariant in
     let own = c.slot-slot.ensures in
     let lies = slot_below _ _ _ _ p.0.fitting.sized.few c.loop-k-test.true p.1 in (
       p.0,
@@ -48,14 +37,11 @@ returns-then-not-obeys c =
 
 pub loop-k-preserved : goal.loop-k-preserved
 loop-k-preserved c = (
-  omega arith,
-  (
-    every_turn _ _ _ c.loop-k.invariant.1.0
-        (slot_obeys_lem _ _ _ _ _ _ (ap (subproblem_of _) c.slot-slot.ensures.0) c.obeys.ensures.0)
-        (ap not c.if-not-obeys.false),
-    c.obeys.ensures.1,
-  ),
+  every_turn _ _ _ c.loop-k.invariant.0
+      (slot_obeys_lem _ _ _ _ _ _ (ap (subproblem_of _) c.slot-slot.ensures.0) c.obeys.ensures.0)
+      (ap not c.if-not-obeys.false),
+  c.obeys.ensures.1,
 )
 
 pub returns : goal.returns
-returns c = every_end _ _ _ c.loop-k.invariant.0 c.loop-k-test.false c.loop-k.invariant.1.0 ∙ all_slots _ _ _ _
+returns c = every_end _ _ _ c.loop-k.auto.k-end c.loop-k-test.false c.loop-k.invariant.0 ∙ all_slots _ _ _ _

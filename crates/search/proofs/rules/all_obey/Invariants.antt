@@ -1,7 +1,6 @@
 -- `rules::all_obey` meets its contract: the loop's invariant: the subproblem of every slot passed obeys the rules.
 use mathlib.Core.Bool.{true}
 use mathlib.Core.Path.{◌≡◌}
-use Prim.Native.Nat.{◌-◌, ◌≤◌}
 use Rattle.problem.specs.Lists.{every}
 use Rattle.problem.specs.Problem.{problem_of}
 use Rattle.search.proofs.first_checks.FirstParts.{slot_obeys}
@@ -9,7 +8,4 @@ use Rattle.search.specs.Loops.Lanes.{Rows}
 use Rattle.search.proofs.rules.all_obey.Given as goal
 
 abbrev pub invariant-loop-k : goal.invariant-loop-k
-invariant-loop-k l = (l.k ≤ l.count) × ((every l.k (slot_obeys (problem_of l.n l.d l.domains l.tables) l.n l.agenda) ≡ true) × Rows 1 l.n l.d l.tables l.rows)
-
-abbrev pub decreases-loop-k : goal.decreases-loop-k
-decreases-loop-k l = l.count - l.k
+invariant-loop-k l = (every l.k (slot_obeys (problem_of l.n l.d l.domains l.tables) l.n l.agenda) ≡ true) × Rows 1 l.n l.d l.tables l.rows

@@ -1,24 +1,19 @@
 -- `rules::obeys` meets its contract: the marks, the domains together, then the instantiated variables, unless these are known.
-use mathlib.Core.Path.{sym}
+use mathlib.Core.Path.{sym, ◌∙◌}
 use Rattle.search.proofs.rules.Marked.{slot_marks, marks_in, slot_over, slot_wrong, slot_values, slot_marked, problem_parts}
-use borrow.Author.Rules.{rules}
+use Rattle.search.proofs.rules.obeys.Goals.{then-n-marked-via-then-n-marked, then-n-marked-via-else-n-marked+then-wrong_with-ne0}
 use Rattle.search.proofs.rules.obeys.Goals as goal
 
 pub returns-then-n-marked : goal.returns-then-n-marked
 returns-then-n-marked c =
     let a = c.args in
     let k = c.requires in (
-      slot_over a.n a.d a.domains.now a.tables.now a.slot.now _ k.0.fitting.sized.few c.marked_at-marked.ensures
-          c.if-n-marked.true,
-      k.1.1.1,
-    )
-
-pub returns-then-wrong_with-ne0 : goal.returns-then-wrong_with-ne0
-returns-then-wrong_with-ne0 c =
-    let a = c.args in
-    let k = c.requires in (
-      slot_wrong a.n a.d a.domains.now a.tables.now a.slot.now k.0.fitting.words k.1.0 _ c.wrong_with.ensures
-          c.if-wrong_with-ne0.true,
+      elim c.then-n-marked.branch [
+        | then-n-marked-via-then-n-marked w ↦
+            slot_over a.n a.d a.domains.now a.tables.now a.slot.now _ k.0.fitting.sized.few c.marked_at-marked.ensures w.if-n-marked.true
+        | then-n-marked-via-else-n-marked+then-wrong_with-ne0 w ↦
+            slot_wrong a.n a.d a.domains.now a.tables.now a.slot.now k.0.fitting.words k.1.0 _ w.wrong_with.ensures w.if-wrong_with-ne0.true
+      ],
       k.1.1.1,
     )
 
@@ -30,7 +25,7 @@ returns-then-known c =
           k.0.fitting.sized.small c.wrong_with.ensures c.if-wrong_with-ne0.false
           (marks_in a.n a.d a.domains.now a.tables.now a.slot.now _ k.0.fitting.sized.few
           c.marked_at-marked.ensures c.if-n-marked.false)
-          (sym (k.1.1.0 c.if-known.true)),
+          (c.if-known.true ∙ sym (k.1.1.0 c.if-known.true)),
       k.1.1.1,
     )
 
@@ -50,14 +45,8 @@ marks_obey-requires c =
       k.1.1.1,
     )
 
-pub shape_of-rows : goal.shape_of-rows
-shape_of-rows c =
-    let whole = c.requires.1.1.1.long in
-    let long = c.marks_obey.ensures.1.long in
-    search rules
-
-pub returns : goal.returns
-returns c =
+pub returns-else-known : goal.returns-else-known
+returns-else-known c =
     let a = c.args in
     let k = c.requires in (
       slot_marked a.n a.d a.domains.now a.tables.now a.slot.now k.0.fitting.words k.1.0 _ _ k.0.passed

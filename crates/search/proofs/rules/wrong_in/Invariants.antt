@@ -1,13 +1,8 @@
 -- `rules::wrong_in` meets its contract: the loop's invariant: what is wrong with the domains passed is together.
 use mathlib.Core.Path.{◌≡◌}
-use Prim.Native.Nat.{◌-◌, ◌≤◌}
-use lib.ListN.{length}
 use Rattle.problem.specs.Lists.{joined}
 use Rattle.search.specs.Loops.FirstTests.{wrong_in}
 use Rattle.search.proofs.rules.wrong_in.Given as goal
 
 abbrev pub invariant-loop-i : goal.invariant-loop-i
-invariant-loop-i l = (l.i ≤ length l.domains) × (l.wrong ≡ joined l.i (wrong_in l.domains l.slot))
-
-abbrev pub decreases-loop-i : goal.decreases-loop-i
-decreases-loop-i l = length l.domains - l.i
+invariant-loop-i l = l.wrong ≡ joined l.i (wrong_in l.domains l.slot)

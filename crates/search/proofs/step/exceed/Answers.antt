@@ -1,15 +1,12 @@
 -- `search::step::exceed` meets its contract.
-use mathlib.Core.Path.{◌≡◌, ap}
+use mathlib.Core.Path.{◌≡◌, ◌∙◌}
 use lib.ListN.{length}
-use lib.Dec.{ltb}
+use borrow.Author.Tests.{le-ltb}
 use Rattle.search.proofs.step.Gathering.{roomy}
 use borrow.Author.Rules.{rules}
 use Rattle.search.proofs.step.exceed.Goals as goal
 
-pub returns-then-candidates-free : goal.returns-then-candidates-free
-returns-then-candidates-free c =
+pub returns-else-free-candidates : goal.returns-else-free-candidates
+returns-else-free-candidates c =
     let long : length c.args.top.domains ≡ 32 = search rules in
-    roomy _ _ _ _ _ c.requires _ _ long c.candidates.ensures c.if-candidates-free.true
-
-pub returns : goal.returns
-returns c = ap (ltb c.args.free) c.piece_count.ensures
+    le-ltb _ _ c.if-free-candidates.false ∙ roomy _ _ _ _ _ c.requires _ _ long c.candidates.ensures c.if-free-candidates.false
