@@ -2,7 +2,7 @@
 use mathlib.Core.Bool.{not}
 use mathlib.Core.Path.{refl, ap}
 use native.Mathlib.Omega.{arith}
-use Rattle.console.proofs.parts.SoFar.{part_asks, so_far_none, part_taken, go_again, stepped_again, returns_end, returns_stop}
+use Rattle.console.proofs.parts.SoFar.{so_far_none, part_taken, go_again, stepped_again, returns_end, returns_stop}
 use borrow.Author.Rules.{rules}
 use Rattle.console.proofs.parts.run_parts.Goals as goal
 
@@ -15,21 +15,6 @@ loop-ran-init c =
       stepped = search rules;
       begun = search rules;
     }
-
-pub end_of-end-requires : goal.end_of-end-requires
-end_of-end-requires c = (c.requires.0, (c.loop-ran.invariant.far.inside, c.loop-ran.invariant.far.place))
-
-pub slice_bounds-run_part-count : goal.slice_bounds-run_part-count
-slice_bounds-run_part-count c = c.end_of-end.ensures.after
-
-pub slice_bounds-run_part-start : goal.slice_bounds-run_part-start
-slice_bounds-run_part-start c = c.end_of-end.ensures.after
-
-pub slice_bounds-run_part-end : goal.slice_bounds-run_part-end
-slice_bounds-run_part-end c = c.end_of-end.ensures.within
-
-pub run_part-ran-requires : goal.run_part-ran-requires
-run_part-ran-requires c = part_asks _ c.end_of-end.ensures
 
 pub overflow_add-ran : goal.overflow_add-ran
 overflow_add-ran c =
@@ -54,11 +39,6 @@ returns-then-not-goes_on c =
     let pre = known.requires in
     returns_stop c.loop-ran.invariant part ran pre.0
     (λ i. omega (arith, known.slice_known-1.given i)) pre.1 _ c.goes_on.ensures (ap not c.if-not-goes_on.true)
-
-pub loop-ran-smaller : goal.loop-ran-smaller
-loop-ran-smaller c =
-    let part = c.end_of-end.ensures in
-    omega (arith, part.more c.if-end-requests.false, part.within)
 
 pub loop-ran-preserved : goal.loop-ran-preserved
 loop-ran-preserved c =
