@@ -63,18 +63,16 @@ pub(crate) fn run_parts(
     let mut state = state;
     let mut at = 0;
     let mut taken = 0;
+    // Not `for` over `chunks`, which gives none of an empty list: that is run too.
     loop {
         let end = end_of(n, at, requests.len());
         let mut ran = run_part(n, d, domains, tables, agenda, &requests[at..end], state);
-        ran.taken = taken + ran.taken;
-        if end == requests.len() {
-            return ran;
-        }
-        if !goes_on(ran) {
+        taken += ran.taken;
+        ran.taken = taken;
+        if end == requests.len() || !goes_on(ran) {
             return ran;
         }
         state = ran.state;
-        taken = ran.taken;
         at = end;
     }
 }

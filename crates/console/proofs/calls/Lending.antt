@@ -64,10 +64,6 @@ module _ {before words : List ℕ} {k : ℕ} (y : List ℕ) (t : Lent k before w
   left_again : take k (y ++ drop k words) ≡ y
   left_again = take_at y (drop k words) k left_length
 
-  -- The whole is as long as it was.
-  pub left_long : length before ≡ length (y ++ drop k words)
-  left_long = rw (length-append, length-drop) (omega (arith, left_length, t.room, t.long))
-
   pub left_fits : k ≤ length (y ++ drop k words)
   left_fits = rw length-append (omega (arith, left_length))
 

@@ -285,17 +285,3 @@ module _ {file domains tables agenda : List ℕ} where
         },
         unloaded_narrow file,
       )
-
--- ---- at an equal state
-
-pub runs_state : (n d : ℕ) (domains tables before after requests : List ℕ) (s s' : State) (r : Ran) → s ≡ s'
-    → RunsBytes n d domains tables before after requests s r → RunsBytes n d domains tables before after requests s' r
-runs_state n d domains tables before after requests s s' r e h = subst (λ (x : State). RunsBytes n d domains tables before after requests x r) e h
-
-pub chooses_state : (n d : ℕ) (domains tables before after : List ℕ) (limit : ℕ) (s s' : State) (r : Ran) → s ≡ s'
-    → ChoosesBytes n d domains tables before after limit s r → ChoosesBytes n d domains tables before after limit s' r
-chooses_state n d domains tables before after limit s s' r e h = subst (λ (x : State). ChoosesBytes n d domains tables before after limit x r) e h
-
-pub saves_state : (n d : ℕ) (domains tables agenda : List ℕ) (s s' : State) (before after : List ℕ) (r : Saved) → s ≡ s'
-    → SavesBytes n d domains tables agenda s before after r → SavesBytes n d domains tables agenda s' before after r
-saves_state n d domains tables agenda s s' before after r e h = subst (λ (x : State). SavesBytes n d domains tables agenda x before after r) e h

@@ -1,61 +1,20 @@
 -- How much of an agenda a run needs, and what of it is written back.
 -- Assumes nothing.
-use mathlib.Core.Path.{◌≡◌, refl, sym, ap, ap₂, subst, ◌∙◌}
+use mathlib.Core.Path.{◌≡◌, refl, sym, ap, subst, ◌∙◌}
 use mathlib.Core.Logic.{◌⊎◌, inl, inr}
 use mathlib.Core.Bool.{Bool, true}
-use mathlib.Core.List.{List, ◌++◌}
-use Prim.Native.Nat.{ℕ, ◌+◌, ◌-◌, ◌*◌, ◌/◌, ◌%◌, ◌^◌, ◌≤◌, ◌<◌, min}
+use mathlib.Core.List.{List}
+use Prim.Native.Nat.{ℕ, ◌+◌, ◌-◌, ◌*◌, ◌/◌, ◌%◌, ◌≤◌, ◌<◌, min}
 use native.Mathlib.Omega.{arith}
-use native.Mathlib.Nat.{mul-le-mul, mul-le-mul_right, lt_of_mul-lt-mul_right, div-le_self, div-add-mod'}
+use native.Mathlib.Nat.{mul-le-mul_right, lt_of_mul-lt-mul_right, div-add-mod'}
 use native.Mathlib.Decide.{dec_lt}
 use lib.ListN.{length, get_or, take, drop, length-drop, get_or-eq_default}
-use lib.Seq.{take_all, take-take, length-take-le, get_or-drop}
-use borrow.Rule.Slice.PartMut.{put_mid, Post-is}
-use Rattle.word_bytes.specs.Bytes.{Whole, Fits, bytes_of, zeros}
-use Rattle.word_bytes.specs.Calls.{Writes}
-use Rattle.word_bytes.proofs.Words.{writes_front}
+use lib.Seq.{take_all, length-take-le, get_or-drop}
+use Rattle.word_bytes.specs.Bytes.{Whole, Fits, zeros}
 use Rattle.word_bytes.proofs.Zero.{zeros_each}
 use Rattle.console.specs.Calls.{WholeProblem}
 use Rattle.console.specs.Loops.Rooms.{Room}
-use Rattle.console.specs.Loops.Fronts.{Front, WritesBack, Shorter, Reach, FrontOf}
-
--- ---- what is written back
-
-pub written_back : (n before taken after from to : ℕ) (words b bytes : List ℕ) → (from ≤ to) × (from ≤ (before - taken) * (n + 2))
-    → Front n before after (length words) to → length b ≡ 2 * length words
-    → Writes (take (to - from) (drop from words)) (take (2 * to - 2 * from) (drop (2 * from) b)) bytes
-    → WritesBack n before taken after words b (put_mid (2 * from) (2 * to - 2 * from) b bytes)
-written_back n before taken after from to words b bytes (order, lower) front long e =
-    let room : length (take (2 * to - 2 * from) (drop (2 * from) b)) ≡ 2 * to - 2 * from =
-    length-take-le _ (drop (2 * from) b) (rw length-drop (omega (arith, front.inside))) in
-    let half : length (take (2 * to - 2 * from) (drop (2 * from) b)) / 2 ≡ to - from = omega arith in
-    let count : length (take (to - from) (drop from words)) ≡ to - from = length-take-le _ (drop from words) (rw length-drop (omega (arith, front.inside))) in
-    let said : bytes ≡ bytes_of (take (to - from) (drop from words)) = writes_front (take (to - from) (drop from words)) (take (2 * to - 2 * from) (drop (2 * from) b)) bytes (omega arith) (omega arith) e ∙ ap bytes_of
-    (rw half (take-take (to - from) (to - from) (drop from words) (omega arith))) in
-    record {
-      from = from;
-      to = to;
-      order = order;
-      lower = lower;
-      front = front;
-      said = ap₂ (λ (y z : List ℕ). take (2 * from) b ++ (y ++ z)) said (Post-is (2 * from) (2 * to) b (omega arith));
-    }
-
--- ---- how much of an agenda a run needs
-
--- What the slots used and those that requests can add come to.
-pub reach_few : (n subproblems requests : ℕ) → n ≤ 32 → subproblems < 4294967296 → requests ≤ 1120 → (n + 1) * (requests / (2 * (n + 3))) ≤ 33 * 1120
-reach_few n subproblems requests few h l =
-    let each : n + 1 ≤ 33 = omega arith in
-    let count : requests / (2 * (n + 3)) ≤ 1120 = omega (arith, div-le_self requests (2 * (n + 3))) in
-    mul-le-mul each count
-
-pub reach_bytes : (n subproblems requests : ℕ) → n ≤ 32 → subproblems < 4294967296 → requests ≤ 1120
-    → (subproblems + (n + 1) * (requests / (2 * (n + 3))) + 1) * (2 * (n + 2)) < 2 ^ 64
-reach_bytes n subproblems requests few h l =
-    let slots : subproblems + (n + 1) * (requests / (2 * (n + 3))) + 1 ≤ 4295004300 = omega (arith, reach_few n subproblems requests few h l) in
-    let slot : 2 * (n + 2) ≤ 68 = omega arith in
-    omega (arith, mul-le-mul slots slot)
+use Rattle.console.specs.Loops.Fronts.{Shorter, Reach, FrontOf}
 
 -- Fewer bytes than there are.
 reach_shorter : (n subproblems requests agenda slots : ℕ) → agenda % (2 * (n + 2)) ≡ 0 → agenda ≤ 512 * (2 * (n + 2))

@@ -1,7 +1,7 @@
 -- A list of requests run a part at a time: what was run so far, and how it ends.
 -- Assumes nothing.
 use mathlib.Core.Path.{◌≡◌, refl, sym, ap, subst, ◌∙◌}
-use mathlib.Core.Bool.{Bool, true, false, cond, not}
+use mathlib.Core.Bool.{Bool, true, false, cond}
 use mathlib.Core.List.{List, ◌++◌, append_assoc}
 use Prim.Native.Nat.{ℕ, ◌+◌, ◌-◌, ◌*◌, ◌/◌, ◌%◌, ◌^◌, ◌≤◌, ◌<◌}
 use native.Mathlib.Omega.{arith}
@@ -10,7 +10,7 @@ use native.Mathlib.Decide.{dec_lt}
 use lib.ListN.{length, get_or, take, drop, length-drop, take-append-drop}
 use lib.Seq.{length-take-le, take-add, take-length}
 use lib.Dec.{eqb}
-use borrow.Author.Tests.{not-true, not-false, eqb-true, eq-eqb}
+use borrow.Author.Tests.{eqb-true, eq-eqb}
 use Rattle.problem.proofs.Tests.{and_left, and_right, true_false}
 use Rattle.search.specs.FirstChecks.{WholeRequests}
 use Rattle.searches.specs.Verdicts.{number_of}
@@ -75,14 +75,6 @@ part_full n at bytes listed h (k, e) l =
       place = place;
       rest = between n (at + 400 * (n + 3)) bytes place (listed.requests, listed.whole) (omega arith);
     }
-
--- What a part asks.
-pub part_asks : {n at end : ℕ} (l : List ℕ) → Part n at (length l) end
-    → (length (take (end - at) (drop at l)) % 2 ≡ 0) × (length (take (end - at) (drop at l)) ≤ 14000)
-part_asks {n} {at} {end} l part =
-    let long : length (take (end - at) (drop at l)) ≡ end - at = length-take-le (end - at) (drop at l) (rw length-drop (omega (arith, part.within)))
-    in
-    (rw long (whole_even n (end - at) part.whole), rw long part.short)
 
 -- ---- whether it goes on
 
@@ -249,9 +241,9 @@ module _ {n d : ℕ} {domains tables before requests : List ℕ} {s : State} {mi
   }
 
   -- What the next part goes on with.
-  pub go_again : (b : Bool) → b ≡ goes_on (joined taken q) → not b ≡ false
+  pub go_again : (b : Bool) → b ≡ goes_on (joined taken q) → b ≡ true
       → SoFar n d domains tables before requests s left q.state end (taken + q.taken)
-  go_again b e y = so_far_more (sym e ∙ not-false b y)
+  go_again b e y = so_far_more (sym e ∙ y)
 
   pub stepped_again : q.state.counts.steps.0 < 2 ^ 32
   unfolding here
@@ -271,6 +263,6 @@ module _ {n d : ℕ} {domains tables before requests : List ℕ} {s : State} {mi
     pub returns_end : end ≡ length requests → Runs n d domains tables before left (words_of requests) s (joined taken q) × Narrow (joined taken q)
     returns_end e = narrow_too (so_far_end e)
 
-    pub returns_stop : (b : Bool) → b ≡ goes_on (joined taken q) → not b ≡ true
+    pub returns_stop : (b : Bool) → b ≡ goes_on (joined taken q) → b ≡ false
         → Runs n d domains tables before left (words_of requests) s (joined taken q) × Narrow (joined taken q)
-    returns_stop b e y = narrow_too (so_far_stop (sym e ∙ not-true b y))
+    returns_stop b e y = narrow_too (so_far_stop (sym e ∙ y))

@@ -2,9 +2,8 @@
 use mathlib.Core.Bool.{not}
 use mathlib.Core.Path.{refl, ap}
 use native.Mathlib.Omega.{arith}
-use Rattle.word_bytes.proofs.Fitting.{count_is}
 use Rattle.console.proofs.rooms.Testing.{room_true, room_whole, room_false}
-use Rattle.console.proofs.calls.Lending.{said_last, left_long, chooses_words, choose_fits}
+use Rattle.console.proofs.calls.Lending.{said_last, chooses_words, choose_fits}
 use Rattle.console.proofs.calls.Refusing.{chooses_turned, chooses_long}
 use Rattle.console.proofs.calls.choose.Goals as goal
 
@@ -12,32 +11,6 @@ pub returns-then-not-room_for : goal.returns-then-not-room_for
 returns-then-not-room_for c =
     chooses_long c.requires (λ i. omega (arith, c.type_inv.agenda i)) c.refused.ensures
     (λ w. room_false _ _ _ _ _ c.room_for.ensures (ap not c.if-not-room_for.true) w (λ f. f))
-
-pub slice_bounds-domain_words-end : goal.slice_bounds-domain_words-end
-slice_bounds-domain_words-end c = c.three_of-made.ensures.of_first.lent.room
-
-pub slice_bounds-choose-end : goal.slice_bounds-choose-end
-slice_bounds-choose-end c = count_is c.three_of-made.ensures.of_first.lent
-
-pub slice_bounds-table_words-end : goal.slice_bounds-table_words-end
-slice_bounds-table_words-end c = c.three_of-made.ensures.of_third.lent.room
-
-pub slice_bounds-choose-end-2 : goal.slice_bounds-choose-end-2
-slice_bounds-choose-end-2 c = count_is c.three_of-made.ensures.of_third.lent
-
-pub slice_bounds-agenda_words-end : goal.slice_bounds-agenda_words-end
-slice_bounds-agenda_words-end c = c.three_of-made.ensures.of_second.lent.room
-
-pub slice_bounds-choose-end-3 : goal.slice_bounds-choose-end-3
-slice_bounds-choose-end-3 c = count_is c.three_of-made.ensures.of_second.lent
-
-pub slice_bounds-bytes_of-end : goal.slice_bounds-bytes_of-end
-slice_bounds-bytes_of-end c =
-    let called = c in
-    left_long called.choose-ran.new.agenda called.three_of-made.ensures.of_second.lent called.choose-ran.auto.agenda
-
-pub shape_of-agenda : goal.shape_of-agenda
-shape_of-agenda c = c.bytes_of.auto.bytes
 
 pub returns : goal.returns
 returns c =

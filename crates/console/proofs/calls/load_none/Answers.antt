@@ -1,5 +1,4 @@
 -- `console::calls::load_none` meets its contract.
-use mathlib.Core.Path.{refl}
 use Rattle.console.proofs.calls.Refusing.{none_loaded}
 use Rattle.console.proofs.calls.load_none.Goals as goal
 

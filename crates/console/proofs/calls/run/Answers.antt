@@ -1,8 +1,7 @@
 -- `console::calls::run` meets its contract.
 use mathlib.Core.Bool.{not}
-use mathlib.Core.Path.{sym, ap}
+use mathlib.Core.Path.{ap}
 use native.Mathlib.Omega.{arith}
-use lib.Seq.{length-take-le}
 use Rattle.console.proofs.rooms.Testing.{room_then, room_false, listed_then, listed_even}
 use Rattle.console.proofs.fronts.Measuring.{front_fits, front_room, front_whole_problem}
 use Rattle.console.proofs.calls.Refusing.{runs_long, runs_turned, runs_cut}
@@ -21,12 +20,6 @@ pub returns-then-not-room_for : goal.returns-then-not-room_for
 returns-then-not-room_for c =
     runs_long c.requires (λ i. omega (arith, c.slice_known-1.given i)) c.refused-then-not-room_for.ensures
     (λ w. room_false _ _ _ _ _ c.room_for.ensures (ap not c.if-not-room_for.true) w (front_fits c.front_of-front.ensures))
-
-pub slice_bounds-run_words-end : goal.slice_bounds-run_words-end
-slice_bounds-run_words-end c = c.front_of-front.ensures.reach.inside
-
-pub slice_bounds-run_words-end-2 : goal.slice_bounds-run_words-end-2
-slice_bounds-run_words-end-2 c = sym (length-take-le _ _ c.front_of-front.ensures.reach.inside)
 
 pub run_words-requires : goal.run_words-requires
 run_words-requires c = (

@@ -1,28 +1,8 @@
 -- `console::calls::run_long` meets its contract.
 use mathlib.Core.Path.{refl}
 use native.Mathlib.Omega.{arith}
-use Rattle.word_bytes.proofs.Fitting.{count_is}
-use Rattle.console.proofs.calls.Lending.{said_one, left_fits, left_count, left_bytes, runs_at}
+use Rattle.console.proofs.calls.Lending.{said_one, left_bytes, runs_at}
 use Rattle.console.proofs.calls.run_long.Goals as goal
-
-pub slice_bounds-words-end : goal.slice_bounds-words-end
-slice_bounds-words-end c = c.words_of-room.ensures.lent.room
-
-pub slice_bounds-run_parts-end : goal.slice_bounds-run_parts-end
-slice_bounds-run_parts-end c = count_is c.words_of-room.ensures.lent
-
-pub run_parts-ran-requires : goal.run_parts-ran-requires
-run_parts-ran-requires c = c.requires.1
-
-pub slice_bounds-words-end-2 : goal.slice_bounds-words-end-2
-slice_bounds-words-end-2 c =
-    let called = c in
-    left_fits called.run_parts-ran.new.agenda called.words_of-room.ensures.lent called.run_parts-ran.auto.agenda
-
-pub slice_bounds-write_back-end : goal.slice_bounds-write_back-end
-slice_bounds-write_back-end c =
-    let called = c in
-    left_count called.run_parts-ran.new.agenda called.words_of-room.ensures.lent called.run_parts-ran.auto.agenda
 
 pub write_back-requires : goal.write_back-requires
 write_back-requires c =

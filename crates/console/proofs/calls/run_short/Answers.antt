@@ -1,32 +1,10 @@
 -- `console::calls::run_short` meets its contract.
 use mathlib.Core.Path.{refl}
 use native.Mathlib.Omega.{arith}
-use Rattle.word_bytes.proofs.Fitting.{count_is, words_said}
+use Rattle.word_bytes.proofs.Fitting.{words_said}
 use Rattle.console.proofs.rooms.Testing.{listed_even}
-use Rattle.console.proofs.calls.Lending.{said_one, left_fits, left_count, left_bytes, few_runs, runs_at}
+use Rattle.console.proofs.calls.Lending.{said_one, left_bytes, few_runs, runs_at}
 use Rattle.console.proofs.calls.run_short.Goals as goal
-
-pub slice_bounds-words-end : goal.slice_bounds-words-end
-slice_bounds-words-end c = c.words_of-room.ensures.lent.room
-
-pub slice_bounds-run-end : goal.slice_bounds-run-end
-slice_bounds-run-end c = count_is c.words_of-room.ensures.lent
-
-pub slice_bounds-listed-end : goal.slice_bounds-listed-end
-slice_bounds-listed-end c = c.words_of-count.ensures.lent.room
-
-pub slice_bounds-run-end-2 : goal.slice_bounds-run-end-2
-slice_bounds-run-end-2 c = count_is c.words_of-count.ensures.lent
-
-pub slice_bounds-words-end-2 : goal.slice_bounds-words-end-2
-slice_bounds-words-end-2 c =
-    let called = c in
-    left_fits called.run-ran.new.agenda called.words_of-room.ensures.lent called.run-ran.auto.agenda
-
-pub slice_bounds-write_back-end : goal.slice_bounds-write_back-end
-slice_bounds-write_back-end c =
-    let called = c in
-    left_count called.run-ran.new.agenda called.words_of-room.ensures.lent called.run-ran.auto.agenda
 
 pub write_back-requires : goal.write_back-requires
 write_back-requires c =

@@ -1,11 +1,8 @@
 -- `console::fronts::front_of` meets its contract.
-use Rattle.console.proofs.fronts.Measuring.{front_zeros, front_whole}
+use Rattle.console.proofs.fronts.Measuring.{front_zeros}
 use Rattle.console.proofs.fronts.front_of.Goals as goal
 
 pub returns-then-zeros : goal.returns-then-zeros
 returns-then-zeros c =
     front_zeros _ _ _ c.args.agenda.now _ _ c.reach-front.ensures
     c.zeros.ensures c.if-zeros.true
-
-pub returns-else-zeros : goal.returns-else-zeros
-returns-else-zeros c = front_whole _ _ _ _

@@ -1,13 +1,15 @@
 -- `console::parts::run_parts` meets its contract. The invariant: whatever is run of what the parts so far left is run after them.
-use mathlib.Core.Bool.{not}
-use mathlib.Core.Path.{refl, ap}
+use mathlib.Core.Path.{refl}
+use Prim.Native.Nat.{ℕ, ◌^◌, ◌<◌}
 use native.Mathlib.Omega.{arith}
-use Rattle.console.proofs.parts.SoFar.{part_asks, so_far_none, part_taken, go_again, stepped_again, returns_end, returns_stop}
+use lib.ListN.{get_or}
+use Rattle.console.proofs.parts.SoFar.{so_far_none, part_taken, go_again, stepped_again, returns_end, returns_stop}
 use borrow.Author.Rules.{rules}
+use Rattle.console.proofs.parts.run_parts.Goals.{then-end-requests-via-then-end-requests, then-end-requests-via-else-end-requests+then-not-goes_on}
 use Rattle.console.proofs.parts.run_parts.Goals as goal
 
-pub loop-ran-init : goal.loop-ran-init
-loop-ran-init c =
+pub loop-at-init : goal.loop-at-init
+loop-at-init c =
     record {
       far = so_far_none _ _ _ _ _ _ _;
       long = refl;
@@ -16,57 +18,30 @@ loop-ran-init c =
       begun = search rules;
     }
 
-pub end_of-end-requires : goal.end_of-end-requires
-end_of-end-requires c = (c.requires.0, (c.loop-ran.invariant.far.inside, c.loop-ran.invariant.far.place))
-
-pub slice_bounds-run_part-count : goal.slice_bounds-run_part-count
-slice_bounds-run_part-count c = c.end_of-end.ensures.after
-
-pub slice_bounds-run_part-start : goal.slice_bounds-run_part-start
-slice_bounds-run_part-start c = c.end_of-end.ensures.after
-
-pub slice_bounds-run_part-end : goal.slice_bounds-run_part-end
-slice_bounds-run_part-end c = c.end_of-end.ensures.within
-
-pub run_part-ran-requires : goal.run_part-ran-requires
-run_part-ran-requires c = part_asks _ c.end_of-end.ensures
-
-pub overflow_add-ran : goal.overflow_add-ran
-overflow_add-ran c =
+pub overflow_add-taken : goal.overflow_add-taken
+overflow_add-taken c =
     let part = c.end_of-end.ensures in
-    let inv = c.loop-ran.invariant in
+    let inv = c.loop-at.invariant in
     record { fits = omega (arith, part_taken inv part c.run_part-ran.ensures, part.within, part.after, inv.far.few) }
 
 pub returns-then-end-requests : goal.returns-then-end-requests
 returns-then-end-requests c =
-    let ran = c.run_part-ran.ensures in
     let part = c.end_of-end.ensures in
-    let known = c in
-    let pre = known.requires in
-    returns_end c.loop-ran.invariant part ran pre.0
-    (λ i. omega (arith, known.slice_known-1.given i)) pre.1 c.if-end-requests.true
+    let small : (i : ℕ) → get_or c.args.agenda.now i 0 < 2 ^ 16 = λ i. omega (arith, c.slice_known-1.given i) in
+    elim c.then-end-requests.branch [
+      | then-end-requests-via-then-end-requests w ↦
+          returns_end c.loop-at.invariant part c.run_part-ran.ensures c.requires.0 small c.requires.1 w.if-end-requests.true
+      | then-end-requests-via-else-end-requests+then-not-goes_on w ↦
+          returns_stop c.loop-at.invariant part c.run_part-ran.ensures c.requires.0 small c.requires.1 _ w.goes_on.ensures w.if-not-goes_on.true
+    ]
 
-pub returns-then-not-goes_on : goal.returns-then-not-goes_on
-returns-then-not-goes_on c =
-    let ran = c.run_part-ran.ensures in
-    let part = c.end_of-end.ensures in
-    let known = c in
-    let pre = known.requires in
-    returns_stop c.loop-ran.invariant part ran pre.0
-    (λ i. omega (arith, known.slice_known-1.given i)) pre.1 _ c.goes_on.ensures (ap not c.if-not-goes_on.true)
-
-pub loop-ran-smaller : goal.loop-ran-smaller
-loop-ran-smaller c =
-    let part = c.end_of-end.ensures in
-    omega (arith, part.more c.if-end-requests.false, part.within)
-
-pub loop-ran-preserved : goal.loop-ran-preserved
-loop-ran-preserved c =
-    let inv = c.loop-ran.invariant in
+pub loop-at-preserved : goal.loop-at-preserved
+loop-at-preserved c =
+    let inv = c.loop-at.invariant in
     let part = c.end_of-end.ensures in
     let ran = c.run_part-ran.ensures in
     record {
-      far = go_again inv part ran _ c.goes_on.ensures (ap not c.if-not-goes_on.false);
+      far = go_again inv part ran _ c.goes_on.ensures c.if-not-goes_on.false;
       long = search rules;
       small = λ i. omega (arith, c.type_inv.agenda i);
       stepped = stepped_again inv part ran;

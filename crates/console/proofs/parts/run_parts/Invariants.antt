@@ -4,8 +4,8 @@ use lib.ListN.{length}
 use Rattle.console.proofs.parts.SoFar.{Going}
 use Rattle.console.proofs.parts.run_parts.Given as goal
 
-abbrev pub invariant-loop-ran : goal.invariant-loop-ran
-invariant-loop-ran l = Going l.n l.d l.domains l.tables l.initial.agenda l.requests l.initial.state l.agenda l.state l.at l.taken
+abbrev pub invariant-loop-at : goal.invariant-loop-at
+invariant-loop-at l = Going l.n l.d l.domains l.tables l.initial.agenda l.requests l.initial.state l.agenda l.state l.at l.taken
 
-abbrev pub decreases-loop-ran : goal.decreases-loop-ran
-decreases-loop-ran l = length l.requests - l.at
+abbrev pub decreases-loop-at : goal.decreases-loop-at
+decreases-loop-at l = length l.requests - l.at
