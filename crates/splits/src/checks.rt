@@ -7,6 +7,7 @@ ghost use Rattle.splits.specs.Calls.{ChecksOf};
 ghost use Rattle.problem.specs.Ranges.{Inside};
 ghost use Rattle.splits.specs.Loops.Kinds.{LookedAt};
 
+use crate::kind::Kind;
 use crate::subproblem::Subproblem;
 use crate::words;
 use problem::{mask, tables};
@@ -85,13 +86,15 @@ pub fn checks(top: Subproblem, n: usize, d: usize, tables: &[u16], request: &[u1
 {
     let variable = words::variable(request);
     let value = words::value(request);
-    if tables::within(n, d, tables, variable, value) {
-        match words::kind(request) {
-            1 => look(top, n, d, tables, variable, value).count,
-            2 | 3 => values_in_others(top, n, variable),
-            _ => 0,
-        }
-    } else {
-        0
+    if !tables::within(n, d, tables, variable, value) {
+        return 0;
+    }
+    let Ok(kind) = words::kind(request) else {
+        return 0;
+    };
+    match kind {
+        Kind::Backtracking => look(top, n, d, tables, variable, value).count,
+        Kind::ForwardChecking | Kind::Idc => values_in_others(top, n, variable),
+        Kind::Halving | Kind::Extraction => 0,
     }
 }

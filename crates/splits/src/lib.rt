@@ -3,6 +3,7 @@
 
 pub mod at_once;
 pub mod checks;
+pub mod kind;
 pub mod refusal;
 pub mod split;
 pub mod subproblem;

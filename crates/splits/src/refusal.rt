@@ -1,11 +1,13 @@
 // Which refusal a request deserves, of 7 to 10.
 ghost use Rattle.std.specs.Prelude.{◌≡◌, cond, ◌||◌};
 ghost use Rattle.problem.specs.Refused.{told};
-ghost use Rattle.splits.specs.Requests.{kind_of, variable_of, value_of};
+ghost use Rattle.splits.specs.Requests.{variable_of, value_of};
+ghost use Rattle.splits.specs.Kinds.{kind_number};
 ghost use Rattle.splits.specs.Tests.Refusals.{bad, some_bad, all_same};
 ghost use Rattle.splits.specs.Loops.Kinds.{deserves9, refusal_of_variable};
 ghost use Rattle.splits.specs.Calls.{RefusalOf};
 
+use crate::kind::Kind;
 use crate::subproblem::Subproblem;
 use crate::words;
 use problem::mask;
@@ -22,10 +24,9 @@ fn is_target_bad(target: u16, domain: u16) -> bool
 pub fn refusal(top: Subproblem, n: usize, d: usize, request: &[u16]) -> Result<(), Refusal>
     ensures { RefusalOf top n d request.now (told result) }
 {
-    match words::kind(request) {
-        1..=4 => refusal_of_variable(top, n, d, request),
-        5 => refusal_of_targets(top, n, request),
-        _ => Err(Refusal::Kind),
+    match words::kind(request)? {
+        Kind::Extraction => refusal_of_targets(top, n, request),
+        kind => refusal_of_variable(top, n, d, kind, request),
     }
 }
 
@@ -54,10 +55,10 @@ fn refusal_of_targets(top: Subproblem, n: usize, request: &[u16]) -> Result<(), 
 }
 
 // Whether V, with this domain, deserves 9: kind 4, if it has one value; kinds 1 to 3, if v is d or more, or not in it.
-fn deserves_9(domain: u16, d: usize, request: &[u16]) -> bool
-    ensures { result ≡ deserves9 d domain (kind_of request.now) (value_of request.now) }
+fn deserves_9(domain: u16, d: usize, kind: Kind, request: &[u16]) -> bool
+    ensures { result ≡ deserves9 d domain (kind_number kind) (value_of request.now) }
 {
-    if words::kind(request) == 4 {
+    if kind == Kind::Halving {
         return mask::count(domain) == 1;
     }
     let value = words::value(request);
@@ -69,15 +70,16 @@ fn refusal_of_variable(
     top: Subproblem,
     n: usize,
     d: usize,
+    kind: Kind,
     request: &[u16],
 ) -> Result<(), Refusal>
-    ensures { told result ≡ refusal_of_variable n d top (kind_of request.now) (variable_of request.now) (value_of request.now) }
+    ensures { told result ≡ refusal_of_variable n d top (kind_number kind) (variable_of request.now) (value_of request.now) }
 {
     let variable = words::variable(request);
     if n <= variable || top.is_instantiated(variable) {
         return Err(Refusal::Variable);
     }
-    if deserves_9(top.domain(variable), d, request) {
+    if deserves_9(top.domain(variable), d, kind, request) {
         return Err(Refusal::Value);
     }
     Ok(())

@@ -2,11 +2,13 @@
 ghost use Rattle.std.specs.Prelude.{◌≡◌, ◌+◌, ◌≤◌, ◌<◌, cond, ltb};
 ghost use Rattle.problem.specs.Problem.{table_of};
 ghost use Rattle.splits.specs.Requests.{kind_of, variable_of};
+ghost use Rattle.splits.specs.Kinds.{kind_number};
 ghost use Rattle.splits.specs.Splits.{backtracked, checked, inferred, halved, extracted, candidates};
 ghost use Rattle.splits.specs.Calls.{Piece, Candidates};
 ghost use Rattle.problem.specs.Ranges.{Inside};
 ghost use Rattle.splits.specs.Loops.Kinds.{around_value};
 
+use crate::kind::Kind;
 use crate::subproblem::Subproblem;
 use crate::{checks, words};
 use problem::{beside, mask, tables};
@@ -114,10 +116,12 @@ pub fn candidates(n: usize, request: &[u16]) -> usize
     if 32 < n {
         return 0;
     }
-    match words::kind(request) {
-        1 | 2 | 4 => 2,
-        3 | 5 => n + 1,
-        _ => 0,
+    let Ok(kind) = words::kind(request) else {
+        return 0;
+    };
+    match kind {
+        Kind::Idc | Kind::Extraction => n + 1,
+        Kind::Backtracking | Kind::ForwardChecking | Kind::Halving => 2,
     }
 }
 
@@ -128,10 +132,11 @@ fn around_value(
     n: usize,
     d: usize,
     tables: &[u16],
+    kind: Kind,
     request: &[u16],
     k: usize,
 ) -> Subproblem
-    requires { (k < candidates n request.now) × (kind_of request.now ≤ 3) }
+    requires { (k < candidates n request.now) × ((kind_number kind ≡ kind_of request.now) × (kind_of request.now ≤ 3)) }
     ensures { result ≡ around_value top n d tables.now request.now k }
 {
     let variable = words::variable(request);
@@ -139,9 +144,9 @@ fn around_value(
     if !tables::within(n, d, tables, variable, value) {
         return top;
     }
-    match words::kind(request) {
-        1 => return backtracking(top, n, d, tables, variable, value, k),
-        2 => return forward_checking(top, n, d, tables, variable, value, k),
+    match kind {
+        Kind::Backtracking => return backtracking(top, n, d, tables, variable, value, k),
+        Kind::ForwardChecking => return forward_checking(top, n, d, tables, variable, value, k),
         _ => return idc(top, n, d, tables, variable, value, k),
     }
 }
@@ -160,9 +165,12 @@ pub fn piece(
     if candidates(n, request) <= k {
         return top;
     }
-    match words::kind(request) {
-        4 => return halving(top, n, request, k),
-        5 => return extraction(top, n, request, k),
-        _ => return around_value(top, n, d, tables, request, k),
+    let Ok(kind) = words::kind(request) else {
+        return top;
+    };
+    match kind {
+        Kind::Halving => return halving(top, n, request, k),
+        Kind::Extraction => return extraction(top, n, request, k),
+        _ => return around_value(top, n, d, tables, kind, request, k),
     }
 }

@@ -1,6 +1,10 @@
 // Words in lent memory, and the words of a request: kind, variable, value, then a target for each variable.
 ghost use Rattle.std.specs.Prelude.{◌≡◌, ◌+◌, ◌<◌, get_or};
 ghost use Rattle.splits.specs.Requests.{kind_of, variable_of, value_of, target_of};
+ghost use Rattle.splits.specs.Kinds.{Decodes};
+
+use crate::kind::Kind;
+use problem::refusal::Refusal;
 
 // The word at a place; 0 past the end.
 pub(crate) fn word(words: &[u16], at: usize) -> u16
@@ -9,10 +13,11 @@ pub(crate) fn word(words: &[u16], at: usize) -> u16
     words.get(at).copied().unwrap_or(0)
 }
 
-pub(crate) fn kind(request: &[u16]) -> usize
-    ensures { result ≡ kind_of request.now }
+// Refused 7 where the word names no kind.
+pub(crate) fn kind(request: &[u16]) -> Result<Kind, Refusal>
+    ensures { Decodes (kind_of request.now) result }
 {
-    usize::from(word(request, 0))
+    Kind::try_from(word(request, 0))
 }
 
 pub(crate) fn variable(request: &[u16]) -> usize

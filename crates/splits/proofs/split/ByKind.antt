@@ -146,7 +146,7 @@ module _ (n d : ℕ) (t r : List ℕ) (P : Subproblem) (V' v : ℕ) (its_variabl
 
 -- a request with a k-th candidate is of kind 1 to 5, and of kind 3 or 5 has n + 1
 module _ (n : ℕ) (r : List ℕ) (k : ℕ) (more : k < candidates n r) (kind : ℕ) (its_kind : kind ≡ kind_of r) where
-  named : (kind < 1) ⊎ (5 < kind) → ⊥
+  pub named : (kind < 1) ⊎ (5 < kind) → ⊥
   unfolding candidates
   named h = let none : candidates n r ≡ 0 = no_kind (kind_of r) _ _ _ _ _ _ (rw (← its_kind) h) in omega (arith, more)
 

@@ -1,43 +1,56 @@
 -- `splits::checks::checks` meets its contract, kind by kind.
-use mathlib.Core.Path.{sym, ◌∙◌}
-use mathlib.Core.Logic.{inl, inr}
+use mathlib.Core.Bool.{not}
+use mathlib.Core.Path.{refl, sym, ◌∙◌, ap}
+use mathlib.Core.Logic.{inl, inr, ⊎_elim}
+use native.Mathlib.Omega.{arith}
+use borrow.Author.Tests.{not-true, not-false}
 use Rattle.problem.proofs.tables.Ranges.{inside_true}
+use Rattle.splits.specs.Kinds.{kind_number}
+use Rattle.splits.specs.declared.kind.Kind.TheVariants.{ForwardChecking, Idc, Halving, Extraction}
+use Rattle.splits.proofs.Numbering.{kind_is}
 use Rattle.splits.proofs.split.ByKind.{checks_out, checks_1, checks_2_3, checks_none}
 use Rattle.splits.proofs.checks.checks.Goals as goal
 
-pub look-requires : goal.look-requires
-look-requires c = inside_true _ _ _ _ _ (sym c.within.ensures ∙ c.if-within.true)
-
-pub values_in_others-requires : goal.values_in_others-requires
-values_in_others-requires c =
-    (inside_true _ _ _ _ _ (sym c.within.ensures ∙ c.if-within.true)).fit.few
-
-pub returns-in-1 : goal.returns-in-1
-returns-in-1 c =
-    checks_1 _ _ _ _ _ _ _ c.variable-variable.ensures
-    c.value-value.ensures _ c.kind.ensures
-    (sym c.within.ensures ∙ c.if-within.true) _ c.in-1.is
-    c.look.ensures.counted
-
-pub returns-in-2 : goal.returns-in-2
-returns-in-2 c =
-    checks_2_3 _ _ _ _ _ _ _ c.variable-variable.ensures
-    c.value-value.ensures _ c.kind.ensures
-    (sym c.within.ensures ∙ c.if-within.true) _
-    c.in-2.in_default-own.rest.1 c.in-2.if-this-lt1-own.false c.in-2.if-this-lt4-own.true c.values_in_others.ensures
+pub returns-then-not-within : goal.returns-then-not-within
+returns-then-not-within c =
+    checks_out _ _ _ _ _ _ _ c.variable-variable.ensures c.value-value.ensures
+    (sym c.within.ensures ∙ not-true _ (ap not c.if-not-within.true))
 
 pub returns-in_default : goal.returns-in_default
 returns-in_default c =
-    checks_none _ _ _ _ _ _ _ c.variable-variable.ensures
-    c.value-value.ensures _ c.kind.ensures c.in_default.in_default-own.rest.1 (inl c.in_default.if-this-lt1-own.true)
+    checks_none _ _ _ _ _ _ _ c.variable-variable.ensures c.value-value.ensures _ refl
+    (λ e. ⊎_elim (λ l. absurd (omega arith)) (λ l. absurd (omega arith)) c.in_default.ensures.1)
+    (⊎_elim inl (λ l. inr (omega arith)) c.in_default.ensures.1)
 
-pub returns-in_default-2 : goal.returns-in_default-2
-returns-in_default-2 c =
-    checks_none _ _ _ _ _ _ _ c.variable-variable.ensures
-    c.value-value.ensures _ c.kind.ensures
-    c.in_default.in_default-own.rest.1 (inr c.in_default.if-this-lt4-own.false)
+pub look-requires : goal.look-requires
+look-requires c = inside_true _ _ _ _ _ (sym c.within.ensures ∙ not-false _ (ap not c.if-not-within.false))
 
-pub returns-else-within : goal.returns-else-within
-returns-else-within c =
-    checks_out _ _ _ _ _ _ _ c.variable-variable.ensures c.value-value.ensures
-    (sym c.within.ensures ∙ c.if-within.false)
+pub values_in_others-requires : goal.values_in_others-requires
+values_in_others-requires c =
+    (inside_true _ _ _ _ _ (sym c.within.ensures ∙ not-false _ (ap not c.if-not-within.false))).fit.few
+
+pub returns-in-Backtracking : goal.returns-in-Backtracking
+returns-in-Backtracking c =
+    checks_1 _ _ _ _ _ _ _ c.variable-variable.ensures
+    c.value-value.ensures _ c.in-Ok.ensures
+    (sym c.within.ensures ∙ not-false _ (ap not c.if-not-within.false)) _ (ap kind_number c.in-Backtracking.is)
+    c.look.ensures.counted
+
+pub returns-in-ForwardChecking : goal.returns-in-ForwardChecking
+returns-in-ForwardChecking c =
+    let fits = sym c.within.ensures ∙ not-false _ (ap not c.if-not-within.false) in
+    ⊎_elim
+    (λ e. checks_2_3 _ _ _ _ _ _ _ c.variable-variable.ensures c.value-value.ensures _ (kind_is ForwardChecking c.in-Ok.ensures e) fits _
+    (λ z. absurd (omega arith)) (omega arith) (omega arith) c.values_in_others.ensures)
+    (λ e. checks_2_3 _ _ _ _ _ _ _ c.variable-variable.ensures c.value-value.ensures _ (kind_is Idc c.in-Ok.ensures e) fits _
+    (λ z. absurd (omega arith)) (omega arith) (omega arith) c.values_in_others.ensures)
+    c.in-ForwardChecking.is
+
+pub returns-in-Halving : goal.returns-in-Halving
+returns-in-Halving c =
+    ⊎_elim
+    (λ e. checks_none _ _ _ _ _ _ _ c.variable-variable.ensures c.value-value.ensures _ (kind_is Halving c.in-Ok.ensures e)
+    (λ z. absurd (omega arith)) (inr (omega arith)))
+    (λ e. checks_none _ _ _ _ _ _ _ c.variable-variable.ensures c.value-value.ensures _ (kind_is Extraction c.in-Ok.ensures e)
+    (λ z. absurd (omega arith)) (inr (omega arith)))
+    c.in-Halving.is

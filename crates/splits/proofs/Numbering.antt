@@ -1,0 +1,45 @@
+-- A kind and its number.
+-- Assumes nothing.
+use mathlib.Core.Path.{◌≡◌, refl, sym, ap, ◌∙◌}
+use mathlib.Core.List.{[], ◌∷◌}
+use lib.ListN.{get_or}
+use Prim.Native.Nat.{ℕ, ◌≤◌}
+use native.Mathlib.Omega.{arith}
+use Rattle.splits.specs.declared.kind.Kind.{Kind}
+use Rattle.splits.specs.declared.kind.Kind.TheVariants.{Backtracking, ForwardChecking, Idc, Halving, Extraction}
+use Rattle.splits.specs.Kinds.{kind_number}
+
+-- the kinds in the order of their numbers
+numbered : ℕ → Kind
+numbered k = get_or (Backtracking ∷ Backtracking ∷ ForwardChecking ∷ Idc ∷ Halving ∷ Extraction ∷ []) k Backtracking
+
+numbered_is : (kind : Kind) → numbered (kind_number kind) ≡ kind
+unfolding numbered
+numbered_is Backtracking = refl
+numbered_is ForwardChecking = refl
+numbered_is Idc = refl
+numbered_is Halving = refl
+numbered_is Extraction = refl
+
+-- No two have one number.
+pub kind_once : (a b : Kind) → kind_number a ≡ kind_number b → a ≡ b
+kind_once a b e = sym (numbered_is a) ∙ ap numbered e ∙ numbered_is b
+
+-- The number of a kind that is named.
+pub kind_is : {kind : Kind} {word : ℕ} (named : Kind) → kind_number kind ≡ word → kind ≡ named → kind_number named ≡ word
+kind_is named e is = ap kind_number (sym is) ∙ e
+
+-- A kind but the last is 1 to 4.
+pub kind_low : (kind : Kind) → (kind ≡ Extraction → ⊥) → (1 ≤ kind_number kind) × (kind_number kind ≤ 4)
+kind_low Backtracking f = (omega arith, omega arith)
+kind_low ForwardChecking f = (omega arith, omega arith)
+kind_low Idc f = (omega arith, omega arith)
+kind_low Halving f = (omega arith, omega arith)
+kind_low Extraction f = absurd (f refl)
+
+-- Of a kind but halving that is not its number.
+pub kind_not_4 : (kind : Kind) → (kind ≡ Halving → ⊥) → kind_number kind ≡ 4 → ⊥
+kind_not_4 kind f e = f (kind_once kind Halving e)
+
+pub kind_not_5 : (kind : Kind) → (kind ≡ Extraction → ⊥) → kind_number kind ≡ 5 → ⊥
+kind_not_5 kind f e = f (kind_once kind Extraction e)
