@@ -19,7 +19,8 @@ fn padded(rows: &[u16]) -> [u16; 16]
     all
 }
 
-// The masks of the values of `j` allowed beside each value of `i`; 16 of them as they stand, which is quick.
+// The masks of the values of `j` allowed beside each value of `i`; 16 of them as they stand. Always inlined, as all that `row_both_ways` compiles twice.
+#[inline(always)]
 fn matrix_at(n: usize, d: usize, tables: &[u16], i: usize, j: usize) -> Matrix
     requires { Sized n d tables.now × ((i < n) × (j < n)) }
     ensures { result ≡ matrix_of (padded d (table_of n d tables.now i j)) }
@@ -33,6 +34,7 @@ fn matrix_at(n: usize, d: usize, tables: &[u16], i: usize, j: usize) -> Matrix
 }
 
 // Bits for the values of `i` and `j` that are allowed one way only; 0 for none.
+#[inline(always)]
 fn one_way(n: usize, d: usize, tables: &[u16], i: usize, j: usize) -> u64
     requires { Sized n d tables.now × ((i < n) × (j < n)) }
     ensures { result ≡ one_way d (table_of n d tables.now) i j }
@@ -44,7 +46,8 @@ fn one_way(n: usize, d: usize, tables: &[u16], i: usize, j: usize) -> u64
 }
 
 // Whether no value of `i` is allowed one way only with one of a variable before it: so each two variables are looked at once.
-fn row_both_ways(n: usize, d: usize, tables: &[u16], i: usize) -> bool
+#[inline(always)]
+fn part_both_ways(n: usize, d: usize, tables: &[u16], i: usize) -> bool
     requires { Narrow n d tables.now × (i < n) }
     ensures { result ≡ row_both_ways d (table_of n d tables.now) i }
 {
@@ -53,6 +56,17 @@ fn row_both_ways(n: usize, d: usize, tables: &[u16], i: usize) -> bool
         bits |= one_way(n, d, tables, i, j);
     }
     bits == 0
+}
+
+// The same. The loop is compiled for 16 values too, with that number written out: then the machine takes several rows at once.
+fn row_both_ways(n: usize, d: usize, tables: &[u16], i: usize) -> bool
+    requires { Narrow n d tables.now × (i < n) }
+    ensures { result ≡ row_both_ways d (table_of n d tables.now) i }
+{
+    if d == 16 {
+        return part_both_ways(n, 16, tables, i);
+    }
+    part_both_ways(n, d, tables, i)
 }
 
 // Whether the values of every two variables are allowed both ways or neither.

@@ -1,7 +1,7 @@
--- `symmetry::row_both_ways` meets its contract: the loop's invariant: what is allowed one way only of every pair passed is together.
+-- `symmetry::part_both_ways` meets its contract: the loop's invariant: what is allowed one way only of every pair passed is together.
 use Rattle.problem.proofs.first_checks.Joining.{joined_none, joined_more, joined_end}
 use Rattle.problem.proofs.symmetry.Pairs.{row_found}
-use Rattle.problem.proofs.symmetry.row_both_ways.Goals as goal
+use Rattle.problem.proofs.symmetry.part_both_ways.Goals as goal
 
 pub loop-j-init : goal.loop-j-init
 loop-j-init c = joined_none _
