@@ -18,7 +18,7 @@ use Rattle.problem.proofs.mask.Masks.{bit_le, bit_ext, bit_above, bit_common, bi
 use Rattle.problem.proofs.Tests.{every_at}
 use Rattle.search.specs.Agenda.{holding, subproblem_of, slot_at}
 use Rattle.search.specs.Loops.Slots.{SlotIn}
-use Rattle.search.specs.Loops.Lanes.{Half, Beyond, Below, Kept, KeptTo, key_of, Sides, Widened}
+use Rattle.search.specs.Loops.Lanes.{Half, Beyond, Below, Kept, KeptTo, key_of, Widened}
 use Rattle.problem.proofs.Copies.{drop_zeros, zeros_at}
 use Rattle.search.proofs.Encoding.{slot_lies}
 use Rattle.problem.proofs.first_checks.Joining.{bit_shr}
@@ -124,17 +124,6 @@ slot_lanes n k agenda lanes D m slot fits b kept e =
     e
 
 -- ---- the piece for a variable
-
--- The last lanes filled.
-pub sides_is : Sides 64 (replicate 32 0 ++ replicate 32 65535)
-sides_is = record {
-  long = refl;
-  none = λ j h. get_or-append (replicate 32 0) (replicate 32 65535) 0 j h ∙ zeros_at 32 j;
-  all = λ j a b.
-      let up : j ≡ 32 + (j - 32) = omega arith in
-      ap (λ (x : ℕ). get_or (replicate 32 0 ++ replicate 32 65535) x 0) up
-      ∙ get_or-append-add (replicate 32 0) (replicate 32 65535) (j - 32) 0 ∙ get_or-replicate 32 (j - 32) 65535 0 (omega arith);
-}
 
 -- A mask that stays by no bits, and is all bits by all.
 pub widened_is : (mask lane : ℕ) → Widened mask lane (bit_or mask lane)
