@@ -67,7 +67,9 @@ pub(crate) fn sides() -> [u16; 64]
     ensures { Sides 64 result }
 {
     let mut lanes = [0u16; 64];
-    lanes[32..].fill(65535);
+    for i in 32..64 {
+        lanes[i] = 65535;
+    }
     lanes
 }
 

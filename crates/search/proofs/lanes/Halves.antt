@@ -9,16 +9,15 @@ use native.Mathlib.Decide.{dec_lt, ℕ_discrete}
 use lib.ListN.{length, get_or, set, take, drop, replicate, length-set, length-append, length-take, length-drop, length-replicate, get_or-append, get_or-replicate}
 use lib.Seq.{length-take-le, get_or-set_same, get_or-set_other, get_or-take, get_or-append-add, take-take, ext_get_or}
 use lib.Bits.{bit_or, or_zero_r}
-use lib.Pow.{pow_mono, pow_pos}
 use lib.Dec.{eqb, leb}
 use borrow.Author.Tests.{eqb-true, le-leb, lt-leb}
 use Rattle.problem.specs.Masks.{bit, common, size}
 use Rattle.problem.specs.Lists.{every}
-use Rattle.problem.proofs.mask.Masks.{bit_le, bit_ext, bit_above, bit_common, bit-bit_or, all_set, all_common, common_none, shifted}
+use Rattle.problem.proofs.mask.Masks.{bit_le, bit_ext, bit_above, bit_common, bit-bit_or, all_set, all_common, common_none}
 use Rattle.problem.proofs.Tests.{every_at}
 use Rattle.search.specs.Agenda.{holding, subproblem_of, slot_at}
 use Rattle.search.specs.Loops.Slots.{SlotIn}
-use Rattle.search.specs.Loops.Lanes.{Half, Beyond, Below, Kept, KeptTo, key_of, Sides, Widened}
+use Rattle.search.specs.Loops.Lanes.{Half, Beyond, Below, Kept, KeptTo, key_of, Widened}
 use Rattle.problem.proofs.Copies.{drop_zeros, zeros_at}
 use Rattle.search.proofs.Encoding.{slot_lies}
 use Rattle.problem.proofs.first_checks.Joining.{bit_shr}
@@ -40,10 +39,6 @@ key_in set from half m i e h v s k f = f ∙ rw (e i h, ← s) refl
 all_beyond : every 33 (λ i. every 32 (λ j. eqb (bit (4294967296 - 2 ^ i) j) (cond (leb i j) 1 0))) ≡ true
 unfolding every bit
 all_beyond = refl
-
--- As the code shifts.
-pub shift_small : (i : ℕ) → i ≤ 32 → (1 ≤ 1 * 2 ^ i % 2 ^ 64) × (1 * 2 ^ i % 2 ^ 64 ≤ 4294967296)
-shift_small i h = rw (shifted i h) (pow_pos i, pow_mono h)
 
 pub beyond_is : (i : ℕ) → i ≤ 32 → Beyond i (4294967296 - 2 ^ i)
 beyond_is i h = record {
@@ -124,17 +119,6 @@ slot_lanes n k agenda lanes D m slot fits b kept e =
     e
 
 -- ---- the piece for a variable
-
--- The last lanes filled.
-pub sides_is : Sides 64 (replicate 32 0 ++ replicate 32 65535)
-sides_is = record {
-  long = refl;
-  none = λ j h. get_or-append (replicate 32 0) (replicate 32 65535) 0 j h ∙ zeros_at 32 j;
-  all = λ j a b.
-      let up : j ≡ 32 + (j - 32) = omega arith in
-      ap (λ (x : ℕ). get_or (replicate 32 0 ++ replicate 32 65535) x 0) up
-      ∙ get_or-append-add (replicate 32 0) (replicate 32 65535) (j - 32) 0 ∙ get_or-replicate 32 (j - 32) 65535 0 (omega arith);
-}
 
 -- A mask that stays by no bits, and is all bits by all.
 pub widened_is : (mask lane : ℕ) → Widened mask lane (bit_or mask lane)

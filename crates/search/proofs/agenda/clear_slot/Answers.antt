@@ -4,8 +4,5 @@ use Rattle.problem.specs.Lists.{splice}
 use Rattle.search.proofs.Encoding.{slot_none}
 use Rattle.search.proofs.agenda.clear_slot.Goals as goal
 
-pub write_slot-requires : goal.write_slot-requires
-write_slot-requires c = c.requires
-
 pub returns : goal.returns
 returns c = c.write_slot.ensures ∙ ap (splice _ _) (slot_none _ c.requires.few)

@@ -12,9 +12,6 @@ rest-requires c =
     let v = put_variable _ _ _ _ _ _ _ c.requires.0 in
     omega (arith, c.requires.0.fitting.few)
 
-pub write_slot-requires : goal.write_slot-requires
-write_slot-requires c = c.requires.0.slot
-
 pub precluded-requires : goal.precluded-requires
 precluded-requires c =
     let v = put_variable _ _ _ _ _ _ _ c.requires.0 in

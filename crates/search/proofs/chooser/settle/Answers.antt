@@ -6,12 +6,6 @@ use Rattle.search.proofs.chooser.Settling.{settle_kept, settle_none, settle_rest
 use borrow.Author.Rules.{rules}
 use Rattle.search.proofs.chooser.settle.Goals as goal
 
-pub precluded-requires : goal.precluded-requires
-precluded-requires c = c.requires.0
-
-pub write_slot-requires : goal.write_slot-requires
-write_slot-requires c = c.requires.1
-
 pub returns-then-not-choice : goal.returns-then-not-choice
 returns-then-not-choice c =
     let long : length c.precluded.result.domains ≡ 32 = search rules in
@@ -19,17 +13,8 @@ returns-then-not-choice c =
     c.if-not-choice.true _ c.precluded.ensures long
     c.write_slot.ensures
 
-pub clear_slot-requires : goal.clear_slot-requires
-clear_slot-requires c = c.requires.1
-
 pub returns-then-choice-eq1 : goal.returns-then-choice-eq1
 returns-then-choice-eq1 c = search (rules, settle_none)
-
-pub rest-requires : goal.rest-requires
-rest-requires c = c.requires.0
-
-pub write_slot-requires-2 : goal.write_slot-requires-2
-write_slot-requires-2 c = c.requires.1
 
 pub returns : goal.returns
 returns c =

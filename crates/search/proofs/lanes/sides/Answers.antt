@@ -1,6 +1,8 @@
 -- `search::lanes::sides` meets its contract.
-use Rattle.search.proofs.lanes.Halves.{sides_is}
+use mathlib.Core.Path.{refl}
+use native.Mathlib.Omega.{arith}
+use Rattle.problem.proofs.Copies.{zeros_at}
 use Rattle.search.proofs.lanes.sides.Goals as goal
 
-pub returns : goal.returns
-returns c = rw (c.fill.ensures.after (λ y e. e)) sides_is
+pub loop-i-init : goal.loop-i-init
+loop-i-init c = record { long = refl; none = λ j h. zeros_at 64 j; all = λ j h k. absurd (omega arith) }
