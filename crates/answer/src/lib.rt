@@ -21,29 +21,14 @@ use searches::verdict::Verdict;
 fn at_most(number: usize, most: usize) -> usize
     ensures { (number ≤ most → result ≡ number) × (result ≤ most) }
 {
-    if number <= most {
-        return number;
-    }
-    0
+    if number <= most { number } else { 0 }
 }
 
-// Room for the domains, the tables and the agenda of the largest file.
-fn room_for_domains() -> [u16; 32]
-    ensures { 32 ≡ length result }
+// So many words, all zero.
+fn zeros<const N: usize>() -> [u16; N]
+    ensures { N ≡ length result }
 {
-    [0; 32]
-}
-
-fn room_for_tables() -> [u16; 16384]
-    ensures { 16384 ≡ length result }
-{
-    [0; 16384]
-}
-
-fn room_for_agenda() -> [u16; 17408]
-    ensures { 17408 ≡ length result }
-{
-    [0; 17408]
+    [0; N]
 }
 
 // The program's whole text for a file.
@@ -55,9 +40,10 @@ pub fn answer_to(file: &[u8]) -> Text
     let d = at_most(header.d, 16);
     let masks = n * n * d;
     let room = 512 * (n + 2);
-    let mut domains = room_for_domains();
-    let mut tables = room_for_tables();
-    let mut agenda = room_for_agenda();
+    // As many as the largest file has.
+    let mut domains = zeros::<32>();
+    let mut tables = zeros::<16384>();
+    let mut agenda = zeros::<17408>();
     answer_in(
         file,
         &mut domains[..n],
@@ -104,12 +90,7 @@ fn text_of(n: usize, agenda: &[u16], ran: Ran) -> Text
 fn is_solved(verdict: Verdict) -> bool
     ensures { result ≡ eqb (number_of verdict) 2 }
 {
-    match verdict {
-        Verdict::None => false,
-        Verdict::Running => false,
-        Verdict::Solved => true,
-        Verdict::Unsolvable => false,
-    }
+    verdict == Verdict::Solved
 }
 
 // The lines of the top of so many subproblems.

@@ -29,7 +29,7 @@ fn digit(value: u64) -> u8
     requires { value < 10 }
     ensures { result ≡ 48 + value }
 {
-    48 + value as u8
+    b'0' + value as u8
 }
 
 impl Text {
@@ -50,10 +50,8 @@ impl Text {
         ensures { Adds self word.now result }
     {
         let mut text = self;
-        let mut i = 0;
-        while i < word.len() {
-            text = text.with_byte(word[i]);
-            i += 1;
+        for byte in word {
+            text = text.with_byte(*byte);
         }
         text
     }
@@ -88,7 +86,7 @@ impl Text {
         let text = self.with_word(b"steps ").with_number(steps as u64);
         text.with_word(b" checks ")
             .with_number(checks)
-            .with_byte(10)
+            .with_byte(b'\n')
     }
 
     // The line of a refusal.
@@ -97,15 +95,15 @@ impl Text {
     {
         self.with_word(b"refused ")
             .with_number(refusal as u64)
-            .with_byte(10)
+            .with_byte(b'\n')
     }
 
     // The line of a variable: number, the lowest value of its domain.
     fn with_value(self, variable: usize, domain: u16) -> Text
         ensures { Adds self (plan_line variable (lowest domain)) result }
     {
-        let text = self.with_number(variable as u64).with_byte(32);
-        text.with_number(mask::lowest(domain) as u64).with_byte(10)
+        let text = self.with_number(variable as u64).with_byte(b' ');
+        text.with_number(mask::lowest(domain) as u64).with_byte(b'\n')
     }
 
     // A line for each of the domains.
@@ -113,10 +111,8 @@ impl Text {
         ensures { Adds self (value_lines (length domains.now) domains.now) result }
     {
         let mut text = self;
-        let mut i = 0;
-        while i < domains.len() {
-            text = text.with_value(i, domains[i]);
-            i += 1;
+        for (i, domain) in domains.iter().enumerate() {
+            text = text.with_value(i, *domain);
         }
         text
     }

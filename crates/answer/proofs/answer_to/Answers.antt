@@ -13,7 +13,7 @@ overflow_mul-masks-2 c = let few = masks_few _ _ c.at_most-n.ensures.1 c.at_most
 
 pub slice_bounds-answer_in-end : goal.slice_bounds-answer_in-end
 slice_bounds-answer_in-end c =
-    part_length _ 32 _ c.room_for_domains-domains.ensures c.at_most-n.ensures.1
+    part_length _ 32 _ c.zeros-domains.ensures c.at_most-n.ensures.1
 
 pub slice_bounds-tables-end : goal.slice_bounds-tables-end
 slice_bounds-tables-end c =
@@ -23,14 +23,14 @@ slice_bounds-tables-end c =
 
 pub slice_bounds-answer_in-end-2 : goal.slice_bounds-answer_in-end-2
 slice_bounds-answer_in-end-2 c =
-    part_length _ 16384 _ c.room_for_tables-tables.ensures
+    part_length _ 16384 _ c.zeros-tables.ensures
     (masks_few _ _ c.at_most-n.ensures.1
     c.at_most-d.ensures.1)
 
 pub slice_bounds-answer_in-end-3 : goal.slice_bounds-answer_in-end-3
 slice_bounds-answer_in-end-3 c =
     let few = c.at_most-n.ensures.1 in
-    part_length _ 17408 _ c.room_for_agenda-agenda.ensures (omega (arith, few))
+    part_length _ 17408 _ c.zeros-agenda.ensures (omega (arith, few))
 
 pub answer_in-requires : goal.answer_in-requires
 answer_in-requires c =
@@ -39,14 +39,14 @@ answer_in-requires c =
     let d-is = said.its_d in
     lent c.args.file.now
     c.at_most-n.result
-    c.at_most-d.result c.room_for_domains-domains.result
-    c.room_for_tables-tables.result c.room_for_agenda-agenda.result
+    c.at_most-d.result c.zeros-domains.result
+    c.zeros-tables.result c.zeros-agenda.result
     (λ h. c.at_most-n.ensures.0 (omega (arith, n-is, h)) ∙ n-is)
     (λ h. c.at_most-d.ensures.0 (omega (arith, d-is, h)) ∙ d-is)
     c.at_most-n.ensures.1
     c.at_most-d.ensures.1
-    c.room_for_domains-domains.ensures c.room_for_tables-tables.ensures
-    c.room_for_agenda-agenda.ensures
+    c.zeros-domains.ensures c.zeros-tables.ensures
+    c.zeros-agenda.ensures
 
 pub returns : goal.returns
 returns c = c.answer_in.ensures

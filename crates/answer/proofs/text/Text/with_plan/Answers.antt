@@ -9,13 +9,12 @@ use Rattle.answer.proofs.text.Text.with_plan.Goals as goal
 
 pub loop-i-init : goal.loop-i-init
 unfolding value_lines
-loop-i-init c = (search rules, adds_none _)
+loop-i-init c = adds_none _
 
 pub loop-i-preserved : goal.loop-i-preserved
-loop-i-preserved c = (omega arith, adds_line _ _ _ _ _ _ refl c.loop-i.invariant.1 c.with_value-text.ensures)
+loop-i-preserved c = adds_line _ _ _ _ _ _ refl c.loop-i.invariant c.with_value-text.ensures
 
 pub returns : goal.returns
 returns c =
-    let inv = c.loop-i.invariant in
     let end : c.loop-i.i ≡ length c.args.domains.now = omega arith in
-    adds_same _ _ _ _ (ap (λ k. value_lines k c.args.domains.now) end) inv.1
+    adds_same _ _ _ _ (ap (λ k. value_lines k c.args.domains.now) end) c.loop-i.invariant

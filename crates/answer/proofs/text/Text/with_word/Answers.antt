@@ -6,14 +6,13 @@ use Rattle.answer.proofs.Writing.{adds_none, adds_next, adds_word}
 use borrow.Author.Rules.{rules}
 use Rattle.answer.proofs.text.Text.with_word.Goals as goal
 
-pub loop-i-init : goal.loop-i-init
-loop-i-init c = (search rules, adds_none _)
+pub loop-byte-init : goal.loop-byte-init
+loop-byte-init c = adds_none _
 
-pub loop-i-preserved : goal.loop-i-preserved
-loop-i-preserved c =
-    (omega arith, adds_next _ _ _ _ _ _ c.loop-i-test.true refl c.loop-i.invariant.1 c.with_byte-text.ensures)
+pub loop-byte-preserved : goal.loop-byte-preserved
+loop-byte-preserved c = adds_next _ _ _ _ _ _ (omega arith) refl c.loop-byte.invariant c.with_byte-text.ensures
 
 pub returns : goal.returns
-returns c = let inv = c.loop-i.invariant in
-    let end : c.loop-i.i ≡ length c.args.word.now = omega arith in
-    adds_word _ _ _ _ end inv.1
+returns c =
+    let end : c.loop-byte.byte-index ≡ length c.args.word.now = omega arith in
+    adds_word _ _ _ _ end c.loop-byte.invariant

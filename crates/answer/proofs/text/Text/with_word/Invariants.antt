@@ -1,11 +1,7 @@
 -- `answer::text::Text::with_word` meets its contract.
-use Prim.Native.Nat.{◌≤◌, ◌-◌}
-use lib.ListN.{length, take}
+use lib.ListN.{take}
 use Rattle.answer.specs.Loops.Writing.{Adds}
 use Rattle.answer.proofs.text.Text.with_word.Given as goal
 
-abbrev pub invariant-loop-i : goal.invariant-loop-i
-invariant-loop-i l = (l.i ≤ length l.word) × Adds l.initial.text (take l.i l.word) l.text
-
-abbrev pub decreases-loop-i : goal.decreases-loop-i
-decreases-loop-i l = length l.word - l.i
+abbrev pub invariant-loop-byte : goal.invariant-loop-byte
+invariant-loop-byte l = Adds l.initial.text (take l.byte-index l.word) l.text
