@@ -12,6 +12,7 @@ use crate::agenda;
 use crate::state::{Checks, Counts, State, Steps};
 use problem::refusal::Refusal;
 use problem::tables;
+use splits::kind::Kind;
 use splits::subproblem::Subproblem;
 use splits::{at_once, checks, refusal, split};
 
@@ -102,14 +103,14 @@ fn keeps_none(
     }
     let j = k - 1;
     let domain = top.domain(j);
-    if request[0] == 3 {
-        let beside = tables::allowed(n, d, tables, request[1] as usize, j, request[2] as usize);
-        return at_once::outside(domain, beside) == 0;
+    match Kind::try_from(request[0]) {
+        Ok(Kind::Idc) => {
+            let beside = tables::allowed(n, d, tables, request[1] as usize, j, request[2] as usize);
+            at_once::outside(domain, beside) == 0
+        }
+        Ok(Kind::Extraction) => at_once::outside(domain, request[3 + j]) == 0,
+        _ => false,
     }
-    if request[0] == 5 {
-        return at_once::outside(domain, request[3 + j]) == 0;
-    }
-    false
 }
 
 // The pieces written from slot `from` on, the last named lowest; the number of slots then used.
