@@ -7,6 +7,7 @@ ghost use Rattle.std.specs.Prelude.{◌≡◌, ◌+◌, ◌-◌, ◌*◌, ◌≤
 ghost use Rattle.problem.specs.Masks.{lowest};
 ghost use Rattle.splits.specs.Subproblems.{domain};
 ghost use Rattle.search.specs.Agenda.{subproblem_of, slot_at};
+ghost use Rattle.search.specs.Outcomes.{ran as ran_of};
 ghost use Rattle.searches.specs.Verdicts.{number_of};
 ghost use Rattle.answer.specs.Text.{plan_of, text_from};
 ghost use Rattle.answer.specs.Calls.{Answers};
@@ -57,19 +58,20 @@ fn answer_in(file: &[u8], domains: &mut [u16], tables: &mut [u16], agenda: &mut 
     requires { Lends file.now (length domains.old) (length tables.old) (length agenda.old) }
     ensures { Answers file.now result }
 {
-    let loaded = files::load(file, domains, tables, agenda);
-    if loaded.refusal != 0 {
-        return text::start().with_refusal(loaded.refusal);
+    match files::load(file, domains, tables, agenda) {
+        Err(refusal) => text::start().with_refusal(refusal),
+        Ok(loaded) => {
+            let n = loaded.n;
+            let ran = search::choose(n, loaded.d, domains, tables, agenda, 1000000, loaded.state);
+            text_of(n, agenda, ran)
+        }
     }
-    let n = loaded.n;
-    let ran = search::choose(n, loaded.d, domains, tables, agenda, 1000000, loaded.state);
-    text_of(n, agenda, ran)
 }
 
 // The text of a run and the agenda that it leaves.
 fn text_of(n: usize, agenda: &[u16], ran: Ran) -> Text
-    requires { Shows n agenda.now ran }
-    ensures { Holds result (text_from n agenda.now ran) }
+    requires { Shows n agenda.now (ran_of ran) }
+    ensures { Holds result (text_from n agenda.now (ran_of ran)) }
 {
     let verdict = ran.verdict;
     let steps = ran.state.counts.steps.0;
@@ -77,8 +79,8 @@ fn text_of(n: usize, agenda: &[u16], ran: Ran) -> Text
     let text = text::start()
         .with_verdict(verdict)
         .with_counts(steps, checks);
-    if ran.refusal != 0 {
-        return text.with_refusal(ran.refusal);
+    if let Some(refusal) = ran.refusal {
+        return text.with_refusal(refusal);
     }
     if is_solved(verdict) {
         return with_top(text, n, agenda, ran.state.subproblems);

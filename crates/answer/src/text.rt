@@ -1,10 +1,12 @@
 // The text of an answer, written from the front.
 ghost use Rattle.std.specs.Prelude.{◌≡◌, [], ◌∷◌, ◌+◌, ◌<◌, ◌≤◌, length};
 ghost use Rattle.problem.specs.Masks.{lowest};
+ghost use Rattle.problem.specs.Refused.{number_of};
 ghost use Rattle.answer.specs.Text.{decimal, verdict_line, counts_line, plan_line, refused_line};
 ghost use Rattle.answer.specs.Loops.Writing.{Holds, Adds, value_lines};
 
 use problem::mask;
+use problem::refusal::Refusal;
 use searches::verdict::Verdict;
 
 // So many bytes of text, zeros after it.
@@ -90,11 +92,11 @@ impl Text {
     }
 
     // The line of a refusal.
-    pub(crate) fn with_refusal(self, refusal: u32) -> Text
-        ensures { Adds self (refused_line refusal) result × (length (refused_line refusal) ≤ 29) }
+    pub(crate) fn with_refusal(self, refusal: Refusal) -> Text
+        ensures { Adds self (refused_line (number_of refusal)) result × (length (refused_line (number_of refusal)) ≤ 29) }
     {
         self.with_word(b"refused ")
-            .with_number(refusal as u64)
+            .with_number(u32::from(refusal) as u64)
             .with_byte(b'\n')
     }
 

@@ -7,6 +7,7 @@ use Rattle.problem.specs.Refused.{number_of, told}
 use Rattle.problem.specs.Tests.FirstChecks.{or_else}
 use Rattle.problem.proofs.Tests.{true_false}
 use Rattle.problem.proofs.first_checks.Parts.{else_first}
+use Prim.Native.Nat.{◌<◌}
 use native.Mathlib.Omega.{arith}
 
 -- No refusal has the number 0.
@@ -26,6 +27,24 @@ never_0 Room h = omega arith
 never_0 Buffer h = omega arith
 never_0 Blocks h = omega arith
 never_0 Content h = omega arith
+
+-- The numbers end at 15.
+pub number_small : (refusal : Refusal) → number_of refusal < 16
+number_small Variables = omega arith
+number_small Values = omega arith
+number_small Lengths = omega arith
+number_small Masks = omega arith
+number_small OneWay = omega arith
+number_small Search = omega arith
+number_small Kind = omega arith
+number_small Variable = omega arith
+number_small Value = omega arith
+number_small Targets = omega arith
+number_small Steps = omega arith
+number_small Room = omega arith
+number_small Buffer = omega arith
+number_small Blocks = omega arith
+number_small Content = omega arith
 
 -- the refusals in the order of their numbers
 numbered : ℕ → Refusal
