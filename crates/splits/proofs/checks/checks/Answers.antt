@@ -1,4 +1,4 @@
--- `splits::checks::checks` meets its contract, kind by kind.
+-- `checks::checks` meets its contract, kind by kind.
 use mathlib.Core.Path.{sym, ◌∙◌}
 use mathlib.Core.Logic.{inl, inr}
 use Rattle.problem.proofs.tables.Ranges.{inside_true}

@@ -1,4 +1,4 @@
--- `splits::split::piece` meets its contract, kind by kind.
+-- `split::piece` meets its contract, kind by kind.
 use mathlib.Core.Logic.{inr}
 use Rattle.splits.proofs.split.ByKind.{piece_over, some_place, to_three, peel_place, piece_3, piece_4, piece_5}
 use Rattle.splits.proofs.split.piece.Goals as goal
