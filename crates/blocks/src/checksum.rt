@@ -39,8 +39,7 @@ pub(crate) fn check(block: &[u8]) -> u16
     requires { length block.now ≡ 512 }
     ensures { result ≡ check_of (head_of block.now 0) }
 {
-    let words = block::words_of(block);
-    closed(sum(&words[..256]))
+    closed(sum(&block::words_of(block)))
 }
 
 // The sum of the first 255 words of bytes; those past the end are 0, and add nothing.

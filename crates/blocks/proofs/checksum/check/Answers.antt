@@ -7,5 +7,5 @@ use Rattle.blocks.proofs.checksum.check.Goals as goal
 pub returns : goal.returns
 returns c =
     let words = c in
-    let read = sum_read _ _ _ words.words_of-words.ensures c.sum.ensures in
+    let read = sum_read _ _ _ words.words_of.ensures c.sum.ensures in
     c.closed.ensures ∙ check_made _ _ _ _ _ (λ i. omega (arith, words.type_inv.block i)) read refl refl

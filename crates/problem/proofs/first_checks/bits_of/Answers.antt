@@ -1,4 +1,4 @@
--- `first::bits_of` meets its contract: the loop's invariant: the bits of the words passed are together.
+-- `first_checks::bits_of` meets its contract: the loop's invariant: the bits of the words passed are together.
 use mathlib.Core.Path.{refl}
 use Rattle.problem.specs.Lists.{row_in}
 use Rattle.problem.proofs.first_checks.Joining.{joined_none, joined_more}

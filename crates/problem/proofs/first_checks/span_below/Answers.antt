@@ -1,4 +1,4 @@
--- `first::span_below` meets its contract: all bits of the masks together, which stand in a row.
+-- `first_checks::span_below` meets its contract: all bits of the masks together, which stand in a row.
 use Rattle.problem.proofs.first_checks.Joining.{in_span, span_found}
 use Rattle.problem.proofs.first_checks.span_below.Goals as goal
 

@@ -1,4 +1,4 @@
--- `first::tables_below` meets its contract: of 16 values no word has a bit too many; else the loop's invariant: every row passed is below 2 ^ d.
+-- `first_checks::tables_below` meets its contract: of 16 values no word has a bit too many; else the loop's invariant: every row passed is below 2 ^ d.
 use mathlib.Core.Bool.{not}
 use mathlib.Core.Path.{sym, ap}
 use Rattle.problem.proofs.FirstLoops.{every_start, every_stop, every_turn}

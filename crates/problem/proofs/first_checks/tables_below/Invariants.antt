@@ -1,4 +1,4 @@
--- `first::tables_below` meets its contract: of 16 values no word has a bit too many; else the loop's invariant: every row passed is below 2 ^ d.
+-- `first_checks::tables_below` meets its contract: of 16 values no word has a bit too many; else the loop's invariant: every row passed is below 2 ^ d.
 use mathlib.Core.Bool.{true}
 use mathlib.Core.Path.{◌≡◌}
 use Rattle.problem.specs.Problem.{table_of}

@@ -1,4 +1,4 @@
--- `splits::mask::smaller_half` meets its contract.
+-- `mask::smaller_half` meets its contract.
 use Rattle.problem.specs.Masks.{smaller_half_of, smallest_of}
 use Prim.Native.Nat.{ℕ, ◌+◌, ◌/◌}
 use mathlib.Core.Path.{◌∙◌, ap}

@@ -1,4 +1,4 @@
--- `splits::mask::smallest_of` meets its contract.
+-- `mask::smallest_of` meets its contract.
 use native.Mathlib.Nat.{lt_of_lt_of_le}
 use Rattle.problem.proofs.mask.Halves.{turn_lt, turn_kept}
 use Rattle.problem.proofs.mask.Masks.{only_is}

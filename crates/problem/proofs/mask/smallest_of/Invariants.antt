@@ -1,4 +1,4 @@
--- `splits::mask::smallest_of` meets its contract.
+-- `mask::smallest_of` meets its contract.
 use Rattle.problem.specs.Masks.{smallest_of}
 use mathlib.Core.Path.{◌≡◌}
 use Rattle.problem.proofs.mask.smallest_of.Given as goal

@@ -1,4 +1,4 @@
--- `splits::checks::look` meets its contract.
+-- `checks::look` meets its contract.
 use Rattle.splits.proofs.checks.Counting.{Looking}
 use Rattle.problem.specs.Problem.{table_of}
 use Prim.Native.Nat.{◌≤◌}

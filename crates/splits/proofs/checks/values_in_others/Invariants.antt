@@ -1,4 +1,4 @@
--- `splits::checks::values_in_others` meets its contract.
+-- `checks::values_in_others` meets its contract.
 use Rattle.splits.specs.Checks.{values_in, others}
 use Prim.Native.Nat.{◌≤◌, ◌*◌}
 use mathlib.Core.Path.{◌≡◌}

@@ -1,4 +1,4 @@
--- `splits::split::around_value` meets its contract, kind by kind.
+-- `split::around_value` meets its contract, kind by kind.
 use mathlib.Core.Bool.{not}
 use mathlib.Core.Logic.{inl}
 use mathlib.Core.Path.{◌≡◌, sym, ◌∙◌, ap}

@@ -1,4 +1,4 @@
--- `splits::split::backtracking` meets its contract.
+-- `split::backtracking` meets its contract.
 use Rattle.splits.proofs.split.Places.{backtracked_none, backtracked_first, backtracked_rest, its_only}
 use Rattle.splits.proofs.split.backtracking.Goals as goal
 

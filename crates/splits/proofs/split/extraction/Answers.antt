@@ -1,4 +1,4 @@
--- `splits::split::extraction` meets its contract.
+-- `split::extraction` meets its contract.
 use Rattle.splits.proofs.split.Places.{extracted_first, extracted_later}
 use Rattle.splits.proofs.split.extraction.Goals as goal
 

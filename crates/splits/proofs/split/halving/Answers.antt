@@ -1,4 +1,4 @@
--- `splits::split::halving` meets its contract.
+-- `split::halving` meets its contract.
 use borrow.Author.Tests.{lt-ltb}
 use Rattle.splits.proofs.split.Places.{halved_first, halved_rest}
 use Rattle.splits.proofs.split.halving.Goals as goal

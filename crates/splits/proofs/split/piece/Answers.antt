@@ -1,4 +1,4 @@
--- `splits::split::piece` meets its contract, kind by kind.
+-- `split::piece` meets its contract, kind by kind.
 use mathlib.Core.Logic.{inr}
 use Rattle.splits.specs.declared.kind.Kind.TheVariants.{Halving, Extraction}
 use Rattle.splits.proofs.Numbering.{kind_is, kind_not_4, kind_not_5}

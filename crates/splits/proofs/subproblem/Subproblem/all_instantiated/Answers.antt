@@ -1,4 +1,4 @@
--- `splits::subproblem::Subproblem::all_instantiated` meets its contract.
+-- `subproblem::Subproblem::all_instantiated` meets its contract.
 use Rattle.splits.proofs.subproblem.Subproblems.{marks_all, marks_over}
 use mir.Syntax.{w32}
 use mir.Val.{Fits}

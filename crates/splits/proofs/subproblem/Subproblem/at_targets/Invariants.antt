@@ -1,4 +1,4 @@
--- `splits::subproblem::Subproblem::at_targets` meets its contract.
+-- `subproblem::Subproblem::at_targets` meets its contract.
 use Rattle.splits.specs.Splits.{at_targets}
 use mathlib.Core.Path.{◌≡◌}
 use Rattle.splits.proofs.subproblem.Subproblem.at_targets.Given as goal

@@ -1,4 +1,4 @@
--- `splits::subproblem::Subproblem::cut` meets its contract.
+-- `subproblem::Subproblem::cut` meets its contract.
 use Rattle.splits.proofs.subproblem.Subproblems.{cut_out}
 use Rattle.splits.specs.Splits.{cut}
 use mathlib.Core.Path.{refl}

@@ -1,4 +1,4 @@
--- `splits::subproblem::Subproblem::cut_each` meets its contract. The invariant: the first i domains are cut.
+-- `subproblem::Subproblem::cut_each` meets its contract. The invariant: the first i domains are cut.
 use mathlib.Core.Path.{◌≡◌}
 use Rattle.splits.proofs.subproblem.Rows.{cut_to}
 use Rattle.splits.proofs.subproblem.Subproblem.cut_each.Given as goal

@@ -1,4 +1,4 @@
--- `splits::subproblem::Subproblem::without` meets its contract.
+-- `subproblem::Subproblem::without` meets its contract.
 use Rattle.splits.proofs.subproblem.Subproblems.{without_in, without_out}
 use lib.ListN.{get_or}
 use mir.Syntax.{w16}
