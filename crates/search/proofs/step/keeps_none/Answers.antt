@@ -4,19 +4,10 @@ use mathlib.Core.Logic.{inl, inr}
 use native.Mathlib.Omega.{arith}
 use lib.ListN.{length}
 use Rattle.splits.proofs.split.ByKind.{few}
-use Rattle.search.proofs.step.Keeping.{tells_none, place_3, own_variable, keeps_none_3, keeps_none_5}
+use Rattle.search.proofs.step.Keeping.{place_3, own_variable, keeps_none_3, keeps_none_5}
 use Rattle.problem.proofs.tables.Ranges.{allowed_any}
 use borrow.Author.Rules.{rules}
 use Rattle.search.proofs.step.keeps_none.Goals as goal
-
-pub returns-then-k-eq0 : goal.returns-then-k-eq0
-returns-then-k-eq0 c = tells_none _ _ _ _ _ _
-
-pub overflow_cast-request : goal.overflow_cast-request
-overflow_cast-request c = omega (arith, c.type_inv.request 1)
-
-pub overflow_cast-request-then-request-eq3 : goal.overflow_cast-request-then-request-eq3
-overflow_cast-request-then-request-eq3 c = omega (arith, c.type_inv.request 2)
 
 pub returns-then-request-eq3 : goal.returns-then-request-eq3
 returns-then-request-eq3 c =
@@ -51,6 +42,3 @@ returns-then-request-eq5 c =
     keeps_none_5 _ _ _ _ k.0 _ long _ c.if-k-eq0.false
     (own_variable _ _ _ _ k.0 _ k.1.1 (inr c.if-request-eq5.true) c.if-k-eq0.false)
     _ _ _ c.outside-then-request-eq5.ensures c.domain-domain.ensures refl c.if-request-eq5.true
-
-pub returns : goal.returns
-returns c = tells_none _ _ _ _ _ _
