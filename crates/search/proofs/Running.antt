@@ -151,11 +151,6 @@ pub record Going (n d : ℕ) (t requests before : List ℕ) (start : State) (age
   pub same : run (problem_of n d [] t) (slots (slots_in n (length before))) (requests_in n requests) (search_of n before start)
       ≡ run_from (problem_of n d [] t) (slots (slots_in n (length before))) (drop taken (requests_in n requests)) (search_of n agenda s) taken
 
--- At the start none is taken.
-pub going_none : (n d : ℕ) (t requests before : List ℕ) (start : State) → Ready n d t before (search_of n before start)
-    → Going n d t requests before start before start 0
-going_none n d t requests before start h = record { ready = h; room = refl; same = refl }
-
 module _ (n d : ℕ) (t requests before : List ℕ) (start : State) (agenda : List ℕ) (s : State) (taken : ℕ) (g : Going n d t requests before start agenda s taken) where
   -- At the end of the list.
   pub going_end : taken ≡ length requests / (n + 3)

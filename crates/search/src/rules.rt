@@ -60,7 +60,7 @@ fn held_of(slot: &[u16], marked: u32, n: usize) -> [u16; 32]
 {
     let mut held = [0u16; 32];
     let mut i = next_in(marked, 0);
-    // No `for`: a test of each of n variables is slower than to go from one of the set to the next; likewise below.
+    // No `for`: this goes from one of the set to the next, where a range would test each of n variables.
     while i < n {
         held[i] = slot[i];
         i = next_in(marked, i + 1);

@@ -29,7 +29,6 @@ use Rattle.searches.specs.Chooser.{request}
 use Rattle.search.specs.Loops.Slots.{SlotIn}
 use Rattle.search.specs.Loops.Steps.{Replaced}
 use Rattle.splits.specs.AtOnce.{outside_to, filled}
-use Rattle.search.specs.Loops.Lanes.{BeforeTo}
 use Rattle.search.specs.Loops.Found.{AtTop, RoomFor, FurtherOf, FurtherPiece, several, value_in}
 use Rattle.search.specs.declared.chooser.Choice.{Choice}
 use Rattle.search.specs.declared.chooser.Further.{Further}
@@ -38,11 +37,6 @@ use Rattle.search.proofs.step.Gathering.{Gathered, gather_none, gather_drop, gat
 use Rattle.search.proofs.lanes.AtOnce.{word}
 use Rattle.search.proofs.chooser.Lone.{some_left}
 use Rattle.search.proofs.chooser.Settling.{several_kept, several_more, put_variable, put_member, put_reads, put_precluded, put_kept}
-
--- A further piece, by the two methods that make it.
-pub piece_made : (f : Further) (j : ℕ) (masks : List ℕ) (R Q : Subproblem) → BeforeTo f.row j 32 masks → R ≡ cut_each f.rest masks
-    → Q ≡ without R j (get_or f.row j 0) → FurtherPiece f j Q
-piece_made f j masks R Q b e h = (masks, b, h ∙ ap (λ (X : Subproblem). without X j (get_or f.row j 0)) e)
 
 module _ (n d : ℕ) (t : List ℕ) (P : Subproblem) (c : Choice) (below words : ℕ) (h : AtTop n d t P c below words) (s : several c ≡ true) where
   abbrev r : List ℕ

@@ -1,23 +1,16 @@
 -- `search::place_problem` meets its contract.
-use mathlib.Core.Path.{◌≡◌, ap, ◌∙◌}
+use mathlib.Core.Path.{◌≡◌}
 use native.Mathlib.Omega.{arith}
-use lib.ListN.{length, length-replicate}
+use lib.ListN.{length}
 use borrow.Author.Rules.{rules}
 use Rattle.search.proofs.Encoding.{length_slot}
-use Rattle.search.proofs.Opening.{first_slot, opens_none, opens_one}
+use Rattle.search.proofs.Opening.{opens_none, opens_one}
 use Rattle.search.proofs.place_problem.Goals as goal
 
 pub returns-then-is_empty : goal.returns-then-is_empty
 returns-then-is_empty c =
     opens_none _ _ _ c.requires _ c.holding-problem.ensures _
     c.is_empty.ensures _ c.clear.ensures c.if-is_empty.true
-
-pub write_slot-requires : goal.write_slot-requires
-write_slot-requires c =
-    first_slot _ c.args.domains.now
-    c.args.agenda.now
-    c.requires _
-    (ap length c.clear.ensures ∙ length-replicate _ 0)
 
 pub returns : goal.returns
 returns c =

@@ -5,7 +5,7 @@ use mathlib.Core.Bool.{Bool, true}
 use mathlib.Core.List.{List}
 use Prim.Native.Nat.{ℕ, ◌+◌, ◌-◌, ◌*◌, ◌≤◌, ◌<◌}
 use native.Mathlib.Omega.{arith}
-use native.Mathlib.Decide.{ℕ_discrete, dec_lt}
+use native.Mathlib.Decide.{ℕ_discrete}
 use lib.ListN.{length, get_or}
 use lib.Dec.{eqb}
 use borrow.Author.Tests.{ne_eqb}
@@ -18,7 +18,7 @@ use Rattle.splits.specs.declared.subproblem.Subproblem.{Subproblem}
 use Rattle.problem.proofs.Tests.{every_at, every_all}
 use Rattle.search.specs.Agenda.{holding, subproblem_of, slot_at}
 use Rattle.search.specs.Loops.Slots.{SlotIn}
-use Rattle.search.specs.Loops.FirstTests.{Mirrored, Next, held_at, beside_at, mark_obeys, SameMarks, AsBelow, TellsBelow, MarksKnown}
+use Rattle.search.specs.Loops.FirstTests.{Mirrored, held_at, beside_at, mark_obeys, SameMarks, AsBelow, TellsBelow, MarksKnown}
 use Rattle.search.proofs.Encoding.{slot_long}
 use Rattle.search.proofs.agenda.Slots.{slot_below}
 use Rattle.search.proofs.rules.Obeying.{is_marked}
@@ -30,22 +30,6 @@ use Rattle.search.proofs.rules.Marked.{slot_domain, mark_none, slot_known}
 -- The marked variables before i have the same words.
 pub record AlikeTo (marked : ℕ) (slot other : List ℕ) (i : ℕ) : Type 0 where
   pub each : (j : ℕ) → j < i → bit marked j ≡ 1 → get_or slot j 0 ≡ get_or other j 0
-
-module _ (marked : ℕ) (slot other : List ℕ) where
-  pub alike_start : (next : ℕ) → Next marked 0 next → AlikeTo marked slot other next
-  alike_start next h = record { each = λ j l m. absurd (omega (arith, h.none j (omega arith) l)) }
-
-  pub alike_next : (i next : ℕ) → AlikeTo marked slot other i → get_or slot i 0 ≡ get_or other i 0 → Next marked (i + 1) next
-      → AlikeTo marked slot other next
-  alike_next i next so_far e h = record {
-    each = λ j l m. elim (dec_lt j i) [
-      | yes k ↦ so_far.each j k m
-      | no k ↦ elim (ℕ_discrete j i) [
-        | yes s ↦ rw s e
-        | no s ↦ absurd (omega (arith, h.none j (omega arith) l))
-      ]
-    ];
-  }
 
 -- All of them.
 pub alike_end : (n i marked its : ℕ) (slot other : List ℕ) → length slot ≡ n + 2 → length other ≡ n + 2

@@ -11,8 +11,8 @@ use lib.Pow.{pow_mono}
 use lib.Bits.{bit_and, bit_or, and_le_r}
 use lib.Count.{count_trailing_zeros, trailing_of_zero}
 use lib.Dec.{eqb, ltb}
-use lib.ListN.{length, get_or, set, take, replicate, length-set, length-take, get_or-append}
-use lib.Seq.{get_or-take, get_or-set_same, get_or-set_other}
+use lib.ListN.{length, get_or, set, take, replicate, length-take, get_or-append}
+use lib.Seq.{get_or-take}
 use borrow.Author.Tests.{eq-eqb, ne_eqb, eqb-true, ltb-true, lt-ltb, le-ltb}
 use Rattle.problem.specs.Masks.{bit, ◌∈◌, Part, single, minus, size, lowest}
 use Rattle.problem.specs.Beside.{RowOf}
@@ -160,34 +160,13 @@ pub record HeldTo (n marked : ℕ) (slot : List ℕ) (i : ℕ) (masks : List ℕ
   pub over : (j : ℕ) → n ≤ j → get_or masks j 0 ≡ 0
 
 module _ (n marked : ℕ) (slot : List ℕ) where
-  held_on : (masks : List ℕ) (i next : ℕ) → HeldTo n marked slot i masks → Next marked i next → HeldTo n marked slot next masks
-  held_on masks i next h k = record {
-    long = h.long;
-    each = λ j l o. elim (dec_lt j i) [
-      | yes m ↦ h.each j m o
-      | no m ↦ h.past j (omega arith) ∙ rw (ne_eqb (bit marked j) 1 (λ z. omega (arith, k.none j (omega arith) l))) refl
-    ];
-    past = λ j l. h.past j (omega (arith, k.up));
-    over = h.over;
-  }
-
   pub held_start : (next : ℕ) → Next marked 0 next → HeldTo n marked slot next (replicate 32 0)
-  held_start next k =
-      held_on (replicate 32 0) 0 next
-      (record { long = refl; each = λ j l o. absurd (omega arith); past = λ j l. zeros_at 32 j; over = λ j l. zeros_at 32 j }) k
-
-  pub held_next : (masks : List ℕ) (i next x : ℕ) → HeldTo n marked slot i masks → i < n → n ≤ 32 → bit marked i ≡ 1 → x ≡ get_or slot i 0
-      → Next marked (i + 1) next
-      → HeldTo n marked slot next (set masks i x)
-  held_next masks i next x h l few y e k = held_on (set masks i x) (i + 1) next (record {
-    long = length-set masks i x ∙ h.long;
-    each = λ j m o. elim (ℕ_discrete j i) [
-      | yes q ↦ rw (q, get_or-set_same masks i x 0 (omega (arith, h.long)), eq-eqb (bit marked i) 1 y) e
-      | no q ↦ get_or-set_other masks i j x 0 q ∙ h.each j (omega arith) o
-    ];
-    past = λ j m. get_or-set_other masks i j x 0 (λ z. omega arith) ∙ h.past j (omega arith);
-    over = λ j m. get_or-set_other masks i j x 0 (λ z. omega arith) ∙ h.over j m;
-  }) k
+  held_start next k = record {
+    long = refl;
+    each = λ j l o. zeros_at 32 j ∙ rw (ne_eqb (bit marked j) 1 (λ z. omega (arith, k.none j (omega arith) l))) refl;
+    past = λ j l. zeros_at 32 j;
+    over = λ j l. zeros_at 32 j;
+  }
 
   pub held_end : (masks : List ℕ) (i : ℕ) → HeldTo n marked slot i masks → n ≤ i → length slot ≡ n + 2 → marked ≡ (subproblem_of n slot).marked
       → Held n (subproblem_of n slot) masks

@@ -20,7 +20,6 @@ use Rattle.splits.specs.Splits.{candidates, candidate, inferred, extracted, with
 use Rattle.splits.specs.Calls.{readable}
 use Rattle.problem.specs.Ranges.{Inside, Sized, Place}
 use Rattle.splits.specs.declared.subproblem.Subproblem.{Subproblem}
-use Rattle.problem.proofs.Tests.{true_false}
 use Rattle.problem.proofs.mask.Masks.{common_none}
 use Rattle.splits.proofs.subproblem.Domains.{length_changed, changed_after}
 use Rattle.splits.proofs.subproblem.Subproblems.{empty_at}
@@ -31,10 +30,6 @@ use Rattle.search.specs.Loops.Steps.{TellsEmpty}
 -- What a test of what was worked out says.
 told : (x dom mask D M : ℕ) → x ≡ minus dom mask → dom ≡ D → mask ≡ M → eqb x 0 ≡ true → eqb (minus D M) 0 ≡ true
 told x dom mask D M a p q z = ap (λ (y : ℕ). eqb y 0) (sym (a ∙ ap₂ minus p q)) ∙ z
-
--- No candidate passes a test that failed.
-pub tells_none : (n d : ℕ) (t r : List ℕ) (P : Subproblem) (k : ℕ) → TellsEmpty n d t P r k false
-tells_none n d t r P k y = absurd (true_false (sym y))
 
 module _ (n d : ℕ) (t r : List ℕ) (fits : readable n d t r ≡ true) where
   -- Kind 3's words fit.

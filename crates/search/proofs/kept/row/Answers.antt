@@ -3,24 +3,8 @@ use mathlib.Core.Path.{refl}
 use lib.ListN.{length-set}
 use Rattle.search.proofs.kept.Kept.{row_there, row_put}
 use Rattle.problem.proofs.tables.Ranges.{inside_is}
-use borrow.Author.Rules.{rules}
 use Rattle.search.proofs.kept.row.Goals.{then-rows-at, else-rows-at}
 use Rattle.search.proofs.kept.row.Goals as goal
-
-pub offset_bounds-rows-at : goal.offset_bounds-rows-at
-offset_bounds-rows-at c = let at = c.requires.1.inside in search rules
-
-pub bounds-rows-at : goal.bounds-rows-at
-bounds-rows-at c = c.requires.1.inside
-
-pub offset_bounds-rows-at-then-rows-at : goal.offset_bounds-rows-at-then-rows-at
-offset_bounds-rows-at-then-rows-at c = let at = c.requires.1.inside in search rules
-
-pub bounds-rows-at-then-rows-at : goal.bounds-rows-at-then-rows-at
-bounds-rows-at-then-rows-at c = c.requires.1.inside
-
-pub offset_bounds-rows-at-2 : goal.offset_bounds-rows-at-2
-offset_bounds-rows-at-2 c = let at = c.requires.1.inside in search rules
 
 pub slice_copy_out-result : goal.slice_copy_out-result
 slice_copy_out-result c =

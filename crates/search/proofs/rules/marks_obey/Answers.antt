@@ -4,43 +4,15 @@ use mathlib.Core.Path.{ap}
 use native.Mathlib.Nat.{div-one}
 use native.Mathlib.Omega.{arith}
 use borrow.Author.Tests.{eq-eqb, ne_eqb}
-use Rattle.search.proofs.kept.Kept.{row_at, row_more}
+use Rattle.search.proofs.kept.Kept.{row_more}
 use Rattle.problem.proofs.FirstLoops.{every_start, every_stop, every_turn}
 use Rattle.search.proofs.rules.Marked.{every_past, marks_next, mark_read}
-use borrow.Author.Rules.{rules}
 use Rattle.search.proofs.rules.marks_obey.Goals as goal
-
-pub held_of-held-requires : goal.held_of-held-requires
-held_of-held-requires c = let p = c.requires.0 in (p.sized.few, (p.words, p.marks))
 
 pub loop-i-init : goal.loop-i-init
 loop-i-init c =
     let p = c.requires in
     (marks_next _ _ _ _ _ _ p.0.marks (every_start _) c.next_in-i.ensures, (c.next_in-i.ensures.there, p.1))
-
-pub offset_bounds-slot-i : goal.offset_bounds-slot-i
-offset_bounds-slot-i c = let few = c.requires.0.sized.few in omega arith
-
-pub bounds-slot-i : goal.bounds-slot-i
-bounds-slot-i c = let long = c.requires.0.words in omega arith
-
-pub row-row-requires : goal.row-row-requires
-row-row-requires c =
-    let p = c.requires in
-    let inv = c.loop-i.invariant in (
-      record {
-        fit = p.0.sized;
-        a_variable = c.loop-i-test.true;
-        a_value = rw c.lowest.ensures (p.0.values _ c.loop-i-test.true);
-      },
-      row_at _ _ _ _ _ _ _ inv.1.1 (omega (arith, p.0.sized.few)) (div-one _),
-    )
-
-pub shape_of-rows-then-missing-ne0 : goal.shape_of-rows-then-missing-ne0
-shape_of-rows-then-missing-ne0 c =
-    let whole = c.requires.1.long in
-    let long = c.row-row.ensures.1.same in
-    search rules
 
 pub returns-then-missing-ne0 : goal.returns-then-missing-ne0
 returns-then-missing-ne0 c =
@@ -55,9 +27,6 @@ returns-then-missing-ne0 c =
       row_more _ _ _ _ _ _ _ inv.1.1 (omega (arith, p.0.sized.few)) (div-one _) _ _ _ c.row-row.ensures.0
           c.row-row.ensures.1,
     )
-
-pub loop-i-smaller : goal.loop-i-smaller
-loop-i-smaller c = omega (arith, c.next_in-i-in-loop-i.ensures.up)
 
 pub loop-i-preserved : goal.loop-i-preserved
 loop-i-preserved c =
@@ -78,12 +47,6 @@ loop-i-preserved c =
             c.row-row.ensures.1,
       ),
     )
-
-pub shape_of-rows : goal.shape_of-rows
-shape_of-rows c =
-    let whole = c.requires.1.long in
-    let long = c.loop-i.invariant.1.1.long in
-    search rules
 
 pub returns : goal.returns
 returns c = (every_past _ _ _ c.loop-i-test.false c.loop-i.invariant.0, c.loop-i.invariant.1.1)

@@ -7,13 +7,10 @@ use Rattle.splits.specs.Requests.{kind_of}
 use Rattle.splits.specs.declared.kind.Kind.TheVariants.{Idc, Extraction}
 use Rattle.splits.proofs.Numbering.{kind_is}
 use Rattle.splits.proofs.split.ByKind.{few}
-use Rattle.search.proofs.step.Keeping.{tells_none, place_3, own_variable, keeps_none_3, keeps_none_5}
+use Rattle.search.proofs.step.Keeping.{place_3, own_variable, keeps_none_3, keeps_none_5}
 use Rattle.problem.proofs.tables.Ranges.{allowed_any}
 use borrow.Author.Rules.{rules}
 use Rattle.search.proofs.step.keeps_none.Goals as goal
-
-pub returns-then-k-eq0 : goal.returns-then-k-eq0
-returns-then-k-eq0 c = tells_none _ _ _ _ _ _
 
 pub returns-in-Ok-Idc : goal.returns-in-Ok-Idc
 returns-in-Ok-Idc c =
