@@ -4,7 +4,6 @@ pub mod Lines
 pub mod Short
 pub mod Made
 pub mod Answering
-pub mod Lending
 pub mod Promises
 pub mod Saying
 mod Fitting

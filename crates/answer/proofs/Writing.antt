@@ -3,9 +3,9 @@
 use native.Mathlib.Omega.{arith}
 use mathlib.Core.Path.{◌≡◌, refl, sym, ap, subst, ◌∙◌}
 use mathlib.Core.List.{List, [], ◌∷◌, ◌++◌, append_assoc, append-nil}
-use Prim.Native.Nat.{ℕ, suc, ◌+◌, ◌-◌, ◌≤◌, ◌<◌}
-use lib.ListN.{length, replicate, set, get_or, take, length-append}
-use lib.Seq.{set_at, append_snoc, take-suc, take-length}
+use Prim.Native.Nat.{ℕ, suc, ◌+◌, ◌-◌, ◌<◌}
+use lib.ListN.{length, replicate, set, get_or, length-append}
+use lib.Seq.{set_at, append_snoc}
 use Rattle.problem.specs.Masks.{lowest}
 use Rattle.answer.specs.Text.{plan_line}
 use Rattle.answer.specs.Loops.Writing.{Holds, Adds, value_lines}
@@ -41,23 +41,6 @@ adds_byte a b byte h bytes its_length text holds room =
           ∙ sym (append_snoc text byte (replicate (512 - length (text ++ (byte ∷ []))) 0));
       its_length = its_length ∙ ap (λ k. k + 1) at ∙ sym long;
     }
-
--- A full buffer has no room for a byte.
-pub adds_full : (a b : Text) (byte : ℕ) → 512 ≤ a.length → Adds a (byte ∷ []) b
-adds_full a b byte h text holds room =
-    let e : a.length ≡ length text = holds.its_length in absurd (omega (arith, e, room, h))
-
--- The next byte of a word.
-pub adds_next : (a b c : Text) (word : List ℕ) (i byte : ℕ) → i < length word → byte ≡ get_or word i 0 → Adds a (take i word) b → Adds b (byte ∷ []) c
-    → Adds a (take (i + 1) word) c
-adds_next a b c word i byte h is before next =
-    adds_same a c (take i word ++ (byte ∷ [])) (take (i + 1) word)
-    (ap (λ x. take i word ++ (x ∷ [])) is ∙ sym (take-suc word i 0 h) ∙ ap (λ k. take k word) (let e : suc i ≡ i + 1 = omega arith in e))
-    (adds_both a b c (take i word) (byte ∷ []) before next)
-
--- The whole word.
-pub adds_word : (a b : Text) (word : List ℕ) (i : ℕ) → i ≡ length word → Adds a (take i word) b → Adds a word b
-adds_word a b word i e h = adds_same a b (take i word) word (ap (λ k. take k word) e ∙ take-length word) h
 
 -- The next line.
 pub adds_line : (a b c : Text) (masks : List ℕ) (i mask : ℕ) → mask ≡ get_or masks i 0 → Adds a (value_lines i masks) b

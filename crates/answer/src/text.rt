@@ -105,7 +105,8 @@ impl Text {
         ensures { Adds self (plan_line variable (lowest domain)) result }
     {
         let text = self.with_number(variable as u64).with_byte(b' ');
-        text.with_number(mask::lowest(domain) as u64).with_byte(b'\n')
+        text.with_number(mask::lowest(domain) as u64)
+            .with_byte(b'\n')
     }
 
     // A line for each of the domains.

@@ -4,7 +4,6 @@
 
 use files::saved::{Loaded, Saved};
 use search::state::{Checks, Counts, Opened, Ran, State, Steps};
-use searches::verdict::Verdict;
 use std::io;
 use std::io::Print;
 
@@ -44,15 +43,6 @@ fn number<P: Print>(out: &P, text: &str, x: u64) -> io::Result<()> {
     print!(out; "{text}{x}")
 }
 
-fn verdict_number(v: Verdict) -> u64 {
-    match v {
-        Verdict::None => 0,
-        Verdict::Running => 1,
-        Verdict::Solved => 2,
-        Verdict::Unsolvable => 3,
-    }
-}
-
 fn state_line<P: Print>(out: &P, s: State) -> io::Result<()> {
     let counts = s.counts;
     let steps = counts.steps;
@@ -72,8 +62,7 @@ fn opened_line<P: Print>(out: &P, text: &str, r: Opened) -> io::Result<()> {
 
 fn ran_line<P: Print>(out: &P, text: &str, r: Ran) -> io::Result<()> {
     print!(out; "{text}")?;
-    let v = r.verdict;
-    number(out, ": verdict ", verdict_number(v))?;
+    number(out, ": verdict ", u64::from(u32::from(r.verdict)))?;
     number(out, " refusal ", r.refusal as u64)?;
     number(out, " taken ", r.taken as u64)?;
     let s = r.state;
@@ -288,20 +277,11 @@ fn choices<P: Print>(out: &P) -> io::Result<()> {
 // The words of a block by hand, its check last, in bytes.
 fn by_hand(words: &[u16], check: u16) -> [u8; 512] {
     let mut file = [0u8; 512];
-    let mut k = 0;
-    while k < 255 {
-        let word = hand_word(words, k);
-        file[2 * k] = (word / 256) as u8;
-        file[2 * k + 1] = (word % 256) as u8;
-        k += 1;
+    for k in 0..words.len().min(255) {
+        file[2 * k..2 * k + 2].copy_from_slice(&words[k].to_be_bytes());
     }
-    file[510] = (check / 256) as u8;
-    file[511] = (check % 256) as u8;
+    file[510..].copy_from_slice(&check.to_be_bytes());
     file
-}
-
-fn hand_word(words: &[u16], k: usize) -> u16 {
-    if k < words.len() { words[k] } else { 0 }
 }
 
 fn loaded_line<P: Print>(out: &P, text: &str, r: Loaded) -> io::Result<()> {

@@ -29,7 +29,9 @@ pub fn header_of(file: &[u8]) -> Header
         state: State {
             counts: Counts {
                 steps: Steps(pair_at(file, 2)),
-                checks: Checks(u64::from(pair_at(file, 4)) * 4294967296 + u64::from(pair_at(file, 6))),
+                checks: Checks(
+                    u64::from(pair_at(file, 4)) * 4294967296 + u64::from(pair_at(file, 6)),
+                ),
             },
             subproblems: usize::from(blocks::reading::content_word(file, 8)),
         },

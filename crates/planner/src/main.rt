@@ -21,6 +21,7 @@ fn read_full<R: Read>(reader: &mut R, file: &mut [u8]) -> usize
     ensures bytes { Consumes (R.remaining reader.old) (R.remaining reader.new) (take result file.new) }
 {
     let mut done = 0;
+    // Each turn goes on by as much as was read; std has no call that fills a slice as far as the input goes.
     while done < file.len() {
         match reader.read(&mut file[done..]) {
             Ok(0) => return done,

@@ -1,9 +1,6 @@
 -- `cases::by_hand` meets its contract. The file keeps its length.
-use Rattle.std.specs.Prelude.{◌≡◌, ◌≤◌, ◌-◌, length}
+use Rattle.std.specs.Prelude.{◌≡◌, length}
 use Rattle.cases.proofs.by_hand.Given as goal
 
 abbrev pub invariant-loop-k : goal.invariant-loop-k
-invariant-loop-k l = (l.k ≤ 255) × (length l.file ≡ 512)
-
-abbrev pub decreases-loop-k : goal.decreases-loop-k
-decreases-loop-k l = 255 - l.k
+invariant-loop-k l = length l.file ≡ 512
