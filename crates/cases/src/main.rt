@@ -2,8 +2,9 @@
 // held to the file stdout.
 #![tactic(auto)]
 
-use files::saved::{Loaded, Saved};
-use search::state::{Checks, Counts, Opened, Ran, State, Steps};
+use files::saved::Header;
+use problem::refusal::Refusal;
+use search::state::{Checks, Counts, Ran, State, Steps};
 use std::io;
 use std::io::Print;
 
@@ -39,34 +40,34 @@ fn counted(steps: u32, checks: u64, subproblems: usize) -> State {
     }
 }
 
-fn number<P: Print>(out: &P, text: &str, x: u64) -> io::Result<()> {
-    print!(out; "{text}{x}")
+// The number of a refusal, 0 for none.
+fn told(refusal: Option<Refusal>) -> u32 {
+    match refusal {
+        None => 0,
+        Some(refusal) => u32::from(refusal),
+    }
 }
 
 fn state_line<P: Print>(out: &P, s: State) -> io::Result<()> {
-    let counts = s.counts;
-    let steps = counts.steps;
-    let checks = counts.checks;
-    number(out, " steps ", steps.0 as u64)?;
-    number(out, " checks ", checks.0)?;
-    number(out, " subproblems ", s.subproblems as u64)?;
-    println!(out)
+    let steps = s.counts.steps.0;
+    let checks = s.counts.checks.0;
+    let subproblems = s.subproblems;
+    println!(out; " steps {steps} checks {checks} subproblems {subproblems}")
 }
 
-fn opened_line<P: Print>(out: &P, text: &str, r: Opened) -> io::Result<()> {
-    print!(out; "{text}")?;
-    number(out, ": refusal ", r.refusal as u64)?;
-    let s = r.state;
-    state_line(out, s)
+// Refused, zeros.
+fn opened_line<P: Print>(out: &P, text: &str, r: Result<State, Refusal>) -> io::Result<()> {
+    let refusal = told(r.err());
+    print!(out; "{text}: refusal {refusal}")?;
+    state_line(out, r.unwrap_or(counted(0, 0, 0)))
 }
 
 fn ran_line<P: Print>(out: &P, text: &str, r: Ran) -> io::Result<()> {
-    print!(out; "{text}")?;
-    number(out, ": verdict ", u64::from(u32::from(r.verdict)))?;
-    number(out, " refusal ", r.refusal as u64)?;
-    number(out, " taken ", r.taken as u64)?;
-    let s = r.state;
-    state_line(out, s)
+    let verdict = u32::from(r.verdict);
+    let refusal = told(r.refusal);
+    let taken = r.taken;
+    print!(out; "{text}: verdict {verdict} refusal {refusal} taken {taken}")?;
+    state_line(out, r.state)
 }
 
 // Opens into an agenda of so many words, at most 36.
@@ -119,21 +120,21 @@ fn sizes<P: Print>(out: &P) -> io::Result<()> {
 
 // Requests on the ring, opened in an agenda.
 fn ring_run<P: Print>(out: &P, text: &str, agenda: &mut [u16], requests: &[u16]) -> io::Result<()> {
-    let opened = search::open(4, 3, &SEVENS, &RING, agenda);
+    let state = search::open(4, 3, &SEVENS, &RING, agenda).unwrap_or(counted(0, 0, 0));
     ran_line(
         out,
         text,
-        search::run(4, 3, &SEVENS, &RING, agenda, requests, opened.state),
+        search::run(4, 3, &SEVENS, &RING, agenda, requests, state),
     )
 }
 
 // The chooser on it.
 fn ring_choice<P: Print>(out: &P, text: &str, agenda: &mut [u16]) -> io::Result<()> {
-    let opened = search::open(4, 3, &SEVENS, &RING, agenda);
+    let state = search::open(4, 3, &SEVENS, &RING, agenda).unwrap_or(counted(0, 0, 0));
     ran_line(
         out,
         text,
-        search::choose(4, 3, &SEVENS, &RING, agenda, 1000, opened.state),
+        search::choose(4, 3, &SEVENS, &RING, agenda, 1000, state),
     )
 }
 
@@ -193,7 +194,7 @@ fn openings<P: Print>(out: &P) -> io::Result<()> {
 
 fn one_run<P: Print>(out: &P, text: &str, state: State, request: &[u16]) -> io::Result<()> {
     let mut agenda = [0u16; 8];
-    search::open(2, 2, &THREES, &UNEQUAL, &mut agenda);
+    let _ = search::open(2, 2, &THREES, &UNEQUAL, &mut agenda);
     ran_line(
         out,
         text,
@@ -253,7 +254,7 @@ fn runs<P: Print>(out: &P) -> io::Result<()> {
 
 fn one_choice<P: Print>(out: &P, text: &str, limit: usize, state: State) -> io::Result<()> {
     let mut agenda = [0u16; 8];
-    search::open(2, 2, &THREES, &UNEQUAL, &mut agenda);
+    let _ = search::open(2, 2, &THREES, &UNEQUAL, &mut agenda);
     ran_line(
         out,
         text,
@@ -284,20 +285,24 @@ fn by_hand(words: &[u16], check: u16) -> [u8; 512] {
     file
 }
 
-fn loaded_line<P: Print>(out: &P, text: &str, r: Loaded) -> io::Result<()> {
-    print!(out; "{text}")?;
-    number(out, ": refusal ", r.refusal as u64)?;
-    number(out, " n ", r.n as u64)?;
-    number(out, " d ", r.d as u64)?;
-    let s = r.state;
-    state_line(out, s)
+// Refused, zeros.
+fn loaded_line<P: Print>(out: &P, text: &str, r: Result<Header, Refusal>) -> io::Result<()> {
+    let refusal = told(r.err());
+    let header = r.unwrap_or(Header {
+        n: 0,
+        d: 0,
+        state: counted(0, 0, 0),
+    });
+    let n = header.n;
+    let d = header.d;
+    print!(out; "{text}: refusal {refusal} n {n} d {d}")?;
+    state_line(out, header.state)
 }
 
-fn saved_line<P: Print>(out: &P, text: &str, r: Saved) -> io::Result<()> {
-    print!(out; "{text}")?;
-    number(out, ": refusal ", r.refusal as u64)?;
-    number(out, " blocks ", r.blocks as u64)?;
-    println!(out)
+fn saved_line<P: Print>(out: &P, text: &str, r: Result<usize, Refusal>) -> io::Result<()> {
+    let refusal = told(r.err());
+    let blocks = r.unwrap_or(0);
+    println!(out; "{text}: refusal {refusal} blocks {blocks}")
 }
 
 // Loads a file into memory for two variables, d 2 and two slots.
@@ -334,12 +339,8 @@ fn loads_short<P: Print>(out: &P, file: &[u8]) -> io::Result<()> {
 // RFC 1071's own example: 0001 f203 f4f5 f6f7 has the check 220d, 8717.
 fn checks_of_words<P: Print>(out: &P) -> io::Result<()> {
     let example = [0u8, 1, 242, 3, 244, 245, 246, 247];
-    number(
-        out,
-        "RFC 1071's example: check ",
-        blocks::checksum::check_of(&example) as u64,
-    )?;
-    println!(out)
+    let check = blocks::checksum::check_of(&example);
+    println!(out; "RFC 1071's example: check {check}")
 }
 
 // Two variables, d 2, domains {0} and {0, 1}, unequal, as opening leaves it, with word `k` of its block changed and the check that it has then.
@@ -374,8 +375,7 @@ fn by_hands<P: Print>(out: &P) -> io::Result<()> {
 
 fn saves<P: Print>(out: &P) -> io::Result<()> {
     let mut agenda = [0u16; 8];
-    let opened = search::open(2, 2, &THREES, &UNEQUAL, &mut agenda);
-    let state = opened.state;
+    let state = search::open(2, 2, &THREES, &UNEQUAL, &mut agenda).unwrap_or(counted(0, 0, 0));
     let mut file = [0u8; 600];
     saved_line(
         out,
