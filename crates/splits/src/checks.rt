@@ -49,21 +49,17 @@ pub(crate) fn look(
     ensures { LookedAt n (table_of n d tables.now) top variable value result.count result.conflict }
 {
     let mut count = 0;
+    let mut conflict = false;
     for i in 0..n {
         if i != variable && top.is_instantiated(i) {
             count += 1;
             if does_forbid(top, n, d, tables, variable, value, i) {
-                return Looked {
-                    count,
-                    conflict: true,
-                };
+                conflict = true;
+                break;
             }
         }
     }
-    Looked {
-        count,
-        conflict: false,
-    }
+    Looked { count, conflict }
 }
 
 // The number of values in all other domains.

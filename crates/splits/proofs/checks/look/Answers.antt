@@ -31,8 +31,8 @@ loop-i-preserved c =
       )
     ]
 
-pub returns : goal.returns
-returns c = look_end _ _ _ _ _ _ _ c.loop-i.invariant.1 _ c.loop-i.auto.i-end c.loop-i-test.false refl
+pub returns-after-loop-i : goal.returns-after-loop-i
+returns-after-loop-i c = look_end _ _ _ _ _ _ _ c.loop-i.invariant.1 _ c.loop-i.auto.i-end c.loop-i-test.false refl
 
 pub returns-then-does_forbid : goal.returns-then-does_forbid
 returns-then-does_forbid c =
