@@ -25,12 +25,7 @@ fn all_good(file: &[u8], blocks: usize) -> bool
     requires { (length file.now ≡ blocks * 512) × (blocks ≤ 101) }
     ensures { result ≡ every blocks (good_block file.now) }
 {
-    for index in 0..blocks {
-        if !is_good(block::block_at(file, index), index + 1, blocks) {
-            return false;
-        }
-    }
-    true
+    (0..blocks).all(|b| is_good(block::block_at(file, b), b + 1, blocks))
 }
 
 // 14, or none.

@@ -1,12 +1,18 @@
 -- A loop of the code that stops with `false` at the first number that fails a test works out the test at every number.
 -- Assumes nothing.
 use mathlib.Core.Path.{◌≡◌, refl, sym, ap, ◌∙◌}
-use mathlib.Core.Bool.{Bool, true, false, not}
-use Prim.Native.Nat.{ℕ, ◌+◌, ◌≤◌, ◌<◌}
-use native.Mathlib.Nat.{le_antisymm}
+use mathlib.Core.Bool.{Bool, true, false, not, ◌&&◌, and-true}
+use Prim.Native.Nat.{ℕ, zero, suc, ◌+◌, ◌≤◌, ◌<◌}
+use native.Mathlib.Nat.{le_antisymm, zero-add}
+use native.Mathlib.Omega.{arith}
 use borrow.Author.Tests.{not-true, not-false}
+use Rattle.std.specs.List.{list_all, range_with_len}
 use Rattle.problem.specs.Lists.{every}
 use Rattle.problem.proofs.Tests.{every_more, every_not}
+
+and_regrouped : (a b c : Bool) → (a && (b && c)) ≡ ((a && b) && c)
+and_regrouped true b c = refl
+and_regrouped false b c = refl
 
 module _ (f : ℕ → Bool) where
   -- before the first turn
@@ -25,3 +31,13 @@ module _ (f : ℕ → Bool) where
   -- after the last
   pub every_end : (n i : ℕ) → i ≤ n → n ≤ i → every i f ≡ true → true ≡ every n f
   every_end n i h k inv = sym inv ∙ ap (λ (x : ℕ). every x f) (le_antisymm h k)
+
+  -- `all` over a range
+  one_more : (a n : ℕ) → list_all f (range_with_len a (suc n)) ≡ (list_all f (range_with_len a n) && f (a + n))
+  one_more a zero = let e : a + 0 ≡ a = omega arith in rw (e, and-true) refl
+  one_more a (suc n) = let e : a + 1 + n ≡ a + suc n = omega arith in rw (one_more (a + 1) n, e) (and_regrouped (f a) (list_all f (range_with_len (a + 1) n)) (f (a + suc n)))
+
+  pub every_range : (n : ℕ) → list_all f (range_with_len 0 n) ≡ every n f
+  unfolding every
+  every_range zero = refl
+  every_range (suc n) = one_more 0 n ∙ ap (λ (b : Bool). b && f (0 + n)) (every_range n) ∙ ap (λ (k : ℕ). every n f && f k) (zero-add n)

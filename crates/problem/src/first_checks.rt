@@ -66,15 +66,7 @@ fn tables_below(n: usize, d: usize, tables: &[u16]) -> bool
     requires { Sized n d tables.now }
     ensures { result ≡ every n (row_below n d (table_of n d tables.now)) }
 {
-    if d == 16 {
-        return true;
-    }
-    for i in 0..n {
-        if !row_below(n, d, tables, i) {
-            return false;
-        }
-    }
-    true
+    d == 16 || (0..n).all(|i| row_below(n, d, tables, i))
 }
 
 // 4 or 5, or none.

@@ -74,10 +74,5 @@ pub(crate) fn tables_both_ways(n: usize, d: usize, tables: &[u16]) -> bool
     requires { Narrow n d tables.now }
     ensures { result ≡ every n (row_both_ways d (table_of n d tables.now)) }
 {
-    for i in 0..n {
-        if !row_both_ways(n, d, tables, i) {
-            return false;
-        }
-    }
-    true
+    (0..n).all(|i| row_both_ways(n, d, tables, i))
 }

@@ -1,14 +1,15 @@
--- `symmetry::tables_both_ways` meets its contract: the loop's invariant: every row passed is allowed both ways or neither.
-use mathlib.Core.Bool.{not}
-use mathlib.Core.Path.{ap}
-use Rattle.problem.proofs.FirstLoops.{every_start, every_stop, every_turn}
+-- `symmetry::tables_both_ways` meets its contract.
+use Rattle.std.proofs.Common.{refl, ◌∙◌, arith, rules, tests}
+use Rattle.std.proofs.lemmas.Iterator.{YieldsList-from_range}
+use Rattle.std.proofs.lemmas.Iterator.Search.{all_from_yields_List}
+use Rattle.problem.specs.Problem.{table_of}
+use Rattle.problem.specs.Loops.FirstTests.{row_both_ways}
+use Rattle.problem.proofs.FirstLoops.{every_range}
 use Rattle.problem.proofs.symmetry.tables_both_ways.Goals as goal
 
-pub loop-i-init : goal.loop-i-init
-loop-i-init c = every_start _
-
-pub returns-then-not-row_both_ways : goal.returns-then-not-row_both_ways
-returns-then-not-row_both_ways c = every_stop _ _ _ _ c.loop-i-test.true c.row_both_ways.ensures (ap not c.if-not-row_both_ways.true)
-
-pub loop-i-preserved : goal.loop-i-preserved
-loop-i-preserved c = every_turn _ _ _ c.loop-i.invariant c.row_both_ways.ensures (ap not c.if-not-row_both_ways.false)
+pub returns : goal.returns
+returns c =
+    let a = c.args in
+    all_from_yields_List (row_both_ways a.d (table_of a.n a.d a.tables.now)) _ _ _ c.all.ensures.ran (YieldsList-from_range 0 a.n a.n refl (omega arith))
+    (λ x b q k. search (rules, tests))
+    ∙ every_range _ _
