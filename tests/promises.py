@@ -20,7 +20,7 @@ MARKS = r"(?:(?:unfoldable|abbrev|axiom|pub) )*"
 NUMBER = r"\d+|D\d\.\d"
 LAWS_NAMED = ("README.md", "docs/DECISIONS.md", "docs/PROMISES.md")
 LIBRARY = ("count_ones", "trailing_zeros")
-ENSURES = r"ensures (?:\w+ )?\{ (?:result ≡ )?([^\s(){}]+) "
+ENSURES = r"ensures (?:\w+ )?\{ (?:(?:told )?result ≡ )?([^\s(){}]+) "
 HELD = ("none owed: ", "by the language: ", "run: ", "to be read: ", "as [", "`crates/")
 
 

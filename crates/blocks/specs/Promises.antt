@@ -1,5 +1,8 @@
 -- What blocks promise. Stated here, proved in proofs/Promises.antt.
 use Rattle.std.specs.Prelude.{◌≡◌, ◌↔◌, List, [], ◌∷◌, ℕ, ◌+◌, ◌*◌, ◌/◌, ◌%◌, ◌≤◌, ◌<◌, length, get_or}
+use Rattle.std.specs.Prelude.{Result}
+use Rattle.problem.specs.declared.refusal.Refusal.{Refusal}
+use Rattle.problem.specs.Refused.{told}
 use Rattle.problem.specs.Lists.{sum}
 use Rattle.problem.specs.Answers.{One}
 use Rattle.blocks.specs.Blocks.{ones_sum, check_of, blocks_for, file_of}
@@ -64,7 +67,7 @@ CheckOfOne = (block : List ℕ) → One (CheckOf block)
 
 -- The refusal of a file is one.
 abbrev pub RefusalOfFileOne : Type 0
-RefusalOfFileOne = (file : List ℕ) → One (RefusalOfFile file)
+RefusalOfFileOne = (file : List ℕ) → One (λ (r : Result Unit Refusal). RefusalOfFile file (told r))
 
 -- A word of a content is one number.
 abbrev pub ContentWordOne : Type 0

@@ -4,7 +4,7 @@ use mathlib.Core.Path.{ap, ◌∙◌}
 use Prim.Native.Nat.{ℕ}
 use Rattle.problem.specs.Masks.{bit}
 use Rattle.problem.specs.Promises.{NoConstraint, LowestValue, SmallerHalfOf, CountOne, LowestOne, HasOne, SmallerHalfOne, SizesRefusals, ProblemRefusals, NumbersPass, ProblemPass, TurnedOne, OnlyOne, WithinOne, AllowedOne, RowOne, BitsOfOne, RefusalOfNumbersOne, SizesRefusalOne, RefusalOne, NumberOne, ToldOne}
-use Rattle.problem.proofs.Refused.{number_once, told_once}
+use Rattle.problem.proofs.Refused.{number_once, told_once, one_told}
 use Rattle.problem.proofs.mask.Masks.{all_set, trailing_member, trailing_least, half_part, half_size, half_below}
 use Rattle.problem.proofs.Answers.{one}
 use Rattle.problem.proofs.matrix.Turning
@@ -70,10 +70,10 @@ pub told_one : ToldOne
 told_one = told_once
 
 pub refusal_of_numbers_one : RefusalOfNumbersOne
-refusal_of_numbers_one n d = one _
+refusal_of_numbers_one n d = one_told _
 
 pub sizes_refusal_one : SizesRefusalOne
-sizes_refusal_one n d domains tables = one _
+sizes_refusal_one n d domains tables = one_told _
 
 pub refusal_one : RefusalOne
-refusal_one n d domains tables = one _
+refusal_one n d domains tables = one_told _

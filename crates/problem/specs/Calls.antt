@@ -47,5 +47,5 @@ RefusalOfNumbers n d r = r ≡ refusal_of_numbers n d
 abbrev pub SizesRefusal : ℕ → ℕ → ℕ → ℕ → ℕ → Type 0
 SizesRefusal n d domains tables r = r ≡ problem_sizes n d domains tables
 
-abbrev pub Refusal : ℕ → ℕ → List ℕ → List ℕ → ℕ → Type 0
-Refusal n d domains tables r = r ≡ problem_refusal n d domains tables
+abbrev pub RefusalOf : ℕ → ℕ → List ℕ → List ℕ → ℕ → Type 0
+RefusalOf n d domains tables r = r ≡ problem_refusal n d domains tables

@@ -2,9 +2,9 @@
 use Rattle.std.specs.Prelude.{◌≡◌, ℕ, ◌+◌, ◌/◌, ◌^◌, ◌<◌, ◌↔◌, List, [], ◌∷◌, length}
 use Rattle.problem.specs.Masks.{◌∈◌, Part, size, lowest_of, smaller_half_of, LowestIn, all_values}
 use Rattle.problem.specs.Problem.{Problem, problem_of}
-use Rattle.problem.specs.Calls.{Count, Lowest, Only, Has, SmallerHalf, Within, Allowed, Row, BitsOf, RefusalOfNumbers, SizesRefusal, Refusal}
+use Rattle.problem.specs.Calls.{Count, Lowest, Only, Has, SmallerHalf, Within, Allowed, Row, BitsOf, RefusalOfNumbers, SizesRefusal, RefusalOf}
 use Rattle.std.specs.Prelude.{Result}
-use Rattle.problem.specs.declared.refusal.Refusal.{Refusal as RefusalByName}
+use Rattle.problem.specs.declared.refusal.Refusal.{Refusal}
 use Rattle.problem.specs.Refused.{number_of, told}
 use Rattle.problem.specs.Answers.{One}
 use Rattle.problem.specs.Matrix.{Turned}
@@ -71,10 +71,10 @@ ProblemPass = (p : Problem) → (refusal_of_problem p ≡ 0) ↔ ((Deserves4 p �
 
 -- A number tells which refusal it is, and 0 that there is none: so what speaks of the number leaves one result.
 abbrev pub NumberOne : Type 0
-NumberOne = (a b : RefusalByName) → number_of a ≡ number_of b → a ≡ b
+NumberOne = (a b : Refusal) → number_of a ≡ number_of b → a ≡ b
 
 abbrev pub ToldOne : Type 0
-ToldOne = (r s : Result Unit RefusalByName) → told r ≡ told s → r ≡ s
+ToldOne = (r s : Result Unit Refusal) → told r ≡ told s → r ≡ s
 
 -- The mask of one value.
 abbrev pub OnlyOne : Type 0
@@ -98,15 +98,15 @@ BitsOfOne = (words : List ℕ) → One (BitsOf words)
 
 -- The first checks of the numbers.
 abbrev pub RefusalOfNumbersOne : Type 0
-RefusalOfNumbersOne = (n d : ℕ) → One (RefusalOfNumbers n d)
+RefusalOfNumbersOne = (n d : ℕ) → One (λ (r : Result Unit Refusal). RefusalOfNumbers n d (told r))
 
 -- The first checks of how many words are lent.
 abbrev pub SizesRefusalOne : Type 0
-SizesRefusalOne = (n d domains tables : ℕ) → One (SizesRefusal n d domains tables)
+SizesRefusalOne = (n d domains tables : ℕ) → One (λ (r : Result Unit Refusal). SizesRefusal n d domains tables (told r))
 
 -- The first checks of a problem.
 abbrev pub RefusalOne : Type 0
-RefusalOne = (n d : ℕ) (domains tables : List ℕ) → One (Refusal n d domains tables)
+RefusalOne = (n d : ℕ) (domains tables : List ℕ) → One (λ (r : Result Unit Refusal). RefusalOf n d domains tables (told r))
 
 -- Rows for columns.
 abbrev pub TurnedOne : Type 0

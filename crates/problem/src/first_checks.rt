@@ -3,7 +3,7 @@ ghost use Rattle.std.specs.Prelude.{◌≡◌, ◌-◌, ◌^◌, ◌≤◌, ◌<
 ghost use Rattle.problem.specs.Problem.{table_of, problem_of};
 ghost use Rattle.problem.specs.Lists.{every};
 ghost use Rattle.problem.specs.Ranges.{Sized, Fitting};
-ghost use Rattle.problem.specs.Calls.{BitsOf, RefusalOfNumbers, SizesRefusal, Refusal as RefusalOf};
+ghost use Rattle.problem.specs.Calls.{BitsOf, RefusalOfNumbers, SizesRefusal, RefusalOf};
 ghost use Rattle.problem.specs.Refused.{told};
 ghost use Rattle.problem.specs.Tests.FirstChecks.{refusal_of_problem};
 ghost use Rattle.problem.specs.Loops.FirstTests.{span_below, row_below};

@@ -6,6 +6,7 @@ use mathlib.Core.List.{List, ◌∷◌}
 use Prim.Native.Nat.{ℕ, ◌≤◌}
 use native.Mathlib.Omega.{arith}
 use lib.ListN.{length, get_or}
+use Rattle.problem.proofs.Refused.{one_told}
 use Rattle.problem.proofs.Answers.{one}
 use Rattle.searches.specs.Verdicts.{number_of}
 use Rattle.searches.specs.Chooser.{chosen}
@@ -148,16 +149,16 @@ pub fresh_one : FreshOne
 fresh_one subproblems = one _
 
 pub sizes_refusal_one : SizesRefusalOne
-sizes_refusal_one n d domains tables agenda = one _
+sizes_refusal_one n d domains tables agenda = one_told _
 
 pub open_refusal_one : OpenRefusalOne
-open_refusal_one n d domains tables agenda = one _
+open_refusal_one n d domains tables agenda = one_told _
 
 pub search_refusal_one : SearchRefusalOne
-search_refusal_one n d domains tables agenda steps checks subproblems = one _
+search_refusal_one n d domains tables agenda steps checks subproblems = one_told _
 
 pub run_refusal_one : RunRefusalOne
-run_refusal_one n d domains tables agenda requests steps checks subproblems = one _
+run_refusal_one n d domains tables agenda requests steps checks subproblems = one_told _
 
 pub open_one : OpenOne
 open_one n d domains tables before after after' r s h k = (

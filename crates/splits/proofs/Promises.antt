@@ -1,6 +1,7 @@
 -- The promises of specs/Promises.antt, proved.
 -- Assumes nothing.
 use mathlib.Core.Path.{sym, ◌∙◌}
+use Rattle.problem.proofs.Refused.{one_told}
 use Rattle.splits.specs.Promises.{OneByOne, ByRow, RequestRefusals, RequestAccepted, FirstOne, ReadsRefusal, ReadsPieces, ReadsChecks, DiagonalPiece, DiagonalChecks, DomainOne, IsInstantiatedOne, AllInstantiatedOne, IsEmptyOne, InstantiateOne, WithoutOne, CutOne, CutEachOne, PrecludedOne, CandidatesOne, PieceOne, ChecksOne, RefusalOne, CountOne, ValuesOne, LosesOne, OutsideOne, OutsidesOne, FilledOne}
 use Rattle.splits.proofs.split.OneByOne.{all_one_by_one}
 use Rattle.splits.proofs.subproblem.Rows.{row_made}
@@ -76,7 +77,7 @@ pub checks_one : ChecksOne
 checks_one P n d tables request = one _
 
 pub refusal_one : RefusalOne
-refusal_one P n d request = one _
+refusal_one P n d request = one_told _
 
 pub count_one : CountOne
 count_one domain r s p q = p.0 ∙ sym q.0

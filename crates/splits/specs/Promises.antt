@@ -1,5 +1,8 @@
 -- What the five splits promise, of any proper problem, any subproblem P on the agenda and any accepted request.
 use Rattle.std.specs.Prelude.{◌≡◌, ◌↔◌, List, map, ℕ, ◌≤◌, ◌<◌, length}
+use Rattle.std.specs.Prelude.{Result}
+use Rattle.problem.specs.declared.refusal.Refusal.{Refusal}
+use Rattle.problem.specs.Refused.{told}
 use Rattle.problem.specs.Problem.{Table, Words, AgreeApart}
 use Rattle.splits.specs.Requests.{kind_of, variable_of, value_of, target_of}
 use Rattle.problem.specs.Lists.{below}
@@ -126,7 +129,7 @@ ChecksOne = (P : Subproblem) (n d : ℕ) (tables request : List ℕ) → One (Ch
 
 -- The refusal of a request, 0 for none.
 abbrev pub RefusalOne : Type 0
-RefusalOne = (P : Subproblem) (n d : ℕ) (request : List ℕ) → One (RefusalOf P n d request)
+RefusalOne = (P : Subproblem) (n d : ℕ) (request : List ℕ) → One (λ (r : Result Unit Refusal). RefusalOf P n d request (told r))
 
 -- What is asked of all domains at once.
 abbrev pub CountOne : Type 0
