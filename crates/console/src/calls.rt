@@ -15,7 +15,13 @@ use problem::refusal::Refusal;
 use search::state::{Ran, State};
 
 // Opening.
-pub(crate) fn open(n: usize, d: usize, domains: &[u8], tables: &[u8], agenda: &mut [u8]) -> Result<State, Refusal>
+pub(crate) fn open(
+    n: usize,
+    d: usize,
+    domains: &[u8],
+    tables: &[u8],
+    agenda: &mut [u8],
+) -> Result<State, Refusal>
     ensures { OpensBytes n d domains.now tables.now agenda.old agenda.new (opened result) × ((opened result).state.subproblems < 4294967296) }
 {
     if !rooms::room_for(domains.len(), tables.len(), agenda.len()) {
@@ -244,7 +250,12 @@ fn load_none(file: &[u8]) -> Result<Header, Refusal>
 }
 
 // Load.
-pub(crate) fn load(file: &[u8], domains: &mut [u8], tables: &mut [u8], agenda: &mut [u8]) -> Result<Header, Refusal>
+pub(crate) fn load(
+    file: &[u8],
+    domains: &mut [u8],
+    tables: &mut [u8],
+    agenda: &mut [u8],
+) -> Result<Header, Refusal>
     ensures { LoadsBytes file.now domains.old domains.new tables.old tables.new agenda.old agenda.new (loaded result) × NarrowLoaded (loaded result) }
 {
     if !rooms::room_for(domains.len(), tables.len(), agenda.len()) {

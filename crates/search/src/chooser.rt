@@ -191,9 +191,7 @@ fn put(
     let further = further_of(top, choice);
     let out = further.out;
     if (at_once::filled(out) as usize) < free {
-        return Ok(spread(
-            top, n, d, tables, agenda, choice, further, slot,
-        ));
+        return Ok(spread(top, n, d, tables, agenda, choice, further, slot));
     }
     if free < 2 {
         return Err(Refusal::Room);

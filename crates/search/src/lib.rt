@@ -216,9 +216,7 @@ fn step_chosen(
     if subproblems != 0 {
         let top = agenda::read_lanes(lanes, n, agenda, subproblems - 1);
         if !top.all_instantiated(n) {
-            return go_on(chooser::take_chosen(
-                top, n, d, tables, agenda, rows, state,
-            ));
+            return go_on(chooser::take_chosen(top, n, d, tables, agenda, rows, state));
         }
     }
     ControlFlow::Break(None)

@@ -27,9 +27,9 @@ overflow_mul-n-else-domains-n c =
 pub returns-then-domains-n : goal.returns-then-domains-n
 unfolding problem_sizes
 returns-then-domains-n c = else_rest _ _ _ (sym c.in_ok-refusal_of_numbers.ensures) (elim c.then-domains-n.branch [
-      | then-domains-n-via-then-domains-n w ↦ simp (ne_eqb _ _ w.if-domains-n.true)
-      | then-domains-n-via-else-domains-n+then-tables-n w ↦ simp (ne_eqb _ _ w.if-tables-n.true, and-false)
-    ])
+  | then-domains-n-via-then-domains-n w ↦ simp (ne_eqb _ _ w.if-domains-n.true)
+  | then-domains-n-via-else-domains-n+then-tables-n w ↦ simp (ne_eqb _ _ w.if-tables-n.true, and-false)
+])
 
 pub returns : goal.returns
 unfolding problem_sizes

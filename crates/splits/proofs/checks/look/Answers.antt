@@ -26,11 +26,14 @@ loop-i-preserved c =
       )
       | else-i-variable w ↦ (
         omega (arith, w.count-is),
-        (rw w.count-is (elim w.else-i-variable.branch [
-          | else-i-variable-via-then-i-variable+else-is_instantiated v ↦
-              look_skip _ _ _ _ _ _ _ inv _ (other_looked _ _ _ _ v.if-i-variable.true v.is_instantiated.ensures) v.if-is_instantiated.false
-          | else-i-variable-via-else-i-variable v ↦ look_skip _ _ _ _ _ _ _ inv _ (own_passed _ _ _ v.if-i-variable.false) refl
-        ]), c.loop-i.invariant.1.1),
+        (
+          rw w.count-is (elim w.else-i-variable.branch [
+            | else-i-variable-via-then-i-variable+else-is_instantiated v ↦
+                look_skip _ _ _ _ _ _ _ inv _ (other_looked _ _ _ _ v.if-i-variable.true v.is_instantiated.ensures) v.if-is_instantiated.false
+            | else-i-variable-via-else-i-variable v ↦ look_skip _ _ _ _ _ _ _ inv _ (own_passed _ _ _ v.if-i-variable.false) refl
+          ]),
+          c.loop-i.invariant.1.1,
+        ),
       )
     ]
 

@@ -19,9 +19,11 @@ returns-then-eq c =
 pub returns-then-d-value : goal.returns-then-d-value
 unfolding deserves9
 returns-then-d-value c =
-    rw
-    (← c.value-value.ensures, ne_eqb _ _ (kind_not_4 c.args.kind (same_false the_type c.args.kind Halving (sym c.eq.ensures ∙ c.if-eq.false))),
-    le-leb _ _ c.if-d-value.true)
+    rw (
+      ← c.value-value.ensures,
+      ne_eqb _ _ (kind_not_4 c.args.kind (same_false the_type c.args.kind Halving (sym c.eq.ensures ∙ c.if-eq.false))),
+      le-leb _ _ c.if-d-value.true,
+    )
 
 pub returns-else-d-value : goal.returns-else-d-value
 unfolding deserves9

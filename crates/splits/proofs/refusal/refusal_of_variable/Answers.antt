@@ -10,10 +10,10 @@ use Rattle.splits.proofs.refusal.refusal_of_variable.Goals.{then-n-variable-via-
 pub returns-then-n-variable : goal.returns-then-n-variable
 unfolding refusal_of_variable
 returns-then-n-variable c = rw (← c.variable-variable.ensures) (elim c.then-n-variable.branch [
-      | then-n-variable-via-then-n-variable w ↦ simp (le-leb _ _ w.if-n-variable.true)
-      | then-n-variable-via-else-n-variable+then-is_instantiated w ↦
-        simp (sym w.is_instantiated.ensures ∙ w.if-is_instantiated.true, or-true)
-    ])
+  | then-n-variable-via-then-n-variable w ↦ simp (le-leb _ _ w.if-n-variable.true)
+  | then-n-variable-via-else-n-variable+then-is_instantiated w ↦
+      simp (sym w.is_instantiated.ensures ∙ w.if-is_instantiated.true, or-true)
+])
 
 pub returns-then-deserves_9 : goal.returns-then-deserves_9
 returns-then-deserves_9 c =
