@@ -156,7 +156,7 @@ def uniqueness(faults):
         else:
             said = statement(specs, stated)
             mentions = len(re.findall(rf"(?<![^\s(]){re.escape(ensures.group(1))}(?![^\s)])", said))
-            if not (mentions == 1 and "One (" in said or mentions == 2 and "≡" in said.rsplit("→", 1)[-1]):
+            if not (mentions == 1 and re.search(r"\bOne(?:Told)? \(", said) or mentions == 2 and "≡" in said.rsplit("→", 1)[-1]):
                 faults.append(f"{where} has no {stated} in {specs.relative_to(TOP)} that says of {ensures.group(1)} that two results are equal")
         if not re.search(rf"(?m)^pub {re.escape(name)} : {re.escape(stated)}$", text_of(proofs)):
             faults.append(f"{where} has no {name} : {stated} in {proofs.relative_to(TOP)}")

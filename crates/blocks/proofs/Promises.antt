@@ -2,7 +2,7 @@
 -- Assumes nothing.
 use mathlib.Core.Path.{refl, sym, ◌∙◌}
 use native.Mathlib.Omega.{arith}
-use Rattle.problem.proofs.Refused.{told_once}
+use Rattle.problem.proofs.Refused.{one_told}
 use Rattle.problem.proofs.Answers.{one}
 use Rattle.blocks.specs.Blocks.{carried, ones_sum, check_of, file_of}
 use Rattle.blocks.specs.Promises.{BlocksWhole, BlocksRead, BlocksLength, BlocksBytes, CheckWord, SumFolded, Rfc1071, Refused14, RefusedNone, CheckOfOne, RefusalOfFileOne, ContentWordOne, PutContentOne, PutBlocksOne}
@@ -42,7 +42,7 @@ pub check_of_one : CheckOfOne
 check_of_one block = one _
 
 pub refusal_of_file_one : RefusalOfFileOne
-refusal_of_file_one file r s h k = told_once r s (Whole.refusal_is file _ h ∙ sym (Whole.refusal_is file _ k))
+refusal_of_file_one file = one_told (λ r s h k. Whole.refusal_is file r h ∙ sym (Whole.refusal_is file s k))
 
 pub content_word_one : ContentWordOne
 content_word_one file k = one _

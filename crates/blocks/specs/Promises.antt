@@ -1,8 +1,6 @@
 -- What blocks promise. Stated here, proved in proofs/Promises.antt.
 use Rattle.std.specs.Prelude.{◌≡◌, ◌↔◌, List, [], ◌∷◌, ℕ, ◌+◌, ◌*◌, ◌/◌, ◌%◌, ◌≤◌, ◌<◌, length, get_or}
-use Rattle.std.specs.Prelude.{Result}
-use Rattle.problem.specs.declared.refusal.Refusal.{Refusal}
-use Rattle.problem.specs.Refused.{told}
+use Rattle.problem.specs.Refused.{OneTold}
 use Rattle.problem.specs.Lists.{sum}
 use Rattle.problem.specs.Answers.{One}
 use Rattle.blocks.specs.Blocks.{ones_sum, check_of, blocks_for, file_of}
@@ -67,7 +65,7 @@ CheckOfOne = (block : List ℕ) → One (CheckOf block)
 
 -- The refusal of a file is one.
 abbrev pub RefusalOfFileOne : Type 0
-RefusalOfFileOne = (file : List ℕ) → One (λ (r : Result Unit Refusal). RefusalOfFile file (told r))
+RefusalOfFileOne = (file : List ℕ) → OneTold (RefusalOfFile file)
 
 -- A word of a content is one number.
 abbrev pub ContentWordOne : Type 0

@@ -23,6 +23,7 @@ mod Cut
 pub mod Solutions
 mod Living
 pub mod OneOutcome
+pub mod Outcomes
 pub mod Promises
 pub mod LoadOutcomes
 mod SaveOutcomes

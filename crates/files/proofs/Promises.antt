@@ -5,12 +5,13 @@ use native.Mathlib.Omega.{arith}
 use lib.ListN.{length}
 use Rattle.blocks.specs.Blocks.{blocks_for}
 use Rattle.files.specs.Content.{content_of}
-use Rattle.files.specs.Promises.{HeaderOfOne, LoadAfterSave, SaveAfterLoad, LoadedPasses, LoadLeaves, LoadsBack, SavesBack, Largest, LargestMet, SaveEnough, SaveFirst, Save13, SaveNone, Load14, Load15, Load3, Load12, LoadNone, SaveOne, LoadOne, DiagonalOpen, DiagonalRun, DiagonalChoose, DiagonalSave, Lived, LivedReached, LivedSolvable, LivedSteps, LivedChecks, UnsolvableRun, UnsolvableChoose, SolvedRun, SolvedChoose, SameSolutions, CutAny, CutLived, CutChoose}
+use Rattle.files.specs.Promises.{HeaderOfOne, LoadAfterSave, SaveAfterLoad, LoadedPasses, LoadLeaves, LoadsBack, SavesBack, Largest, LargestMet, SaveEnough, SaveFirst, Save13, SaveNone, Load14, Load15, Load3, Load12, LoadNone, SavedResultOne, LoadedResultOne, SaveOne, LoadOne, DiagonalOpen, DiagonalRun, DiagonalChoose, DiagonalSave, Lived, LivedReached, LivedSolvable, LivedSteps, LivedChecks, UnsolvableRun, UnsolvableChoose, SolvedRun, SolvedChoose, SameSolutions, CutAny, CutLived, CutChoose}
 use Rattle.search.proofs.Encoding.{length_stack}
 use Rattle.search.proofs.first_checks.FirstPassing.{search_is_passed}
 use Rattle.search.proofs.Reaching.{reached_solvable, reached_steps, reached_checks}
 use Rattle.search.proofs.Promises.{chooser_says}
 use Rattle.blocks.proofs.Whole
+use Rattle.files.proofs.Outcomes.{saved_once, loaded_once}
 use Rattle.files.proofs.Accepted
 use Rattle.files.proofs.Contents
 use Rattle.files.proofs.RoundTrip
@@ -90,6 +91,12 @@ load_12 = Refusals.load_12
 
 pub load_none : LoadNone
 load_none = Refusals.load_none
+
+pub saved_result_one : SavedResultOne
+saved_result_one = saved_once
+
+pub loaded_result_one : LoadedResultOne
+loaded_result_one = loaded_once
 
 pub save_one : SaveOne
 save_one = OneOutcome.save_one

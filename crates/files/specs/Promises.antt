@@ -1,4 +1,7 @@
 -- What save and load promise. Stated here, proved in proofs/Promises.antt.
+use Rattle.std.specs.Prelude.{Result}
+use Rattle.problem.specs.declared.refusal.Refusal.{Refusal}
+use Rattle.files.specs.declared.saved.Header.{Header}
 use Rattle.std.specs.Prelude.{◌≡◌, ◌↔◌, ℕ, ◌+◌, ◌*◌, ◌≤◌, length, get_or, take, drop}
 use mathlib.Core.List.{List, Memᴰ, ◌++◌}
 use Rattle.problem.specs.Problem.{Problem, Proper, Table, AllowSame, Solution, table_of, AgreeApart, Words, problem_of}
@@ -22,8 +25,7 @@ use Rattle.blocks.specs.Reading.{Deserves14, Bytes}
 use Rattle.files.specs.Reading.{said_n, said_d, said_steps, said_checks, said_subproblems, said_domains, said_allowed, said_search, table_words, Deserves15, refusal_of_words}
 use Rattle.blocks.specs.Tests.Whole.{refusal_of_file}
 use Rattle.files.specs.Calls.{HeaderOf, handed_content, save_refusal, Saves, load_refusal, Loads, Deserves13, Deserves12Load}
-use Rattle.files.specs.Outcomes.{Saved}
-use Rattle.files.specs.Outcomes.{Loaded}
+use Rattle.files.specs.Outcomes.{Saved, saved as saved_of, Loaded, loaded as loaded_of}
 
 -- ---- load after save, and save after load
 
@@ -170,6 +172,13 @@ LoadNone =
     × (Deserves12Load file agenda → ⊥)))
 
 -- ---- one outcome
+
+-- What save and load tell leaves one result each.
+abbrev pub SavedResultOne : Type 0
+SavedResultOne = (r s : Result ℕ Refusal) → saved_of r ≡ saved_of s → r ≡ s
+
+abbrev pub LoadedResultOne : Type 0
+LoadedResultOne = (r s : Result Header Refusal) → loaded_of r ≡ loaded_of s → r ≡ s
 
 -- Two outcomes of save, of one input, are equal.
 abbrev pub SaveOne : Type 0

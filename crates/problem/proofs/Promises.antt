@@ -70,10 +70,10 @@ pub told_one : ToldOne
 told_one = told_once
 
 pub refusal_of_numbers_one : RefusalOfNumbersOne
-refusal_of_numbers_one n d = one_told _
+refusal_of_numbers_one n d = one_told (one _)
 
 pub sizes_refusal_one : SizesRefusalOne
-sizes_refusal_one n d domains tables = one_told _
+sizes_refusal_one n d domains tables = one_told (one _)
 
 pub refusal_one : RefusalOne
-refusal_one n d domains tables = one_told _
+refusal_one n d domains tables = one_told (one _)

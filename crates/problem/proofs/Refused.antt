@@ -4,7 +4,7 @@ use mathlib.Core.Path.{refl, sym, ap, ◌∙◌}
 use Rattle.problem.specs.declared.refusal.Refusal.{Refusal}
 use Rattle.problem.specs.declared.refusal.Refusal.TheVariants.{Variables, Values, Lengths, Masks, OneWay, Search, Kind, Variable, Value, Targets, Steps, Room, Buffer, Blocks, Content}
 use Rattle.problem.specs.Answers.{One}
-use Rattle.problem.specs.Refused.{number_of, told}
+use Rattle.problem.specs.Refused.{number_of, told, OneTold}
 use Rattle.problem.specs.Tests.FirstChecks.{or_else}
 use Rattle.problem.proofs.Tests.{true_false}
 use Rattle.problem.proofs.first_checks.Parts.{else_first}
@@ -83,9 +83,9 @@ told_once (Ok a) (Err f) e = absurd (never_0 f (sym e))
 told_once (Err f) (Ok b) e = absurd (never_0 f e)
 told_once (Err f) (Err g) e = ap Err (number_once f g e)
 
--- So what says of a result which number it tells leaves one.
-pub one_told : (k : ℕ) → One (λ (r : Result Unit Refusal). told r ≡ k)
-one_told k r s h e = told_once r s (h ∙ sym e)
+-- So what leaves one number leaves one result.
+pub one_told : {S : ℕ → Type 0} → One S → OneTold S
+one_told one = (one, λ r s h k. told_once r s (one _ _ h k))
 
 -- What `?` hands on is the refusal that it was told.
 pub handed_err : {A : Type 0} (r : Result A Refusal) (refusal : Refusal) → IsErrAnd r (λ e. e ≡ refusal) → r ≡ Err refusal

@@ -5,7 +5,7 @@ use Rattle.problem.specs.Problem.{Problem, problem_of}
 use Rattle.problem.specs.Calls.{Count, Lowest, Only, Has, SmallerHalf, Within, Allowed, Row, BitsOf, RefusalOfNumbers, SizesRefusal, RefusalOf}
 use Rattle.std.specs.Prelude.{Result}
 use Rattle.problem.specs.declared.refusal.Refusal.{Refusal}
-use Rattle.problem.specs.Refused.{number_of, told}
+use Rattle.problem.specs.Refused.{number_of, told, OneTold}
 use Rattle.problem.specs.Answers.{One}
 use Rattle.problem.specs.Matrix.{Turned}
 use Rattle.problem.specs.FirstChecks.{Deserves1, Deserves2, Deserves3Problem, Deserves4, Deserves5}
@@ -98,15 +98,15 @@ BitsOfOne = (words : List ℕ) → One (BitsOf words)
 
 -- The first checks of the numbers.
 abbrev pub RefusalOfNumbersOne : Type 0
-RefusalOfNumbersOne = (n d : ℕ) → One (λ (r : Result Unit Refusal). RefusalOfNumbers n d (told r))
+RefusalOfNumbersOne = (n d : ℕ) → OneTold (RefusalOfNumbers n d)
 
 -- The first checks of how many words are lent.
 abbrev pub SizesRefusalOne : Type 0
-SizesRefusalOne = (n d domains tables : ℕ) → One (λ (r : Result Unit Refusal). SizesRefusal n d domains tables (told r))
+SizesRefusalOne = (n d domains tables : ℕ) → OneTold (SizesRefusal n d domains tables)
 
 -- The first checks of a problem.
 abbrev pub RefusalOne : Type 0
-RefusalOne = (n d : ℕ) (domains tables : List ℕ) → One (λ (r : Result Unit Refusal). RefusalOf n d domains tables (told r))
+RefusalOne = (n d : ℕ) (domains tables : List ℕ) → OneTold (RefusalOf n d domains tables)
 
 -- Rows for columns.
 abbrev pub TurnedOne : Type 0

@@ -1,5 +1,6 @@
 -- The refusals, and their numbers.
 use Rattle.std.specs.Prelude.{ℕ, Result, Ok, Err}
+use Rattle.problem.specs.Answers.{One}
 use Rattle.problem.specs.declared.refusal.Refusal.{Refusal}
 use Rattle.problem.specs.declared.refusal.Refusal.TheVariants.{Variables, Values, Lengths, Masks, OneWay, Search, Kind, Variable, Value, Targets, Steps, Room, Buffer, Blocks, Content}
 
@@ -25,3 +26,7 @@ number_of Content = 15
 abbrev pub told : {A : Type 0} → Result A Refusal → ℕ
 told (Ok r) = 0
 told (Err refusal) = number_of refusal
+
+-- What says which number a check tells leaves one number, and one result.
+abbrev pub OneTold : (ℕ → Type 0) → Type 0
+OneTold S = One S × One (λ (r : Result Unit Refusal). S (told r))

@@ -149,16 +149,16 @@ pub fresh_one : FreshOne
 fresh_one subproblems = one _
 
 pub sizes_refusal_one : SizesRefusalOne
-sizes_refusal_one n d domains tables agenda = one_told _
+sizes_refusal_one n d domains tables agenda = one_told (one _)
 
 pub open_refusal_one : OpenRefusalOne
-open_refusal_one n d domains tables agenda = one_told _
+open_refusal_one n d domains tables agenda = one_told (one _)
 
 pub search_refusal_one : SearchRefusalOne
-search_refusal_one n d domains tables agenda steps checks subproblems = one_told _
+search_refusal_one n d domains tables agenda steps checks subproblems = one_told (one _)
 
 pub run_refusal_one : RunRefusalOne
-run_refusal_one n d domains tables agenda requests steps checks subproblems = one_told _
+run_refusal_one n d domains tables agenda requests steps checks subproblems = one_told (one _)
 
 pub open_one : OpenOne
 open_one n d domains tables before after after' r s h k = (

@@ -7,7 +7,7 @@ use Rattle.splits.specs.Subproblems.{size_of}
 use Rattle.problem.specs.Refusing.{Refusals, FirstOf}
 use Rattle.std.specs.Prelude.{Result}
 use Rattle.problem.specs.declared.refusal.Refusal.{Refusal}
-use Rattle.problem.specs.Refused.{told}
+use Rattle.problem.specs.Refused.{OneTold}
 use Rattle.problem.specs.Answers.{One}
 use Rattle.splits.specs.declared.subproblem.Subproblem.{Subproblem}
 use Rattle.searches.specs.Verdicts.{number_of, verdict_of}
@@ -313,23 +313,23 @@ FreshOne = (subproblems : ℕ) → One (Fresh subproblems)
 
 -- The numbers and how many words are lent.
 abbrev pub SizesRefusalOne : Type 0
-SizesRefusalOne = (n d domains tables agenda : ℕ) → One (λ (r : Result Unit Refusal). told r ≡ sizes_refusal n d domains tables agenda)
+SizesRefusalOne = (n d domains tables agenda : ℕ) → OneTold (λ k. k ≡ sizes_refusal n d domains tables agenda)
 
 -- The first checks of opening.
 abbrev pub OpenRefusalOne : Type 0
-OpenRefusalOne = (n d : ℕ) (domains tables agenda : List ℕ) → One (λ (r : Result Unit Refusal). told r ≡ open_refusal n d domains tables agenda)
+OpenRefusalOne = (n d : ℕ) (domains tables agenda : List ℕ) → OneTold (λ k. k ≡ open_refusal n d domains tables agenda)
 
 -- The first checks of the chooser and of save.
 abbrev pub SearchRefusalOne : Type 0
 SearchRefusalOne =
     (n d : ℕ) (domains tables agenda : List ℕ) (steps checks subproblems : ℕ)
-    → One (λ (r : Result Unit Refusal). told r ≡ search_refusal n d domains tables agenda steps checks subproblems)
+    → OneTold (λ k. k ≡ search_refusal n d domains tables agenda steps checks subproblems)
 
 -- The first checks of a run.
 abbrev pub RunRefusalOne : Type 0
 RunRefusalOne =
     (n d : ℕ) (domains tables agenda requests : List ℕ) (steps checks subproblems : ℕ)
-    → One (λ (r : Result Unit Refusal). told r ≡ run_refusal n d domains tables agenda requests steps checks subproblems)
+    → OneTold (λ k. k ≡ run_refusal n d domains tables agenda requests steps checks subproblems)
 
 -- Opening: no two differing results, and no two differing agendas at exit, satisfy its statement at one input.
 abbrev pub OpenOne : Type 0

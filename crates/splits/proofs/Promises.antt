@@ -77,7 +77,7 @@ pub checks_one : ChecksOne
 checks_one P n d tables request = one _
 
 pub refusal_one : RefusalOne
-refusal_one P n d request = one_told _
+refusal_one P n d request = one_told (one _)
 
 pub count_one : CountOne
 count_one domain r s p q = p.0 ∙ sym q.0

@@ -1,8 +1,6 @@
 -- What the five splits promise, of any proper problem, any subproblem P on the agenda and any accepted request.
 use Rattle.std.specs.Prelude.{◌≡◌, ◌↔◌, List, map, ℕ, ◌≤◌, ◌<◌, length}
-use Rattle.std.specs.Prelude.{Result}
-use Rattle.problem.specs.declared.refusal.Refusal.{Refusal}
-use Rattle.problem.specs.Refused.{told}
+use Rattle.problem.specs.Refused.{OneTold}
 use Rattle.problem.specs.Problem.{Table, Words, AgreeApart}
 use Rattle.splits.specs.Requests.{kind_of, variable_of, value_of, target_of}
 use Rattle.problem.specs.Lists.{below}
@@ -129,7 +127,7 @@ ChecksOne = (P : Subproblem) (n d : ℕ) (tables request : List ℕ) → One (Ch
 
 -- The refusal of a request, 0 for none.
 abbrev pub RefusalOne : Type 0
-RefusalOne = (P : Subproblem) (n d : ℕ) (request : List ℕ) → One (λ (r : Result Unit Refusal). RefusalOf P n d request (told r))
+RefusalOne = (P : Subproblem) (n d : ℕ) (request : List ℕ) → OneTold (RefusalOf P n d request)
 
 -- What is asked of all domains at once.
 abbrev pub CountOne : Type 0
