@@ -7,8 +7,9 @@ ghost use Rattle.search.specs.Outcomes.{opened, ran};
 ghost use Rattle.files.specs.Outcomes.{saved, loaded};
 ghost use Rattle.word_bytes.specs.Bytes.{Fits};
 ghost use Rattle.console.specs.Loops.Rooms.{Room};
-ghost use Rattle.console.specs.Loops.Parts.{Listed, RunsAt, Narrow, NarrowLoaded};
+ghost use Rattle.console.specs.Loops.Parts.{WholeList, RunsAt, Narrow, NarrowLoaded};
 
+use crate::parts::Run;
 use crate::{fronts, numbers, parts, rooms};
 use files::saved::Header;
 use problem::refusal::Refusal;
@@ -50,34 +51,26 @@ pub(crate) fn open(
 }
 
 // A run of a few requests in a short agenda: the words made for it are no more than these need.
-fn run_short(
-    n: usize,
-    d: usize,
-    domains: &[u16],
-    tables: &[u16],
-    agenda: &mut [u8],
-    requests: &[u8],
-    state: State,
-) -> Ran
-    requires { Fits (length agenda.old) 8704 × ((length requests.now ≤ 1120) × (Listed n (length requests.now) × (state.subproblems < 4294967296))) }
-    ensures { RunsAt n d domains.now tables.now agenda.old agenda.new requests.now state (ran result) × Narrow (ran result) }
+fn run_short(run: &Run, agenda: &mut [u8]) -> Ran
+    requires { Fits (length agenda.old) 8704 × (length run.now.requests.now ≤ 1120) }
+    ensures { let r = run.now in RunsAt r.n r.d r.domains.now r.tables.now agenda.old agenda.new r.requests.now r.state (ran result) × Narrow (ran result) }
 {
     let mut words = [0u16; rooms::SHORT_WORDS];
     let room = word_bytes::words_of(agenda, &mut words);
     let mut listed = [0u16; rooms::FEW_WORDS];
-    let count = word_bytes::words_of(requests, &mut listed);
+    let count = word_bytes::words_of(run.requests, &mut listed);
     let ran = search::run(
-        n,
-        d,
-        domains,
-        tables,
+        run.n,
+        run.d,
+        run.domains,
+        run.tables,
         &mut words[..room],
         &listed[..count],
-        state,
+        run.state,
     );
     fronts::write_back(
-        n,
-        state.subproblems,
+        run.n,
+        run.state.subproblems,
         ran.taken,
         ran.state.subproblems,
         &words[..room],
@@ -87,24 +80,16 @@ fn run_short(
 }
 
 // A run of any requests in any agenda.
-fn run_long(
-    n: usize,
-    d: usize,
-    domains: &[u16],
-    tables: &[u16],
-    agenda: &mut [u8],
-    requests: &[u8],
-    state: State,
-) -> Ran
-    requires { Fits (length agenda.old) 17408 × (Listed n (length requests.now) × (state.subproblems < 4294967296)) }
-    ensures { RunsAt n d domains.now tables.now agenda.old agenda.new requests.now state (ran result) × Narrow (ran result) }
+fn run_long(run: &Run, agenda: &mut [u8]) -> Ran
+    requires { Fits (length agenda.old) 17408 }
+    ensures { let r = run.now in RunsAt r.n r.d r.domains.now r.tables.now agenda.old agenda.new r.requests.now r.state (ran result) × Narrow (ran result) }
 {
     let mut words = [0u16; rooms::AGENDA_WORDS];
     let room = word_bytes::words_of(agenda, &mut words);
-    let ran = parts::run_parts(n, d, domains, tables, &mut words[..room], requests, state);
+    let ran = parts::run_parts(run, &mut words[..room]);
     fronts::write_back(
-        n,
-        state.subproblems,
+        run.n,
+        run.state.subproblems,
         ran.taken,
         ran.state.subproblems,
         &words[..room],
@@ -123,19 +108,25 @@ fn run_words(
     requests: &[u8],
     state: State,
 ) -> Ran
-    requires { Room domains.now tables.now agenda.old 17408 × (Listed n (length requests.now) × (state.subproblems < 4294967296)) }
+    requires { Room domains.now tables.now agenda.old 17408 × (WholeList n (length requests.now) × (state.subproblems < 4294967296)) }
     ensures { RunsWords n d domains.now tables.now agenda.old agenda.new requests.now state (ran result) × Narrow (ran result) }
 {
     let mut domain_words = [0u16; rooms::DOMAIN_WORDS];
     let variables = word_bytes::words_of(domains, &mut domain_words);
     let mut table_words = [0u16; rooms::TABLE_WORDS];
     let masks = word_bytes::words_of(tables, &mut table_words);
-    let domains = &domain_words[..variables];
-    let tables = &table_words[..masks];
+    let run = Run {
+        n,
+        d,
+        domains: &domain_words[..variables],
+        tables: &table_words[..masks],
+        requests,
+        state,
+    };
     if rooms::few(agenda.len(), requests.len()) {
-        return run_short(n, d, domains, tables, agenda, requests, state);
+        return run_short(&run, agenda);
     }
-    run_long(n, d, domains, tables, agenda, requests, state)
+    run_long(&run, agenda)
 }
 
 // A run, in the front of the agenda where that tells how it ends. Of that front it is asked whether there is room: an agenda longer than its front is

@@ -15,7 +15,7 @@ use Rattle.word_bytes.proofs.Words.{words_length}
 use Rattle.word_bytes.proofs.Fitting.{all_true, true_all}
 use Rattle.console.specs.Calls.{WholeProblem}
 use Rattle.console.specs.Loops.Rooms.{room_for, few, whole_list, Room}
-use Rattle.console.specs.Loops.Parts.{Listed}
+use Rattle.console.specs.Loops.Parts.{Listed, WholeList}
 use Rattle.console.proofs.numbers.Unfit.{Unfit}
 
 -- What has room fits.
@@ -51,10 +51,15 @@ list_true n bytes e = (
   eqb-true (bytes % (2 * (n + 3))) 0 (and_right (leb n 32) (eqb (bytes % (2 * (n + 3))) 0) e),
 )
 
-pub listed_then : (n bytes : ℕ) (b : Bool) → b ≡ whole_list n bytes → not b ≡ false → Listed n bytes
-listed_then n bytes b is y =
-    let (few, e) = list_true n bytes (sym is ∙ not-false b y) in
+pub whole_then : (n bytes : ℕ) (b : Bool) → b ≡ whole_list n bytes → not b ≡ false → WholeList n bytes
+whole_then n bytes b is y = list_true n bytes (sym is ∙ not-false b y)
+
+pub listed_is : (n bytes : ℕ) → WholeList n bytes → Listed n bytes
+listed_is n bytes (few, e) =
     record { few = few; requests = bytes / (2 * (n + 3)); whole = sym (div-add-mod' bytes (2 * (n + 3))) ∙ omega (arith, e) }
+
+pub listed_then : (n bytes : ℕ) (b : Bool) → b ≡ whole_list n bytes → not b ≡ false → Listed n bytes
+listed_then n bytes b is y = listed_is n bytes (whole_then n bytes b is y)
 
 pub listed_even : (n bytes : ℕ) → Listed n bytes → bytes % 2 ≡ 0
 listed_even n bytes h = omega (arith, h.whole)

@@ -1,5 +1,5 @@
 -- A list of requests run a part at a time.
-use Rattle.std.specs.Prelude.{◌≡◌, Bool, ◌&&◌, List, ℕ, ◌+◌, ◌-◌, ◌*◌, ◌≤◌, ◌<◌, eqb}
+use Rattle.std.specs.Prelude.{◌≡◌, Bool, ◌&&◌, List, ℕ, ◌+◌, ◌-◌, ◌*◌, ◌%◌, ◌≤◌, ◌<◌, eqb}
 use Rattle.searches.specs.Verdicts.{number_of}
 use Rattle.search.specs.Calls.{Runs}
 use Rattle.search.specs.declared.state.State.{State}
@@ -20,6 +20,10 @@ pub record Listed (n bytes : ℕ) : Type 0 where
   pub few : n ≤ 32
   pub requests : ℕ
   pub whole : bytes ≡ requests * (2 * (n + 3))
+
+-- The same as a test.
+abbrev pub WholeList : ℕ → ℕ → Type 0
+WholeList n bytes = (n ≤ 32) × (bytes % (2 * (n + 3)) ≡ 0)
 
 -- A part of a list, from `at` to `end`: whole requests, 14,000 bytes at most (200 of 32 variables), and some unless the
 -- list ends there.

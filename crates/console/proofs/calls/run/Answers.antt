@@ -2,7 +2,7 @@
 use mathlib.Core.Bool.{not}
 use mathlib.Core.Path.{ap}
 use native.Mathlib.Omega.{arith}
-use Rattle.console.proofs.rooms.Testing.{room_then, room_false, listed_then, listed_even}
+use Rattle.console.proofs.rooms.Testing.{room_then, room_false, whole_then, listed_then, listed_even}
 use Rattle.console.proofs.fronts.Measuring.{front_fits, front_room, front_whole_problem}
 use Rattle.console.proofs.calls.Refusing.{runs_long, runs_turned, runs_cut}
 use Rattle.console.proofs.calls.Lending.{front_runs}
@@ -24,7 +24,7 @@ returns-then-not-room_for c =
 pub run_words-requires : goal.run_words-requires
 run_words-requires c = (
   front_room c.front_of-front.ensures (room_then _ c.room_for.ensures (ap not c.if-not-room_for.false)),
-  (listed_then _ _ _ c.whole_list.ensures (ap not c.if-not-whole_list.false), c.requires),
+  (whole_then _ _ _ c.whole_list.ensures (ap not c.if-not-whole_list.false), c.requires),
 )
 
 pub returns : goal.returns

@@ -8,7 +8,7 @@ pub run_short-requires : goal.run_short-requires
 run_short-requires c =
     let pre = c.requires in
     let (fits, list) = few_short c.few.ensures c.if-few.true pre.0.of_agenda in
-    (fits, (list, pre.1))
+    (fits, list)
 
 pub returns-then-few : goal.returns-then-few
 returns-then-few c =

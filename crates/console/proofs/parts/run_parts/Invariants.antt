@@ -5,7 +5,7 @@ use Rattle.console.proofs.parts.SoFar.{Going}
 use Rattle.console.proofs.parts.run_parts.Given as goal
 
 abbrev pub invariant-loop-at : goal.invariant-loop-at
-invariant-loop-at l = Going l.n l.d l.domains l.tables l.initial.agenda l.requests l.initial.state l.agenda l.state l.at l.taken
+invariant-loop-at l = Going l.run.n l.run.d l.run.domains.now l.run.tables.now l.initial.agenda l.run.requests.now l.run.state l.agenda l.state l.at l.taken
 
 abbrev pub decreases-loop-at : goal.decreases-loop-at
-decreases-loop-at l = length l.requests - l.at
+decreases-loop-at l = length l.run.requests.now - l.at
