@@ -1,7 +1,7 @@
--- `symmetry::part_both_ways` meets its contract: the loop's invariant: what is allowed one way only of every pair passed is together.
+-- `Narrow::part_both_ways` meets its contract: the loop's invariant: what is allowed one way only of every pair passed is together.
 use Rattle.problem.proofs.first_checks.Joining.{joined_none, joined_more, joined_end}
 use Rattle.problem.proofs.symmetry.Pairs.{row_found}
-use Rattle.problem.proofs.symmetry.part_both_ways.Goals as goal
+use Rattle.problem.proofs.symmetry.Narrow.part_both_ways.Goals as goal
 
 pub loop-j-init : goal.loop-j-init
 loop-j-init c = joined_none _
@@ -11,5 +11,6 @@ loop-j-preserved c = joined_more _ _ _ _ c.loop-j.invariant c.one_way-bits.ensur
 
 pub returns : goal.returns
 returns c =
-    row_found _ _ _ c.requires.0 _ _ c.requires.1
+    let t = c.args.self.now in
+    row_found _ _ _ t.tables.fit t.below _ _ c.requires
     (joined_end _ _ _ _ c.loop-j.auto.j-end c.loop-j-test.false c.loop-j.invariant)

@@ -1,6 +1,6 @@
--- `symmetry::one_way` meets its contract: the masks of i with j, rows for columns, beside those of j with i.
+-- `Tables::one_way` meets its contract: the masks of i with j, rows for columns, beside those of j with i.
 use Rattle.problem.proofs.symmetry.Pairs.{one_way_found}
-use Rattle.problem.proofs.symmetry.one_way.Goals as goal
+use Rattle.problem.proofs.tables.Tables.one_way.Goals as goal
 
 pub returns : goal.returns
 returns c =
