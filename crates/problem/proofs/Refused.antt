@@ -1,5 +1,5 @@
 -- A refusal that is handed on.
-use Rattle.std.specs.Prelude.{◌≡◌, ℕ, List, [], ◌∷◌, get_or, true, false, Result, Ok, Err, IsErrAnd, is_ok}
+use Rattle.std.specs.Prelude.{◌≡◌, ℕ, [], ◌∷◌, get_or, true, false, Result, Ok, Err, IsErrAnd, is_ok}
 use mathlib.Core.Path.{refl, sym, ap, ◌∙◌}
 use Rattle.problem.specs.declared.refusal.Refusal.{Refusal}
 use Rattle.problem.specs.declared.refusal.Refusal.TheVariants.{Variables, Values, Lengths, Masks, OneWay, Search, Kind, Variable, Value, Targets, Steps, Room, Buffer, Blocks, Content}

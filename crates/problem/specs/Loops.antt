@@ -1,2 +1,3 @@
 pub mod FirstTests
 pub mod Matrices
+pub mod Tables

@@ -1,15 +1,16 @@
 // The first checks that speak of the problem alone: the refusals 1 to 5 that its numbers and words deserve.
-ghost use Rattle.std.specs.Prelude.{◌≡◌, ◌-◌, ◌^◌, ◌≤◌, ◌<◌, ltb};
-ghost use Rattle.problem.specs.Problem.{table_of, problem_of};
+ghost use Rattle.std.specs.Prelude.{◌≡◌, ◌-◌, ◌^◌, ◌≤◌, ◌<◌, length, ltb};
+ghost use Rattle.problem.specs.Problem.{problem_of};
 ghost use Rattle.problem.specs.Lists.{every};
-ghost use Rattle.problem.specs.Ranges.{Sized, Fitting};
 ghost use Rattle.problem.specs.Calls.{BitsOf, RefusalOfNumbers, SizesRefusal, RefusalOf};
 ghost use Rattle.problem.specs.Refused.{told};
 ghost use Rattle.problem.specs.Tests.FirstChecks.{refusal_of_problem};
 ghost use Rattle.problem.specs.Loops.FirstTests.{span_below, row_below};
+ghost use Rattle.problem.specs.Loops.Tables.{allowed};
 
 use crate::refusal::Refusal;
-use crate::symmetry;
+use crate::symmetry::Narrow;
+use crate::tables::Tables;
 
 // 1 or 2, or none.
 pub fn refusal_of_numbers(n: usize, d: usize) -> Result<(), Refusal>
@@ -43,47 +44,48 @@ pub fn bits_of(words: &[u16]) -> u16
     bits
 }
 
-// Whether no mask of the variable `i` with those from `from` to before `to` has a bit at `d` or above.
-fn span_below(n: usize, d: usize, tables: &[u16], i: usize, from: usize, to: usize) -> bool
-    requires { Sized n d tables.now × ((i < n) × ((from ≤ to) × (to ≤ n))) }
-    ensures { result ≡ span_below d (table_of n d tables.now) i from (to - from) }
-{
-    let start = (i * n + from) * d;
-    let end = (i * n + to) * d;
-    is_below(bits_of(&tables[start..end]), d)
-}
-
-// Whether no mask of the variable `i` with another has one; its places with itself are not read.
-fn row_below(n: usize, d: usize, tables: &[u16], i: usize) -> bool
-    requires { Sized n d tables.now × (i < n) }
-    ensures { result ≡ row_below n d (table_of n d tables.now) i }
-{
-    span_below(n, d, tables, i, 0, i) && span_below(n, d, tables, i, i + 1, n)
-}
-
-// Whether no mask that is read has one; of 16 values none can.
-fn tables_below(n: usize, d: usize, tables: &[u16]) -> bool
-    requires { Sized n d tables.now }
-    ensures { result ≡ every n (row_below n d (table_of n d tables.now)) }
-{
-    d == 16 || (0..n).all(|i| row_below(n, d, tables, i))
-}
-
-// 4 or 5, or none.
-fn refusal_of_problem(n: usize, d: usize, domains: &[u16], tables: &[u16]) -> Result<(), Refusal>
-    requires { Fitting n d domains.now tables.now }
-    ensures { told result ≡ refusal_of_problem (problem_of n d domains.now tables.now) }
-{
-    if !is_below(bits_of(domains), d) {
-        return Err(Refusal::Masks);
+impl Tables<'_> {
+    // Whether no mask of the variable `i` with those from `from` to before `to` has a bit at `d` or above.
+    fn span_below(&self, i: usize, from: usize, to: usize) -> bool
+        requires { (i < self.now.n) × ((from ≤ to) × (to ≤ self.now.n)) }
+        ensures { result ≡ span_below self.now.d (allowed self.now) i from (to - from) }
+    {
+        let start = (i * self.n + from) * self.d;
+        let end = (i * self.n + to) * self.d;
+        is_below(bits_of(&self.words[start..end]), self.d)
     }
-    if !tables_below(n, d, tables) {
-        return Err(Refusal::Masks);
+
+    // Whether no mask of the variable `i` with another has one; its places with itself are not read.
+    fn row_below(&self, i: usize) -> bool
+        requires { i < self.now.n }
+        ensures { result ≡ row_below self.now.n self.now.d (allowed self.now) i }
+    {
+        self.span_below(i, 0, i) && self.span_below(i, i + 1, self.n)
     }
-    if symmetry::tables_both_ways(n, d, tables) {
-        return Ok(());
+
+    // Whether no mask that is read has one; of 16 values none can.
+    fn are_below(&self) -> bool
+        ensures { result ≡ every self.now.n (row_below self.now.n self.now.d (allowed self.now)) }
+    {
+        self.d == 16 || (0..self.n).all(|i| self.row_below(i))
     }
-    Err(Refusal::OneWay)
+
+    // 4 or 5, or none, of the problem of these domains.
+    fn refusal(&self, domains: &[u16]) -> Result<(), Refusal>
+        requires { length domains.now ≡ self.now.n }
+        ensures { told result ≡ refusal_of_problem (problem_of self.now.n self.now.d domains.now self.now.words.now) }
+    {
+        if !is_below(bits_of(domains), self.d) {
+            return Err(Refusal::Masks);
+        }
+        if !self.are_below() {
+            return Err(Refusal::Masks);
+        }
+        if (Narrow { tables: *self }).both_ways() {
+            return Ok(());
+        }
+        Err(Refusal::OneWay)
+    }
 }
 
 // 1 to 3 of the numbers and of how many words are lent as domains and tables; 0 for none.
@@ -102,5 +104,10 @@ pub fn refusal(n: usize, d: usize, domains: &[u16], tables: &[u16]) -> Result<()
     ensures { RefusalOf n d domains.now tables.now (told result) }
 {
     sizes_refusal(n, d, domains.len(), tables.len())?;
-    refusal_of_problem(n, d, domains, tables)
+    Tables {
+        n,
+        d,
+        words: tables,
+    }
+    .refusal(domains)
 }

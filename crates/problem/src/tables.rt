@@ -1,7 +1,18 @@
 // The problem's tables: for each two variables and each value of the first, the values allowed beside it.
 ghost use Rattle.std.specs.Prelude.{◌≡◌, ◌+◌, ◌*◌, ◌<◌};
-ghost use Rattle.problem.specs.Ranges.{sized};
+ghost use Rattle.problem.specs.Ranges.{sized, Sized};
+ghost use Rattle.problem.specs.Problem.{Words};
 ghost use Rattle.problem.specs.Calls.{Within, Allowed};
+
+// Tables of n variables and d values: as many words as those have.
+#[derive(Clone, Copy)]
+pub(crate) struct Tables<'a> {
+    pub(crate) n: usize,
+    pub(crate) d: usize,
+    pub(crate) words: &'a [u16],
+    ghost fit: { Sized n d words.now },
+    ghost masks: { Words words.now },
+}
 
 // Whether n, d and the tables fit each other.
 fn fits(n: usize, d: usize, tables: &[u16]) -> bool

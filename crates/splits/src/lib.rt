@@ -1,6 +1,7 @@
 // The splits: a subproblem, a request, and the five splits.
 #![tactic(auto)]
 
+mod around;
 pub mod at_once;
 pub mod checks;
 pub mod kind;

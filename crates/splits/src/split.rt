@@ -1,84 +1,63 @@
 // The five splits: the pieces of a request, one by one.
 ghost use Rattle.std.specs.Prelude.{◌≡◌, ◌+◌, ◌≤◌, ◌<◌, cond, ltb};
-ghost use Rattle.problem.specs.Problem.{table_of};
 ghost use Rattle.splits.specs.Requests.{kind_of, variable_of};
 ghost use Rattle.splits.specs.Kinds.{kind_number};
 ghost use Rattle.splits.specs.Splits.{backtracked, checked, inferred, halved, extracted, candidates};
 ghost use Rattle.splits.specs.Calls.{Piece, Candidates};
-ghost use Rattle.problem.specs.Ranges.{Inside};
+ghost use Rattle.splits.specs.Loops.Around.{allowed};
 ghost use Rattle.splits.specs.Loops.Kinds.{around_value};
 
+use crate::around::Around;
 use crate::kind::Kind;
 use crate::subproblem::Subproblem;
-use crate::{checks, words};
-use problem::{beside, mask, tables};
+use crate::words;
+use problem::{beside, mask};
 
-// Backtracking: the variable instantiated to the value, emptied where an instantiated value forbids it; then the rest.
-fn backtracking(
-    top: Subproblem,
-    n: usize,
-    d: usize,
-    tables: &[u16],
-    variable: usize,
-    value: usize,
-    k: usize,
-) -> Subproblem
-    requires { Inside n d tables.now variable value }
-    ensures { result ≡ backtracked n (table_of n d tables.now) top variable value k }
-{
-    if k != 0 {
-        return top.without(variable, mask::only(value));
+impl Around<'_> {
+    // Backtracking: the variable instantiated to the value, emptied where an instantiated value forbids it; then the rest.
+    fn backtracking(&self, k: usize) -> Subproblem
+        ensures { let a = self.now in result ≡ backtracked a.n (allowed a) a.top a.variable a.value k }
+    {
+        if k != 0 {
+            return self.top.without(self.variable, mask::only(self.value));
+        }
+        if self.look().conflict {
+            return self.top.cut(self.variable, 0);
+        }
+        self.top.instantiate(self.variable, self.value)
     }
-    let looked = checks::look(top, n, d, tables, variable, value);
-    if looked.conflict {
-        return top.cut(variable, 0);
-    }
-    top.instantiate(variable, value)
-}
 
-// Forward checking: the precluded piece; then the rest.
-fn forward_checking(
-    top: Subproblem,
-    n: usize,
-    d: usize,
-    tables: &[u16],
-    variable: usize,
-    value: usize,
-    k: usize,
-) -> Subproblem
-    requires { Inside n d tables.now variable value }
-    ensures { result ≡ checked n (table_of n d tables.now) top variable value k }
-{
-    if k != 0 {
-        return top.without(variable, mask::only(value));
+    // Forward checking: the precluded piece; then the rest.
+    fn forward_checking(&self, k: usize) -> Subproblem
+        ensures { let a = self.now in result ≡ checked a.n (allowed a) a.top a.variable a.value k }
+    {
+        if k != 0 {
+            return self.top.without(self.variable, mask::only(self.value));
+        }
+        self.top.precluded(
+            self.variable,
+            beside::row(self.n, self.d, self.tables, self.variable, self.value),
+        )
     }
-    top.precluded(variable, beside::row(n, d, tables, variable, value))
-}
 
-// IDC: the precluded piece; then one for each other variable, with V's own place empty.
-fn idc(
-    top: Subproblem,
-    n: usize,
-    d: usize,
-    tables: &[u16],
-    variable: usize,
-    value: usize,
-    k: usize,
-) -> Subproblem
-    requires { Inside n d tables.now variable value × (k ≤ n) }
-    ensures { result ≡ inferred n (table_of n d tables.now) top variable value k }
-{
-    let row = beside::row(n, d, tables, variable, value);
-    if k == 0 {
-        return top.precluded(variable, row);
+    // IDC: the precluded piece; then one for each other variable, with V's own place empty.
+    fn idc(&self, k: usize) -> Subproblem
+        requires { k ≤ self.now.n }
+        ensures { let a = self.now in result ≡ inferred a.n (allowed a) a.top a.variable a.value k }
+    {
+        let row = beside::row(self.n, self.d, self.tables, self.variable, self.value);
+        if k == 0 {
+            return self.top.precluded(self.variable, row);
+        }
+        let j = k - 1;
+        if j == self.variable {
+            return self.top.cut(self.variable, 0);
+        }
+        self.top
+            .without(self.variable, mask::only(self.value))
+            .cut_before(self.variable, row, j)
+            .without(j, row[j])
     }
-    let j = k - 1;
-    if j == variable {
-        return top.cut(variable, 0);
-    }
-    top.without(variable, mask::only(value))
-        .cut_before(variable, row, j)
-        .without(j, row[j])
 }
 
 // Halving: the variable's smaller half; then the rest. The subproblem itself where the variable is none of the n.
@@ -139,15 +118,13 @@ fn around_value(
     requires { (k < candidates n request.now) × ((kind_number kind ≡ kind_of request.now) × (kind_of request.now ≤ 3)) }
     ensures { result ≡ around_value top n d tables.now request.now k }
 {
-    let variable = words::variable(request);
-    let value = words::value(request);
-    if !tables::within(n, d, tables, variable, value) {
+    let Some(around) = Around::of(top, n, d, tables, request) else {
         return top;
-    }
+    };
     match kind {
-        Kind::Backtracking => return backtracking(top, n, d, tables, variable, value, k),
-        Kind::ForwardChecking => return forward_checking(top, n, d, tables, variable, value, k),
-        _ => return idc(top, n, d, tables, variable, value, k),
+        Kind::Backtracking => return around.backtracking(k),
+        Kind::ForwardChecking => return around.forward_checking(k),
+        _ => return around.idc(k),
     }
 }
 

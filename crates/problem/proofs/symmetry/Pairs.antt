@@ -23,7 +23,7 @@ use Rattle.problem.proofs.tables.Ranges.{word_at}
 use Rattle.problem.proofs.Tests.{or_cases, every_at, every_all, same_test, every_same}
 use Rattle.problem.specs.declared.matrix.Matrix.{Matrix}
 use Rattle.problem.specs.Loops.Matrices.{four, matrix_of, columns, difference}
-use Rattle.problem.specs.Loops.FirstTests.{Narrow, mask_below, pair_below, row_below, both_ways, value_both_ways, pair_both_ways, row_both_ways, padded, one_way}
+use Rattle.problem.specs.Loops.FirstTests.{mask_below, pair_below, row_below, both_ways, value_both_ways, pair_both_ways, row_both_ways, padded, one_way}
 use Rattle.problem.proofs.Copies.{zeros_at}
 use Rattle.problem.proofs.first_checks.Joining.{joined_zero}
 use Rattle.problem.proofs.matrix.Turning.{cell, matrix_cell, matrix_words, four_lt, mirror, same_cells, same_words, quarters_same, turned_lt}
@@ -38,12 +38,12 @@ padded_out : (d : ℕ) (f : ℕ → ℕ) (a : ℕ) → d ≤ a → padded d f a 
 unfolding padded
 padded_out d f a h = rw (le-ltb a d h)
 
-module _ (n d : ℕ) (t : List ℕ) (narrow : Narrow n d t) where
+module _ (n d : ℕ) (t : List ℕ) (fit : Sized n d t) (below : every n (row_below n d (table_of n d t)) ≡ true) where
   -- a mask that is read has no value at d or above
   narrow_mask : (i j a : ℕ) → i < n → j < n → (i ≡ j → ⊥) → a < d → table_of n d t i j a < 2 ^ d
   unfolding row_below pair_below mask_below
   narrow_mask i j a h k f l =
-      let row = every_at (row_below n d (table_of n d t)) n i h narrow.below in
+      let row = every_at (row_below n d (table_of n d t)) n i h below in
       let pair = every_at (pair_below d (table_of n d t) i) n j k row in
       ⊎_elim (λ e. absurd (f (eqb-true i j e)))
       (λ e. ltb-true (table_of n d t i j a) (2 ^ d) (every_at (mask_below d (table_of n d t) i j) d a l e))
@@ -60,7 +60,7 @@ module _ (n d : ℕ) (t : List ℕ) (narrow : Narrow n d t) where
   ]
 
   rows_lt : (i j : ℕ) → i < n → j < n → (i ≡ j → ⊥) → (a : ℕ) → rows i j a < 65536
-  rows_lt i j h k f a = lt_of_lt_of_le (rows_narrow i j a h k f) (pow_mono narrow.sized.small)
+  rows_lt i j h k f a = lt_of_lt_of_le (rows_narrow i j a h k f) (pow_mono fit.small)
 
   -- where the values are allowed both ways, so are the digits of all rows
   rows_mirror : (i j : ℕ) → i < n → j < n → (i ≡ j → ⊥) → pair_both_ways d (table_of n d t) i j ≡ true
@@ -88,7 +88,7 @@ module _ (n d : ℕ) (t : List ℕ) (narrow : Narrow n d t) where
       let g : j ≡ i → ⊥ = λ z. f (sym z) in
       same_test (eqb (difference (columns m) o) 0) (pair_both_ways d (table_of n d t) i j)
       (λ e. every_all (value_both_ways d (table_of n d t) i j) d (λ a la. every_all (both_ways (table_of n d t) i j a) d (λ b lb.
-      let small : d ≤ 16 = narrow.sized.small in
+      let small : d ≤ 16 = fit.small in
       eq-eqb (bit (table_of n d t i j a) b) (bit (table_of n d t j i b) a)
       (ap (λ (x : ℕ). bit x b) (sym (padded_in d (table_of n d t i j) a la)) ∙ sym (matrix_cell (rows i j) a b (rows_lt i j h k f) (omega arith) (omega arith))
       ∙ sym (mirror m b a (omega arith) (omega arith)) ∙ same_cells (columns m) o (eqb-true (difference (columns m) o) 0 e) (b * 16 + a)

@@ -1,9 +1,8 @@
 -- The first checks of a problem level by level, as the loops of the code take them.
-use Rattle.std.specs.Prelude.{◌≡◌, Bool, true, cond, ◌||◌, List, ℕ, ◌+◌, ◌^◌, get_or, eqb, ltb}
+use Rattle.std.specs.Prelude.{Bool, cond, ◌||◌, List, ℕ, ◌+◌, ◌^◌, get_or, eqb, ltb}
 use Rattle.problem.specs.Masks.{bit}
-use Rattle.problem.specs.Problem.{Table, table_of}
+use Rattle.problem.specs.Problem.{Table}
 use Rattle.problem.specs.Lists.{every}
-use Rattle.problem.specs.Ranges.{Sized}
 use Rattle.problem.specs.Loops.Matrices.{matrix_of, columns, difference}
 
 -- 4: one domain, one mask of the tables, the masks of two variables, of one with some in a row, and of one with every other.
@@ -34,11 +33,6 @@ pair_both_ways d allowed i j = every d (value_both_ways d allowed i j)
 
 unfoldable pub row_both_ways : ℕ → Table → ℕ → Bool
 row_both_ways d allowed i = every i (pair_both_ways d allowed i)
-
--- What refusal 4 leaves of the tables: no mask that is read has a bit at d or above.
-pub record Narrow (n d : ℕ) (tables : List ℕ) : Type 0 where
-  pub sized : Sized n d tables
-  pub below : every n (row_below n d (table_of n d tables)) ≡ true
 
 -- 5, the masks of two variables at once: zeros past the d masks; the bits of the values that are allowed one way only.
 unfoldable pub padded : ℕ → (ℕ → ℕ) → ℕ → ℕ

@@ -1,5 +1,5 @@
 -- The loops that count checks find what the rules count. Assumes nothing.
-use mathlib.Core.Path.{◌≡◌, refl, sym, ap, ◌∙◌}
+use mathlib.Core.Path.{◌≡◌, refl, sym, ap, subst, ◌∙◌}
 use mathlib.Core.Bool.{Bool, true, false, not, ◌&&◌, and-true, and-false}
 use mathlib.Core.List.{List}
 use Prim.Native.Nat.{ℕ, zero, suc, ◌+◌, ◌≤◌, ◌<◌}
@@ -10,12 +10,13 @@ use lib.ListN.{length}
 use lib.Dec.{eqb}
 use borrow.Author.Tests.{eq-eqb, ne_eqb}
 use Rattle.problem.specs.Masks.{bit, size, lowest}
-use Rattle.problem.specs.Problem.{Table, table_of}
+use Rattle.problem.specs.Problem.{table_of}
 use Rattle.problem.specs.Lists.{total, below, keep}
 use Rattle.splits.specs.Subproblems.{domain}
 use Rattle.splits.specs.Splits.{forbids, forbidden, instantiated_other}
 use Rattle.splits.specs.Checks.{values_in, others, tried}
-use Rattle.splits.specs.Loops.Kinds.{LookedAt}
+use Rattle.splits.specs.Loops.Around.{allowed, LookedAt}
+use Rattle.splits.specs.declared.around.Around.{Around}
 use Rattle.splits.specs.declared.subproblem.Subproblem.{Subproblem}
 use Rattle.problem.proofs.mask.Masks.{bit_le}
 use Rattle.problem.proofs.Tests.{some_more, some_at}
@@ -52,48 +53,52 @@ pub own_passed : (P : Subproblem) (V' i : ℕ) → i ≡ V' → false ≡ instan
 unfolding instantiated_other
 own_passed P V' i e = simp (eq-eqb i V' e, and-false)
 
-module _ (n : ℕ) (allowed : Table) (P : Subproblem) (V' v : ℕ) where
+module _ (a : Around) where
   -- what the loop knows before it looks at i
   pub record Looking (i count : ℕ) : Type 0 where
-    pub passed : count ≡ length (keep (instantiated_other P V') (below i))
-    pub none : forbidden i allowed P V' v ≡ false
+    pub passed : count ≡ length (keep (instantiated_other a.top a.variable) (below i))
+    pub none : forbidden i (allowed a) a.top a.variable a.value ≡ false
 
   module _ (i count : ℕ) (so_far : Looking i count) where
-    pub look_more : (q f : Bool) → q ≡ instantiated_other P V' i → q ≡ true → f ≡ forbids allowed P V' v i → f ≡ false → Looking (i + 1) (count + 1)
+    pub look_more : (q f : Bool) → q ≡ instantiated_other a.top a.variable i → q ≡ true → f ≡ forbids (allowed a) a.top a.variable a.value i → f ≡ false → Looking (i + 1) (count + 1)
     unfolding forbidden
     look_more q f e h k l =
-        let looked : instantiated_other P V' i ≡ true = sym e ∙ h in
+        let looked : instantiated_other a.top a.variable i ≡ true = sym e ∙ h in
         record {
-          passed = ap (λ (x : ℕ). x + 1) so_far.passed ∙ sym (counted_more (instantiated_other P V') (forbids allowed P V' v) i looked);
-          none = some_more (λ j. instantiated_other P V' j && forbids allowed P V' v j) i so_far.none (rw (looked, ← k) l);
+          passed = ap (λ (x : ℕ). x + 1) so_far.passed ∙ sym (counted_more (instantiated_other a.top a.variable) (forbids (allowed a) a.top a.variable a.value) i looked);
+          none = some_more (λ j. instantiated_other a.top a.variable j && forbids (allowed a) a.top a.variable a.value j) i so_far.none (rw (looked, ← k) l);
         }
 
-    pub look_skip : (q : Bool) → q ≡ instantiated_other P V' i → q ≡ false → Looking (i + 1) count
+    pub look_skip : (q : Bool) → q ≡ instantiated_other a.top a.variable i → q ≡ false → Looking (i + 1) count
     unfolding forbidden
     look_skip q e h =
-        let passed_over : instantiated_other P V' i ≡ false = sym e ∙ h in
+        let passed_over : instantiated_other a.top a.variable i ≡ false = sym e ∙ h in
         record {
-          passed = so_far.passed ∙ sym (counted_same (instantiated_other P V') (forbids allowed P V' v) i passed_over);
-          none = some_more (λ j. instantiated_other P V' j && forbids allowed P V' v j) i so_far.none (rw passed_over refl);
+          passed = so_far.passed ∙ sym (counted_same (instantiated_other a.top a.variable) (forbids (allowed a) a.top a.variable a.value) i passed_over);
+          none = some_more (λ j. instantiated_other a.top a.variable j && forbids (allowed a) a.top a.variable a.value j) i so_far.none (rw passed_over refl);
         }
 
-    pub look_stop : (q f : Bool) → i < n → q ≡ instantiated_other P V' i → q ≡ true → f ≡ forbids allowed P V' v i → f ≡ true
-        → LookedAt n allowed P V' v (count + 1) true
+    pub look_stop : (q f : Bool) → i < a.n → q ≡ instantiated_other a.top a.variable i → q ≡ true → f ≡ forbids (allowed a) a.top a.variable a.value i → f ≡ true
+        → LookedAt a (count + 1) true
     unfolding forbidden tried others instantiated_other
     look_stop q f m e h k l =
-        let looked : instantiated_other P V' i ≡ true = sym e ∙ h in
+        let looked : instantiated_other a.top a.variable i ≡ true = sym e ∙ h in
         record {
           counted =
-              ap (λ (x : ℕ). x + 1) so_far.passed ∙ looked_stop (instantiated_other P V') (forbids allowed P V' v) n i m so_far.none looked
+              ap (λ (x : ℕ). x + 1) so_far.passed ∙ looked_stop (instantiated_other a.top a.variable) (forbids (allowed a) a.top a.variable a.value) a.n i m so_far.none looked
               (sym k ∙ l);
-          met = sym (some_at (λ j. instantiated_other P V' j && forbids allowed P V' v j) n i m (rw (looked, ← k) l));
+          met = sym (some_at (λ j. instantiated_other a.top a.variable j && forbids (allowed a) a.top a.variable a.value j) a.n i m (rw (looked, ← k) l));
         }
 
-    pub look_end : (conflict : Bool) → i ≤ n → n ≤ i → conflict ≡ false → LookedAt n allowed P V' v count conflict
+    pub look_end : (conflict : Bool) → i ≤ a.n → a.n ≤ i → conflict ≡ false → LookedAt a count conflict
     unfolding forbidden tried others instantiated_other
-    look_end conflict a b e =
-        let end : n ≡ i = le_antisymm b a in
+    look_end conflict l m e =
+        let end : i ≡ a.n = le_antisymm l m in
+        let all : ℕ → Type 0 = λ n. count ≡ tried (others a.variable) n (allowed a) a.top a.variable a.value in
+        let none : ℕ → Type 0 = λ n. conflict ≡ forbidden n (allowed a) a.top a.variable a.value in
         record {
-          counted = rw end (so_far.passed ∙ looked_all (instantiated_other P V') (forbids allowed P V' v) i so_far.none);
-          met = rw end (e ∙ sym so_far.none);
+          counted =
+              subst all end
+              (so_far.passed ∙ looked_all (instantiated_other a.top a.variable) (forbids (allowed a) a.top a.variable a.value) i so_far.none);
+          met = subst none end (e ∙ sym so_far.none);
         }

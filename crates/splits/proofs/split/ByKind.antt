@@ -1,5 +1,5 @@
 -- What is said by the kind of a request, at each kind. Assumes nothing.
-use mathlib.Core.Path.{◌≡◌, refl, sym, ap₂, ◌∙◌}
+use mathlib.Core.Path.{◌≡◌, refl, ◌∙◌}
 use mathlib.Core.Bool.{Bool, true, false, cond, ◌&&◌, and-true}
 use mathlib.Core.List.{List}
 use Prim.Native.Nat.{ℕ, ◌+◌, ◌≤◌, ◌<◌}
@@ -16,9 +16,11 @@ use Rattle.splits.specs.Checks.{checks, tried, values_in, others}
 use Rattle.splits.specs.Calls.{readable, Piece, ChecksOf}
 use Rattle.problem.specs.Ranges.{inside}
 use Rattle.splits.specs.Loops.Kinds.{around_value}
+use Rattle.splits.specs.Loops.Around.{allowed, Taken}
+use Rattle.splits.specs.declared.around.Around.{Around}
 use Rattle.splits.specs.declared.subproblem.Subproblem.{Subproblem}
 use Rattle.problem.proofs.Tests.{and_left}
-use Rattle.problem.proofs.tables.Ranges.{inside_true}
+use Rattle.problem.proofs.tables.Ranges.{inside_true, inside_is}
 
 -- what holds of each of the five kinds and of any other number holds of every number
 pub kinds : (Q : ℕ → Type 0) → Q 1 → Q 2 → Q 3 → Q 4 → Q 5 → ((k : ℕ) → (k < 1) ⊎ (5 < k) → Q k) → (k : ℕ) → Q k
@@ -84,12 +86,12 @@ few n d t r fits =
     kind_any (kind_of r) _ _ _ _ _ _ (λ b. b ≡ true → n ≤ 32) ranged ranged ranged (λ h. alone (and_left (leb n 32) (ltb (variable_of r) n) h)) alone
     alone fits
 
--- of a request with its kind, V and v as the code has them
-module _ (n d : ℕ) (t r : List ℕ) (P : Subproblem) (V' v : ℕ) (its_variable : V' ≡ variable_of r) (its_value : v ≡ value_of r) where
+-- of a request and what it is made with
+module _ (n d : ℕ) (t r : List ℕ) (P : Subproblem) where
   -- kinds 1 to 3 read V and v
-  read : (kind_of r ≡ 0 → ⊥) → kind_of r < 4 → (b : Bool) → inside n d t V' v ≡ b → readable n d t r ≡ b
+  read : (kind_of r ≡ 0 → ⊥) → kind_of r < 4 → (b : Bool) → inside n d t (variable_of r) (value_of r) ≡ b → readable n d t r ≡ b
   unfolding readable
-  read f l b e = one_to_three (kind_of r) _ _ _ _ f l ∙ sym (ap₂ (inside n d t) its_variable its_value) ∙ e
+  read f l b e = one_to_three (kind_of r) _ _ _ _ f l ∙ e
 
   module _ (kind : ℕ) (its_kind : kind ≡ kind_of r) where
     pub checks_none : (kind ≡ 1 → ⊥) → (kind < 1) ⊎ (4 ≤ kind) → ChecksOf P n d t r 0
@@ -99,35 +101,42 @@ module _ (n d : ℕ) (t r : List ℕ) (P : Subproblem) (V' v : ℕ) (its_variabl
         let s : kind ≡ 3 → ⊥ = λ e. ⊎_elim (λ l. absurd (omega arith)) (λ l. absurd (omega arith)) o in
         rw (← its_kind, kind_last {A = ℕ} kind _ _ _ 0 p q s) (either (λ (x : ℕ). 0 ≡ x) (readable n d t r) refl refl)
 
-    module _ (fits : inside n d t V' v ≡ true) where
-      pub checks_1 : (q : ℕ) → kind ≡ 1 → q ≡ tried (others V') n (table_of n d t) P V' v → ChecksOf P n d t r q
+    module _ (a : Around) (its : Taken P n d t r a) where
+      fits : inside n d t (variable_of r) (value_of r) ≡ true
+      fits = rw (← its.variables, ← its.values, ← its.words, ← its.variable, ← its.value) (inside_is _ _ _ _ _ a.fits)
+
+      allows : allowed a ≡ table_of n d t
+      allows = rw (its.variables, its.values, its.words) refl
+
+      pub checks_1 : (q : ℕ) → kind ≡ 1 → q ≡ tried (others a.variable) a.n (allowed a) a.top a.variable a.value → ChecksOf P n d t r q
       unfolding checks
       checks_1 q h e =
-          rw (read (λ z. absurd (omega (arith, its_kind))) (omega (arith, its_kind)) true fits, ← its_kind, h, ← its_variable, ← its_value) e
+          rw (read (λ z. absurd (omega (arith, its_kind))) (omega (arith, its_kind)) true fits, ← its_kind, h, ← allows, ← its.variables, ← its.top, ← its.variable, ← its.value) e
 
-      pub checks_2_3 : (q : ℕ) → (kind ≡ 1 → ⊥) → 1 ≤ kind → kind < 4 → q ≡ values_in (others V') n P → ChecksOf P n d t r q
+      pub checks_2_3 : (q : ℕ) → (kind ≡ 1 → ⊥) → 1 ≤ kind → kind < 4 → q ≡ values_in (others a.variable) a.n a.top → ChecksOf P n d t r q
       unfolding checks
       checks_2_3 q p l m e =
           let fit = read (λ z. absurd (omega (arith, its_kind))) (omega (arith, its_kind)) true fits in
           elim (ℕ_discrete kind 2) [
-            | yes h ↦ rw (fit, ← its_kind, h, ← its_variable) e
-            | no f ↦ let h : kind ≡ 3 = omega arith in rw (fit, ← its_kind, h, ← its_variable) e
+            | yes h ↦ rw (fit, ← its_kind, h, ← its.variables, ← its.top, ← its.variable) e
+            | no f ↦ let h : kind ≡ 3 = omega arith in rw (fit, ← its_kind, h, ← its.variables, ← its.top, ← its.variable) e
           ]
 
-      pub around_1 : (k : ℕ) (Q : Subproblem) → kind ≡ 1 → Q ≡ backtracked n (table_of n d t) P V' v k → Q ≡ around_value P n d t r k
-      unfolding around_value candidate
-      around_1 k Q h e = rw (← its_kind, h, ← its_variable, ← its_value, fits) e
+      module _ (k : ℕ) (Q : Subproblem) where
+        pub around_1 : kind ≡ 1 → Q ≡ backtracked a.n (allowed a) a.top a.variable a.value k → Q ≡ around_value P n d t r k
+        unfolding around_value candidate
+        around_1 h e = rw (fits, ← its_kind, h, ← allows, ← its.variables, ← its.top, ← its.variable, ← its.value) e
 
-      pub around_2 : (k : ℕ) (Q : Subproblem) → kind ≡ 2 → Q ≡ checked n (table_of n d t) P V' v k → Q ≡ around_value P n d t r k
-      unfolding around_value candidate
-      around_2 k Q h e = rw (← its_kind, h, ← its_variable, ← its_value, fits) e
+        pub around_2 : kind ≡ 2 → Q ≡ checked a.n (allowed a) a.top a.variable a.value k → Q ≡ around_value P n d t r k
+        unfolding around_value candidate
+        around_2 h e = rw (fits, ← its_kind, h, ← allows, ← its.variables, ← its.top, ← its.variable, ← its.value) e
 
-      pub around_3 : (k : ℕ) (Q : Subproblem) → kind ≡ 3 → Q ≡ inferred n (table_of n d t) P V' v k → Q ≡ around_value P n d t r k
-      unfolding around_value candidate
-      around_3 k Q h e = rw (← its_kind, h, ← its_variable, ← its_value, fits) e
+        pub around_3 : kind ≡ 3 → Q ≡ inferred a.n (allowed a) a.top a.variable a.value k → Q ≡ around_value P n d t r k
+        unfolding around_value candidate
+        around_3 h e = rw (fits, ← its_kind, h, ← allows, ← its.variables, ← its.top, ← its.variable, ← its.value) e
 
   -- where they do not fit
-  module _ (misfit : inside n d t V' v ≡ false) where
+  module _ (misfit : inside n d t (variable_of r) (value_of r) ≡ false) where
     pub checks_out : ChecksOf P n d t r 0
     checks_out = elim (dec_lt (kind_of r) 4) [
       | yes l ↦ elim (ℕ_discrete (kind_of r) 0) [
@@ -142,7 +151,7 @@ module _ (n d : ℕ) (t r : List ℕ) (P : Subproblem) (V' v : ℕ) (its_variabl
 
     pub around_out : (k : ℕ) → P ≡ around_value P n d t r k
     unfolding around_value
-    around_out k = rw (← its_variable, ← its_value, misfit)
+    around_out k = rw misfit
 
 -- a request with a k-th candidate is of kind 1 to 5, and of kind 3 or 5 has n + 1
 module _ (n : ℕ) (r : List ℕ) (k : ℕ) (more : k < candidates n r) (kind : ℕ) (its_kind : kind ≡ kind_of r) where

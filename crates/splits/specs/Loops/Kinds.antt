@@ -1,19 +1,13 @@
 -- What a loop or a part of the code works out, in its own shape.
-use Rattle.std.specs.Prelude.{◌≡◌, Bool, cond, ◌||◌, List, ℕ, eqb, leb, get_or}
+use Rattle.std.specs.Prelude.{Bool, cond, ◌||◌, List, ℕ, eqb, leb, get_or}
 use Rattle.problem.specs.Masks.{bit, common, size}
 use Rattle.problem.specs.Lists.{changed}
-use Rattle.problem.specs.Problem.{Table, table_of}
+use Rattle.problem.specs.Problem.{table_of}
 use Rattle.splits.specs.Subproblems.{domain}
-use Rattle.splits.specs.Splits.{forbidden, candidate}
-use Rattle.splits.specs.Checks.{tried, others}
+use Rattle.splits.specs.Splits.{candidate}
 use Rattle.splits.specs.Requests.{variable_of, value_of}
 use Rattle.problem.specs.Ranges.{inside}
 use Rattle.splits.specs.declared.subproblem.Subproblem.{Subproblem}
-
--- What kind 1 finds on its way: the count and whether it met a conflict.
-pub record LookedAt (n : ℕ) (allowed : Table) (P : Subproblem) (V' v count : ℕ) (conflict : Bool) : Type 0 where
-  pub counted : count ≡ tried (others V') n allowed P V' v
-  pub met : conflict ≡ forbidden n allowed P V' v
 
 -- Whether 9 is deserved, of a V with domain m.
 unfoldable pub deserves9 : ℕ → ℕ → ℕ → ℕ → Bool

@@ -3,5 +3,8 @@ use mathlib.Core.Path.{sym, ◌∙◌}
 use Rattle.problem.proofs.tables.Ranges.{inside_true}
 use Rattle.problem.proofs.beside.row.Goals as goal
 
-pub made-requires : goal.made-requires
-made-requires c = inside_true _ _ _ _ _ (sym c.within.ensures ∙ c.if-within.true)
+pub invariant_of-row : goal.invariant_of-row
+invariant_of-row c = record { fit = (inside_true _ _ _ _ _ (sym c.within.ensures ∙ c.if-within.true)).fit; masks = λ a. (c.type_inv.tables a).fits }
+
+pub row-requires : goal.row-requires
+row-requires c = let p = inside_true _ _ _ _ _ (sym c.within.ensures ∙ c.if-within.true) in (p.a_variable, p.a_value)

@@ -1,7 +1,6 @@
 -- `split::piece` meets its contract, kind by kind.
 use mathlib.Core.Logic.{inr}
-use Rattle.splits.specs.declared.kind.Kind.TheVariants.{Halving, Extraction}
-use Rattle.splits.proofs.Numbering.{kind_is, kind_not_4, kind_not_5}
+use Rattle.splits.proofs.Numbering.{kind_not_4, kind_not_5}
 use Rattle.splits.proofs.split.ByKind.{piece_over, some_place, named, to_three, peel_place, piece_3, piece_4, piece_5}
 use mathlib.Core.Path.{refl, ap}
 use Rattle.splits.specs.Kinds.{kind_number}
