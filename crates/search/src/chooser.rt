@@ -5,15 +5,15 @@ ghost use Rattle.problem.specs.Problem.{table_of};
 ghost use Rattle.problem.specs.Lists.{total};
 ghost use Rattle.splits.specs.Subproblems.{domain, all_instantiated};
 ghost use Rattle.splits.specs.Splits.{without, precluded_by, pieces};
-ghost use Rattle.problem.specs.Ranges.{Sized};
 ghost use Rattle.search.specs.Loops.Slots.{SlotIn};
 ghost use Rattle.search.specs.Loops.Kept.{Regular};
 ghost use Rattle.search.specs.Loops.Steps.{Replaced, Taking, taken_by};
-ghost use Rattle.search.specs.Loops.Lanes.{Rows, Sides};
+ghost use Rattle.search.specs.Loops.Lanes.{Sides};
 ghost use Rattle.search.specs.Loops.Found.{Found, AtTop, RoomFor, FurtherOf, FurtherPiece, Puts, request_by, left, left_by, several, TakesChosen};
 
+use crate::kept::Kept;
 use crate::state::State;
-use crate::{agenda, kept, lanes, step};
+use crate::{agenda, lanes, step};
 use problem::mask;
 use problem::refusal::Refusal;
 use splits::at_once;
@@ -30,15 +30,15 @@ pub(crate) struct Choice {
 }
 
 // What the chooser finds of the top.
-fn look(top: Subproblem, n: usize, d: usize, tables: &[u16], rows: &mut [[u16; 32]]) -> Choice
-    requires { Sized n d tables.now × (Regular n d top × ((all_instantiated n top ≡ false) × Rows 16 n d tables.now rows.old)) }
-    ensures { Found n d tables.now top result × Rows 16 n d tables.now rows.new }
+fn look(top: Subproblem, kept: &mut Kept) -> Choice
+    requires { Regular kept.old.n kept.old.d top × (all_instantiated kept.old.n top ≡ false) }
+    ensures { Found kept.old.n kept.old.d kept.old.tables top result × (kept.new ≡ kept.old) }
 {
     let domains = top.domains;
-    let key = lanes::least_key(domains, top.marked | lanes::beyond(n));
+    let key = lanes::least_key(domains, top.marked | lanes::beyond(kept.n));
     let variable = usize::from(key % 32);
     let value = mask::lowest(top.domain(variable));
-    let row = kept::row(n, d, tables, rows, variable * 16 + value, variable, value);
+    let row = kept.row(variable, value);
     let lost = at_once::loses(domains, row);
     Choice {
         variable,
@@ -211,22 +211,20 @@ fn with_checks(top: Subproblem, choice: Choice, before: u64) -> u64
 // One step of the chooser by a search that runs and whose top is `top`: the state after it.
 pub(crate) fn take_chosen(
     top: Subproblem,
-    n: usize,
-    d: usize,
-    tables: &[u16],
     agenda: &mut [u16],
-    rows: &mut [[u16; 32]],
+    kept: &mut Kept,
     state: State,
 ) -> Result<State, Refusal>
-    requires { Taking n d tables.now agenda.old top state × Rows 16 n d tables.now rows.old }
-    ensures { TakesChosen n d tables.now top agenda.old agenda.new state (taken_by state result) × Rows 16 n d tables.now rows.new }
+    requires { Taking kept.old.n kept.old.d kept.old.tables agenda.old top state }
+    ensures { TakesChosen kept.old.n kept.old.d kept.old.tables top agenda.old agenda.new state (taken_by state result) × (kept.new ≡ kept.old) }
 {
     let steps = state.counts.steps.0;
     if steps == u32::MAX {
         return Err(Refusal::Steps);
     }
-    let choice = look(top, n, d, tables, rows);
+    let choice = look(top, kept);
     let checks = with_checks(top, choice, state.counts.checks.0);
-    let subproblems = put(top, n, d, tables, agenda, choice, state.subproblems - 1)?;
+    let slot = state.subproblems - 1;
+    let subproblems = put(top, kept.n, kept.d, kept.tables, agenda, choice, slot)?;
     Ok(step::taken(steps, checks, subproblems))
 }

@@ -18,9 +18,10 @@ ghost use Rattle.search.specs.Outcomes.{opened, ran};
 ghost use Rattle.search.specs.Calls.{opening, search_of, Opens, Runs, Chooses};
 ghost use Rattle.search.specs.Loops.Kept.{Ready};
 ghost use Rattle.search.specs.Loops.Steps.{stop_of, gone_by, went_on, TakesOne, TakesAll, ChoosesOne, ChoosesAll};
-ghost use Rattle.search.specs.Loops.Lanes.{Rows, Below};
+ghost use Rattle.search.specs.Loops.Lanes.{Below};
 ghost use Rattle.search.specs.Loops.Ends.{Openable, Used, request_at, refused_by, ended_by};
 
+use crate::kept::Kept;
 use crate::state::{Ran, State};
 use crate::step::Stop;
 use problem::refusal::Refusal;
@@ -178,10 +179,16 @@ fn choose_on(
 {
     let mut state = state;
     let none = [0u16; 32];
-    let mut rows = [none; 512];
+    let mut kept = Kept {
+        n,
+        d,
+        tables,
+        each: 16,
+        rows: &mut [none; 512],
+    };
     let lanes = lanes::below(n);
     for taken in 0..limit {
-        match step_chosen(lanes, n, d, tables, agenda, &mut rows, state) {
+        match step_chosen(lanes, agenda, &mut kept, state) {
             ControlFlow::Continue(next) => state = next,
             ControlFlow::Break(refusal) => {
                 return Stop {
@@ -202,21 +209,19 @@ fn choose_on(
 // One step of the chooser, unless the search is finished, in the same way.
 fn step_chosen(
     lanes: [u16; 32],
-    n: usize,
-    d: usize,
-    tables: &[u16],
     agenda: &mut [u16],
-    rows: &mut [[u16; 32]],
+    kept: &mut Kept,
     state: State,
 ) -> ControlFlow<Option<Refusal>, State>
-    requires { Ready n d tables.now agenda.old (search_of n agenda.old state) × (Rows 16 n d tables.now rows.old × Below n lanes) }
-    ensures { ChoosesOne n d tables.now agenda.old agenda.new state (gone_by state result) × Rows 16 n d tables.now rows.new }
+    requires { Ready kept.old.n kept.old.d kept.old.tables agenda.old (search_of kept.old.n agenda.old state) × Below kept.old.n lanes }
+    ensures { ChoosesOne kept.old.n kept.old.d kept.old.tables agenda.old agenda.new state (gone_by state result) × (kept.new ≡ kept.old) }
 {
+    let n = kept.n;
     let subproblems = state.subproblems;
     if subproblems != 0 {
         let top = agenda::read_lanes(lanes, n, agenda, subproblems - 1);
         if !top.all_instantiated(n) {
-            return go_on(chooser::take_chosen(top, n, d, tables, agenda, rows, state));
+            return go_on(chooser::take_chosen(top, agenda, kept, state));
         }
     }
     ControlFlow::Break(None)

@@ -6,9 +6,9 @@ ghost use Rattle.search.specs.Agenda.{subproblem_of, stack_of};
 ghost use Rattle.search.specs.Tests.FirstChecks.{obeys, all_obey};
 ghost use Rattle.search.specs.Loops.FirstTests.{Mirrored, SlotFits, Next, part_wrong, wrong_in, Held, missing_in, mark_obeys, TellsSame, TellsBelow, MarksKnown};
 ghost use Rattle.search.specs.Loops.Slots.{SlotIn};
-ghost use Rattle.search.specs.Loops.Lanes.{Rows};
 
-use crate::{agenda, kept};
+use crate::agenda;
+use crate::kept::Kept;
 use problem::mask;
 use splits::at_once;
 
@@ -80,22 +80,16 @@ fn missing(held: [u16; 32], row: [u16; 32]) -> u16
 }
 
 // Whether every instantiated variable has one value, and every other instantiated one what is allowed beside it.
-fn marks_obey(
-    slot: &[u16],
-    marked: u32,
-    n: usize,
-    d: usize,
-    tables: &[u16],
-    rows: &mut [[u16; 32]],
-) -> bool
-    requires { SlotFits n d tables.now slot.now marked × Rows 1 n d tables.now rows.old }
-    ensures { (result ≡ every n (mark_obeys n (table_of n d tables.now) (subproblem_of n slot.now))) × Rows 1 n d tables.now rows.new }
+fn marks_obey(slot: &[u16], marked: u32, kept: &mut Kept) -> bool
+    requires { SlotFits kept.old.n kept.old.d kept.old.tables slot.now marked }
+    ensures { (result ≡ every kept.old.n (mark_obeys kept.old.n (table_of kept.old.n kept.old.d kept.old.tables) (subproblem_of kept.old.n slot.now))) × (kept.new ≡ kept.old) }
 {
+    let n = kept.n;
     let held = held_of(slot, marked, n);
     let mut i = next_in(marked, 0);
     // No `for`, as in `held_of`.
     while i < n {
-        let row = kept::row(n, d, tables, rows, i, i, mask::lowest(slot[i]));
+        let row = kept.row(i, mask::lowest(slot[i]));
         if missing(held, row) != 0 {
             return false;
         }
@@ -138,23 +132,16 @@ fn as_below(n: usize, agenda: &[u16], k: usize) -> bool
 }
 
 // Whether the subproblem in the words of a slot obeys the rules; `known`: its instantiated variables do.
-fn obeys(
-    slot: &[u16],
-    n: usize,
-    d: usize,
-    domains: &[u16],
-    tables: &[u16],
-    rows: &mut [[u16; 32]],
-    known: bool,
-) -> bool
-    requires { Mirrored n d domains.now tables.now × ((length slot.now ≡ n + 2) × (MarksKnown n d tables.now slot.now known × Rows 1 n d tables.now rows.old)) }
-    ensures { (result ≡ obeys (problem_of n d domains.now tables.now) (subproblem_of n slot.now)) × Rows 1 n d tables.now rows.new }
+fn obeys(slot: &[u16], domains: &[u16], kept: &mut Kept, known: bool) -> bool
+    requires { Mirrored kept.old.n kept.old.d domains.now kept.old.tables × ((length slot.now ≡ kept.old.n + 2) × MarksKnown kept.old.n kept.old.d kept.old.tables slot.now known) }
+    ensures { (result ≡ obeys (problem_of kept.old.n kept.old.d domains.now kept.old.tables) (subproblem_of kept.old.n slot.now)) × (kept.new ≡ kept.old) }
 {
+    let n = kept.n;
     let marked = agenda::marked_at(slot, n);
     if (1 << n) <= (marked as u64) || wrong_with(n, domains, slot) != 0 {
         return false;
     }
-    known || marks_obey(slot, marked, n, d, tables, rows)
+    known || marks_obey(slot, marked, kept)
 }
 
 // Whether the subproblems in the first `count` slots do. Values that are those of the slot below are not looked at again.
@@ -170,11 +157,17 @@ pub(crate) fn all_obey(
     ensures { result ≡ all_obey (problem_of n d domains.now tables.now) (stack_of n agenda.now count) }
 {
     let none = [0u16; 32];
-    let mut rows = [none; 32];
+    let mut kept = Kept {
+        n,
+        d,
+        tables,
+        each: 1,
+        rows: &mut [none; 32],
+    };
     for k in 0..count {
         let known = as_below(n, agenda, k);
         let slot = agenda::slot(n, agenda, k);
-        if !obeys(slot, n, d, domains, tables, &mut rows, known) {
+        if !obeys(slot, domains, &mut kept, known) {
             return false;
         }
     }

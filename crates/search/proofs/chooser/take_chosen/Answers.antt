@@ -1,5 +1,5 @@
 -- `search::choice::take_chosen` meets its contract.
-use mathlib.Core.Path.{refl}
+use mathlib.Core.Path.{refl, ◌∙◌}
 use native.Mathlib.Omega.{arith}
 use Rattle.problem.proofs.Refused.{never_0, handed_err}
 use Rattle.search.proofs.chooser.Settling.{taking_regular, taking_top, counted, chosen_refused, chosen_full, chosen_steps, chosen_taken}
@@ -7,52 +7,55 @@ use Rattle.search.proofs.chooser.take_chosen.Goals as goal
 
 pub returns-then-steps : goal.returns-then-steps
 returns-then-steps c = (
-  chosen_refused _ _ _ _ _ _ c.requires.0 c.if-steps.true,
-  c.requires.1,
+  chosen_refused _ _ _ _ _ _ c.requires c.if-steps.true,
+  refl,
 )
 
 pub look-choice-requires : goal.look-choice-requires
-look-choice-requires c = let k = c.requires in (k.0.ready.fitting, (taking_regular _ _ _ _ _ _ k.0, (k.0.runs, k.1)))
+look-choice-requires c = let k = c.requires in (taking_regular _ _ _ _ _ _ k, k.runs)
 
 pub with_checks-checks-requires : goal.with_checks-checks-requires
 with_checks-checks-requires c =
-    let k = c.requires.0 in (
+    let k = c.requires in (
       (counted _ _ _ _ k.ready.fitting (taking_regular _ _ _ _ _ _ k) k.runs _ c.look-choice.ensures.0).0,
       omega (arith, k.ready.counted, k.ready.stepped),
     )
 
 pub put-requires : goal.put-requires
 put-requires c =
-    taking_top _ _ _ _ _ _ c.requires.0 _
-    c.look-choice.ensures.0
+    let e = c.kept.view_is ∙ c.look-choice.ensures.1 in
+    rw (← e) at (taking_top _ _ _ _ _ _ c.requires _ c.look-choice.ensures.0)
 
 pub returns-in_err-subproblems : goal.returns-in_err-subproblems
-returns-in_err-subproblems c = (
-  rw (handed_err _ _ c.from_residual.ensures.1)
-      (chosen_full _ _ _ _ _ _
-      c.requires.0 _
-      c.look-choice.ensures.0
-      c.if-steps.false _ _
-      c.in_err-subproblems.ensures (never_0 _)),
-  c.look-choice.ensures.1,
-)
+returns-in_err-subproblems c =
+    let e = c.kept.view_is ∙ c.look-choice.ensures.1 in (
+      rw (handed_err _ _ c.from_residual.ensures.1, ← e)
+          (chosen_full _ _ _ _ _ _
+          (rw (← e) at c.requires) _
+          (rw (← e) at c.look-choice.ensures.0)
+          c.if-steps.false _ _
+          c.in_err-subproblems.ensures (never_0 _)),
+      c.look-choice.ensures.1,
+    )
 
 pub taken-requires : goal.taken-requires
 taken-requires c =
+    let e = c.kept.view_is ∙ c.look-choice.ensures.1 in
     chosen_steps _ _ _ _ _ _
-    c.requires.0 _
-    c.look-choice.ensures.0
+    (rw (← e) at c.requires) _
+    (rw (← e) at c.look-choice.ensures.0)
     c.if-steps.false _ _
     c.in_ok-subproblems.ensures refl
 
 pub returns : goal.returns
-returns c = (
-  rw c.taken.ensures
-      (chosen_taken _ _ _ _ _ _
-      c.requires.0 _
-      c.look-choice.ensures.0
-      c.if-steps.false _ _
-      c.in_ok-subproblems.ensures refl _
-      c.with_checks-checks.ensures),
-  c.look-choice.ensures.1,
-)
+returns c =
+    let e = c.kept.view_is ∙ c.look-choice.ensures.1 in (
+      rw (c.taken.ensures, ← e)
+          (chosen_taken _ _ _ _ _ _
+          (rw (← e) at c.requires) _
+          (rw (← e) at c.look-choice.ensures.0)
+          c.if-steps.false _ _
+          c.in_ok-subproblems.ensures refl _
+          c.with_checks-checks.ensures),
+      c.look-choice.ensures.1,
+    )

@@ -1,5 +1,5 @@
 -- `first::search_refusal` meets its contract: opening's first checks, then the search.
-use mathlib.Core.Path.{sym, ◌∙◌}
+use mathlib.Core.Path.{sym}
 use Rattle.problem.proofs.Refused.{handed_first}
 use Rattle.search.specs.Tests.FirstChecks.{search_refusal}
 use Rattle.problem.proofs.first_checks.Parts.{else_rest}

@@ -4,8 +4,7 @@ use mathlib.Core.Path.{◌≡◌}
 use Rattle.problem.specs.Lists.{every}
 use Rattle.problem.specs.Problem.{problem_of}
 use Rattle.search.proofs.first_checks.FirstParts.{slot_obeys}
-use Rattle.search.specs.Loops.Lanes.{Rows}
 use Rattle.search.proofs.rules.all_obey.Given as goal
 
 abbrev pub invariant-loop-k : goal.invariant-loop-k
-invariant-loop-k l = (every l.k (slot_obeys (problem_of l.n l.d l.domains l.tables) l.n l.agenda) ≡ true) × Rows 1 l.n l.d l.tables l.rows
+invariant-loop-k l = (every l.k (slot_obeys (problem_of l.n l.d l.domains l.tables) l.n l.agenda) ≡ true) × (l.kept ≡ record { n = l.n; d = l.d; tables = l.tables })

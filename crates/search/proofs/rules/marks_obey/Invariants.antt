@@ -7,11 +7,12 @@ use Rattle.problem.specs.Problem.{table_of}
 use Rattle.problem.specs.Lists.{every}
 use Rattle.search.specs.Agenda.{subproblem_of}
 use Rattle.search.specs.Loops.FirstTests.{mark_obeys}
-use Rattle.search.specs.Loops.Lanes.{Rows}
 use Rattle.search.proofs.rules.marks_obey.Given as goal
 
 abbrev pub invariant-loop-i : goal.invariant-loop-i
-invariant-loop-i l = (every l.i (mark_obeys l.n (table_of l.n l.d l.tables) (subproblem_of l.n l.slot)) ≡ true) × ((l.i < 32 → bit l.marked l.i ≡ 1) × Rows 1 l.n l.d l.tables l.rows)
+invariant-loop-i l =
+    let k = l.initial.kept in
+    (every l.i (mark_obeys k.n (table_of k.n k.d k.tables) (subproblem_of k.n l.slot)) ≡ true) × ((l.i < 32 → bit l.marked l.i ≡ 1) × (l.kept ≡ k))
 
 abbrev pub decreases-loop-i : goal.decreases-loop-i
 decreases-loop-i l = l.n - l.i

@@ -1,7 +1,7 @@
 -- `search::step::refusal_of` meets its contract.
 use mathlib.Core.Path.{refl, sym, ◌∙◌}
 use Rattle.problem.proofs.Refused.{handed, handed_never}
-use Rattle.search.proofs.step.Accepting.{accepted_reads, refused_at_11, refused_by_top, refused_at_12, refused_by_none}
+use Rattle.search.proofs.step.Accepting.{accepted_reads, refused_by_top, refused_at_12, refused_by_none}
 use Rattle.search.proofs.step.refusal_of.Goals as goal
 
 pub returns-in_err-refusal : goal.returns-in_err-refusal
