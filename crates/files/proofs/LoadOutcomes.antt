@@ -26,7 +26,7 @@ use Rattle.problem.specs.declared.refusal.Refusal.{Refusal}
 use Rattle.problem.specs.Refused.{number_of}
 use Rattle.blocks.specs.Calls.{RefusalOfFile, PutContent}
 use Rattle.files.specs.Calls.{HeaderOf, load_refusal, Loads}
-use Rattle.files.specs.Loops.Said.{Numbers, sized_in, allowed_in, pair_part, row_part, table_part, part_in, slots_part, Lent, Read, Ready, Refused, Accepted}
+use Rattle.files.specs.Loops.Said.{Numbers, sized_in, allowed_in, pair_part, row_part, table_part, part_in, slots_part, Lent, Read, Made, Refused, Accepted}
 use Rattle.files.specs.declared.saved.Header.{Header}
 use Rattle.files.specs.Outcomes.{Loaded, loaded}
 use Rattle.blocks.proofs.Lists.{each_same, map_same}
@@ -35,7 +35,7 @@ use Rattle.blocks.proofs.Whole.{file_whole, refusal_is}
 use Rattle.blocks.proofs.Contents.{length_from}
 use Rattle.files.proofs.filling.Filled.{front_of_zeros, content_read, content_says}
 use Rattle.files.proofs.filling.Mirrors.{triangle_few, slots_few, allowed_self, allowed_said}
-use Rattle.files.proofs.reading.Refused.{numbers_passed}
+use Rattle.files.proofs.reading.Refused.{numbers_passed, sized_numbers}
 use Rattle.files.proofs.reading.Checked.{part_read, agenda_said}
 
 -- A value that is given where there is no refusal, and one that is given where there is.
@@ -117,10 +117,16 @@ refuses refusal = record { its = refl; its_n = refl; its_d = refl; steps = refl;
 pub accepts : (h : Header) → Accepted h (loaded (Ok h))
 accepts h = record { its = refl; its_n = refl; its_d = refl; its_state = refl }
 
+-- Sizes that fit are numbers in their ranges.
+pub load_numbers : (file : List ℕ) (h : Header) (b : Bool) → HeaderOf file h → b ≡ sized_in file → not b ≡ false
+    → Numbers h.n h.d × (h.state.subproblems ≤ 512)
+load_numbers file h b said sized y =
+    sized_numbers file h.n h.d h.state.subproblems said.its_n said.its_d said.subproblems (sym sized ∙ not-false b y)
+
 -- The words that were read say the content.
-pub load_read : (file l words : List ℕ) (h : Header) (r : ℕ) (b : Bool) → RefusalOfFile file r → r ≡ 0 → HeaderOf file h → b ≡ sized_in file
+pub load_read : (file l words : List ℕ) (h : Header) (r : ℕ) (b : Bool) → Bytes file → RefusalOfFile file r → r ≡ 0 → HeaderOf file h → b ≡ sized_in file
     → not b ≡ false → l ≡ replicate 25553 0 → PutContent file l words → Read file words h
-load_read file l words h r b e z said sized y zero put =
+load_read file l words h r b bytes e z said sized y zero put =
     let passed : refusal_of_file file ≡ 0 = sym (refusal_is file r e) ∙ z in
     let whole = file_whole file passed in
     let read = content_read file l words zero whole.whole whole.few put in
@@ -128,6 +134,7 @@ load_read file l words h r b e z said sized y zero put =
       header = said;
       whole = passed;
       sized = sym sized ∙ not-false b y;
+      bytes = bytes;
       long = ap length read ∙ length_from file 0 25553;
       says = content_says file words (blocks_in file) whole.whole whole.few read;
     }
@@ -149,8 +156,8 @@ module _ (file words l m : List ℕ) (h : Header) (count : ℕ) (read : Read fil
       ap (take count) (e ∙ rw z (front_of_zeros (table_part words h.n h.d h.n) 16384)) ∙ take_at (table_part words h.n h.d h.n)
       (replicate (16384 - length (table_part words h.n h.d h.n)) 0) count made_long
 
-  pub made_ready : Ready file words (take count m) h
-  made_ready = record { read = read; made = made_taken ∙ made }
+  pub made_all : Made file (take count m)
+  made_all = made_taken ∙ made
 
   pub made_fits : count ≤ length m
   made_fits = rw (e, z, front_of_zeros, length-append) (omega (arith, made_long))
@@ -182,9 +189,9 @@ module _ (file domains tables agenda : List ℕ) (r : ℕ) (is-r : r ≡ load_re
       }
 
   -- Accepted: what the file says.
-  module _ (zero-r : r ≡ 0) (words masks : List ℕ) (h : Header) (ready : Ready file words masks h) where
+  module _ (zero-r : r ≡ 0) (words masks : List ℕ) (h : Header) (read : Read file words h) (tabled : Made file masks) where
     abbrev said : HeaderOf file h
-    said = ready.read.header
+    said = read.header
 
     abbrev fitted : Fitted (length domains) (length tables) (length agenda) h.n h.d h.state.subproblems
     fitted =
@@ -192,25 +199,23 @@ module _ (file domains tables agenda : List ℕ) (r : ℕ) (is-r : r ≡ load_re
         said.subproblems (sym is-r ∙ zero-r)
 
     -- What is lent takes the search.
-    pub load_lent : Lent h.n h.d h.state.subproblems words masks domains tables agenda
+    pub load_lent : Lent h.n h.state.subproblems masks domains tables agenda
     load_lent = record {
-      numbers = fitted.numbers;
       few = fitted.few;
-      long = ready.read.long;
       domains_words = fitted.domains_words;
       tables_words =
-          ap length ready.made ∙ table_length (said_n file) (said_d file) (said_allowed file) ∙ sym
+          ap length tabled ∙ table_length (said_n file) (said_d file) (said_allowed file) ∙ sym
           (fitted.tables_words ∙ rw (said.its_n, said.its_d) refl);
       agenda_words = fitted.agenda_words;
     }
 
     -- Everything that load returns and leaves.
-    pub load_accepted : (small : Bytes file) (s : Loaded) (domains' tables' agenda' : List ℕ) → Accepted h s
+    pub load_accepted : (s : Loaded) (domains' tables' agenda' : List ℕ) → Accepted h s
         → domains' ≡ part_in words 9 h.n → tables' ≡ masks
         → agenda' ≡ slots_part words h.n h.d h.state.subproblems (length agenda)
         → Loads file domains domains' tables tables' agenda agenda' s
     unfolding refusal slots_part
-    load_accepted small s domains' tables' agenda' told ds ts as' =
+    load_accepted s domains' tables' agenda' told ds ts as' =
         let n : ℕ = said_n file in
         let z : refusal ≡ 0 = sym is-r ∙ zero-r in
         let from : ℕ = agenda_from h.n h.d in
@@ -218,10 +223,10 @@ module _ (file domains tables agenda : List ℕ) (r : ℕ) (is-r : r ≡ load_re
         let start : from ≤ 7977 = omega (arith, triangle_few h.n h.d fitted.numbers, fitted.numbers.variables) in
         let few : used ≤ 17408 = slots_few h.n h.state.subproblems 512 fitted.numbers.variables fitted.few (omega arith) in
         let front : part_in words 9 h.n ≡ said_domains file =
-        part_read file words h ready.read 9 h.n (omega (arith, fitted.numbers.variables)) ∙ rw said.its_n refl in
-        let back : part_in words from used ≡ content_from file from used = part_read file words h ready.read from used (omega arith) in
+        part_read file words h read 9 h.n (omega (arith, fitted.numbers.variables)) ∙ rw said.its_n refl in
+        let back : part_in words from used ≡ content_from file from used = part_read file words h read from used (omega arith) in
         let slots : agenda' ≡ agenda_of n (length agenda) (said_search file).memory =
-        as' ∙ rw (back, said.its_n, said.its_d, said.subproblems) (agenda_said file (length agenda) small) in
+        as' ∙ rw (back, said.its_n, said.its_d, said.subproblems) (agenda_said file (length agenda) read.bytes) in
         record {
           refusal = told.its ∙ sym z;
           its_n = given refusal n 0 s.n z (told.its_n ∙ said.its_n);
@@ -233,6 +238,6 @@ module _ (file domains tables agenda : List ℕ) (r : ℕ) (is-r : r ≡ load_re
           subproblems =
               given refusal (said_subproblems file) 0 s.state.subproblems z (ap (λ (x : State). x.subproblems) told.its_state ∙ said.subproblems);
           its_domains = given refusal (said_domains file) domains domains' z (ds ∙ front);
-          its_tables = given refusal (table_words n (said_d file) (said_allowed file)) tables tables' z (ts ∙ ready.made);
+          its_tables = given refusal (table_words n (said_d file) (said_allowed file)) tables tables' z (ts ∙ tabled);
           its_agenda = given refusal (agenda_of n (length agenda) (said_search file).memory) agenda agenda' z slots;
         }

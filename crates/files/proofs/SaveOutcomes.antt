@@ -20,6 +20,7 @@ use Rattle.blocks.specs.Blocks.{blocks_for, file_of}
 use Rattle.blocks.specs.Calls.{PutBlocks}
 use Rattle.files.specs.Reading.{word_count}
 use Rattle.files.specs.Calls.{handed_content, save_refusal, Saves}
+use Rattle.files.specs.Loops.Said.{Numbers}
 use Rattle.files.specs.Loops.Saved.{Savable}
 use Rattle.files.specs.Outcomes.{Saved}
 use Rattle.blocks.proofs.Blocks.{file_length, same_file}
@@ -87,7 +88,7 @@ module _ (n d : ℕ) (domains tables agenda : List ℕ) (s : State) where
 
   -- What the first checks leave where they pass.
   first_passed : search_refusal n d domains tables agenda s.counts.steps.0 s.counts.checks.0 s.subproblems ≡ 0
-      → Savable n d domains tables agenda s
+      → Numbers n d × Savable n d domains tables agenda s
   unfolding search_refusal
   first_passed e =
       let search : ℕ = refusal_of_search (problem_of n d domains tables) agenda s.counts.steps.0 s.counts.checks.0 s.subproblems in
@@ -96,22 +97,23 @@ module _ (n d : ℕ) (domains tables agenda : List ℕ) (s : State) where
       let numbers = numbers_pass n d opened.0 in
       let fits = lengths_pass n d domains tables (length agenda) opened.0 opened.1 in
       let fit = room both.1 in
-      let most = most_slots (whole opened.1) in
-      record {
-        numbers = record {
+      let most = most_slots (whole opened.1) in (
+        record {
           some_variable = numbers.some_variable;
           variables = numbers.variables;
           some_value = numbers.some_value;
           values = numbers.values;
-        };
-        domains_words = fits.words;
-        tables_words = fits.sized.words;
-        few = omega arith;
-        agenda_words = slots_within n (length agenda) s.subproblems fit;
-      }
+        },
+        record {
+          domains_words = fits.words;
+          tables_words = fits.sized.words;
+          few = omega arith;
+          agenda_words = slots_within n (length agenda) s.subproblems fit;
+        },
+      )
 
   pub save_passed : (r : ℕ) → r ≡ search_refusal n d domains tables agenda s.counts.steps.0 s.counts.checks.0 s.subproblems → r ≡ 0
-      → Savable n d domains tables agenda s
+      → Numbers n d × Savable n d domains tables agenda s
   save_passed r e z = first_passed (sym e ∙ z)
 
   module _ (file : List ℕ) where
@@ -134,12 +136,15 @@ module _ (n d : ℕ) (domains tables agenda : List ℕ) (s : State) where
         }
 
     module _ (small : (i : ℕ) → get_or agenda i 0 < 2 ^ 16) (r words : ℕ) (is-r : r ≡ search_refusal n d domains tables agenda s.counts.steps.0 s.counts.checks.0 s.subproblems) (zero-r : r ≡ 0) (is-words : words ≡ word_count n d s.subproblems) where
+      abbrev passed : Numbers n d × Savable n d domains tables agenda s
+      passed = save_passed r is-r zero-r
+
       -- So many blocks.
       counted_blocks : (words + 252) / 253 ≡ blocks_for (length (handed_content n d domains tables agenda s))
       unfolding blocks_for
       counted_blocks =
           let all : words ≡ length (handed_content n d domains tables agenda s) = is-words ∙ sym
-          (handed_length n d domains tables agenda s (save_passed r is-r zero-r) small) in
+          (handed_length n d passed.0 domains tables agenda s passed.1 small) in
           ap (λ (x : ℕ). (x + 252) / 253) all
 
       -- 13 or none is left.
@@ -169,7 +174,7 @@ module _ (n d : ℕ) (domains tables agenda : List ℕ) (s : State) where
           → take ((words + 252) / 253 * 253) content ≡ handed_content n d domains tables agenda s ++ replicate ((words + 252) / 253 * 253 - words) 0
       filling content c few =
           let long : length (handed_content n d domains tables agenda s) ≡ words =
-          handed_length n d domains tables agenda s (save_passed r is-r zero-r) small ∙ sym is-words in
+          handed_length n d passed.0 domains tables agenda s passed.1 small ∙ sym is-words in
           ap (take ((words + 252) / 253 * 253)) (c ∙ rw (← is-words) refl)
           ∙ take_padded (handed_content n d domains tables agenda s) (25553 - words) ((words + 252) / 253 * 253) (omega arith) (omega arith)
           ∙ rw long refl
@@ -184,7 +189,7 @@ module _ (n d : ℕ) (domains tables agenda : List ℕ) (s : State) where
           let handed : List ℕ = handed_content n d domains tables agenda s in
           let count : ℕ = (words + 252) / 253 in
           let zero : ℕ = count * 253 - words in
-          let long : length handed ≡ words = handed_length n d domains tables agenda s (save_passed r is-r zero-r) small ∙ sym is-words in
+          let long : length handed ≡ words = handed_length n d passed.0 domains tables agenda s passed.1 small ∙ sym is-words in
           let same : after ≡ file_of handed ++ drop (512 * count) file =
           blocks_written handed file after zero count (omega arith) (sym counted_blocks) (omega arith) h (subst_put (filling content c (omega arith)) put) in
           let none : refusal ≡ 0 = last ∙ rw (le-ltb (length file) (512 * ((words + 252) / 253)) h) refl in

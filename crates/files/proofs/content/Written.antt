@@ -58,8 +58,8 @@ module _ (n d : ℕ) where
     pub start : Fits w64 ((i * n + i + 1) * d)
     pub within : (i * n + i + 1) * d + (n - (i + 1)) * d ≤ words
 
-  pub row_in : (i words : ℕ) → Numbers n d × ((words ≡ n * n * d) × (i < n)) → RowIn i words
-  row_in i words (s, (e, h)) =
+  pub row_in : (i words : ℕ) → Numbers n d → (words ≡ n * n * d) × (i < n) → RowIn i words
+  row_in i words s (e, h) =
       let few = s.variables in
       let less : i ≤ 32 = omega arith in
       let more : n - (i + 1) ≤ 32 = omega arith in
@@ -122,7 +122,7 @@ header_long : (n d : ℕ) (s : State) → length (header n d s) ≡ 9
 unfolding header
 header_long n d s = refl
 
-module _ (n d : ℕ) (domains tables agenda : List ℕ) (s : State) (hands : Savable n d domains tables agenda s) where
+module _ (n d : ℕ) (numbers : Numbers n d) (domains tables agenda : List ℕ) (s : State) (hands : Savable n d domains tables agenda s) where
   -- The masks for i below j, how many words the used slots are, and these.
   abbrev masks : List ℕ
   masks = triangle n d (table_of n d tables)
@@ -156,8 +156,8 @@ module _ (n d : ℕ) (domains tables agenda : List ℕ) (s : State) (hands : Sav
   -- They fit.
   pub few : word_count n d s.subproblems ≤ 25385
   few =
-      let slots = slots_few n s.subproblems 512 hands.numbers.variables hands.few (omega arith) in
-      omega (arith, triangle_few n d hands.numbers, slots, hands.numbers.variables)
+      let slots = slots_few n s.subproblems 512 numbers.variables hands.few (omega arith) in
+      omega (arith, triangle_few n d numbers, slots, numbers.variables)
 
   module _ (small : (i : ℕ) → get_or agenda i 0 < 2 ^ 16) where
     -- The content is its four parts, one after the other.

@@ -197,11 +197,7 @@ pub part_in_lem : (words out : List ℕ) (from w : ℕ) → out ≡ take ((from 
 unfolding part_in
 part_in_lem words out from w e = e
 
--- The domains.
-pub domains_put : (words part out : List ℕ) (k n : ℕ) → part ≡ part_in words 9 k → out ≡ part → k ≡ n → out ≡ part_in words 9 n
-domains_put words part out k n e s h = s ∙ e ∙ ap (part_in words 9) h
-
--- They fit into memory, and zeros stand after them.
+-- Slots fit into memory, and zeros stand after them.
 module _ (words slots : List ℕ) (n d m all : ℕ) (found : (slots ≡ part_in words (agenda_from n d) (m * (n + 2))) × (length slots ≡ m * (n + 2))) where
   pub slots_room : m * (n + 2) ≤ all → length slots ≤ all
   slots_room h = rw found.1 h

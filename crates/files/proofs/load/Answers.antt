@@ -6,7 +6,7 @@ use Rattle.blocks.proofs.Whole.{refusal_is}
 use Rattle.files.proofs.reading.Refused.{refused_14, refused_sizes}
 use Rattle.problem.specs.declared.refusal.Refusal.TheVariants.{Content}
 use Rattle.problem.proofs.Refused.{never_0, handed_err}
-use Rattle.files.proofs.LoadOutcomes.{refuses, load_refused, load_read}
+use Rattle.files.proofs.LoadOutcomes.{refuses, load_refused, load_numbers, load_read}
 use Rattle.files.proofs.load.Goals as goal
 
 pub returns-in_err-refusal_of_file : goal.returns-in_err-refusal_of_file
@@ -20,10 +20,15 @@ returns-then-not-is_sized c =
     let is = refused_sizes _ _ _ _ whole _ c.is_sized.ensures (ap not c.if-not-is_sized.true) in
     load_refused _ _ _ _ _ is (λ z. absurd (omega arith)) _ (refuses Content)
 
-pub load_content-requires : goal.load_content-requires
-load_content-requires c =
-    load_read _ _ _ _ _ _ c.in_ok-refusal_of_file.ensures refl c.header_of-header.ensures c.is_sized.ensures
-    (ap not c.if-not-is_sized.false) c.room_for_content-words.ensures c.put_content.ensures
+pub invariant_of-content : goal.invariant_of-content
+invariant_of-content c = record { numbers = (load_numbers _ _ _ c.header_of-header.ensures c.is_sized.ensures (ap not c.if-not-is_sized.false)).0 }
+
+pub invariant_of-content-2 : goal.invariant_of-content-2
+invariant_of-content-2 c =
+    let small = c.type_inv.file in record {
+      read = load_read _ _ _ _ _ _ (λ i. omega (arith, small i)) c.in_ok-refusal_of_file.ensures refl c.header_of-header.ensures c.is_sized.ensures
+          (ap not c.if-not-is_sized.false) c.zeros-words.ensures c.put_content.ensures;
+    }
 
 pub shape_of-domains : goal.shape_of-domains
 shape_of-domains c = c.load_content.auto.domains

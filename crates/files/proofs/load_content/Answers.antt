@@ -1,29 +1,22 @@
 -- `load_content` meets its contract: refused, nothing is changed; else the search is written.
 use mathlib.Core.Path.{refl}
-use native.Mathlib.Omega.{arith}
-use Rattle.files.proofs.reading.Refused.{read_numbers}
 use Rattle.problem.proofs.Refused.{never_0, handed_err}
-use Rattle.files.proofs.LoadOutcomes.{refuses, accepts, load_refused, made_ready, made_count, made_fits, load_lent, load_accepted}
+use Rattle.files.proofs.LoadOutcomes.{refuses, accepts, load_refused, made_all, made_count, made_fits, load_lent, load_accepted}
 use Rattle.files.proofs.load_content.Goals as goal
-
-pub put_tables-count-requires : goal.put_tables-count-requires
-put_tables-count-requires c =
-    let read = c.requires in
-    ((read_numbers _ _ _ read).0, (read.long, c.room_for_tables-room.ensures))
 
 pub slice_bounds-room-end : goal.slice_bounds-room-end
 slice_bounds-room-end c =
-    made_fits _ _ _ _ _ _ c.requires c.room_for_tables-room.ensures c.put_tables-count.ensures.0
+    made_fits _ _ _ _ _ _ c.args.content.now.read c.zeros-room.ensures c.put_tables-count.ensures.0
     c.put_tables-count.ensures.1
 
 pub slice_bounds-masks-end : goal.slice_bounds-masks-end
 slice_bounds-masks-end c =
-    made_count _ _ _ _ _ _ c.requires c.room_for_tables-room.ensures c.put_tables-count.ensures.0
+    made_count _ _ _ _ _ _ c.args.content.now.read c.zeros-room.ensures c.put_tables-count.ensures.0
     c.put_tables-count.ensures.1
 
 pub refusal-requires : goal.refusal-requires
 refusal-requires c =
-    made_ready _ _ _ _ _ _ c.requires c.room_for_tables-room.ensures c.put_tables-count.ensures.0
+    made_all _ _ _ _ _ _ c.args.content.now.read c.zeros-room.ensures c.put_tables-count.ensures.0
     c.put_tables-count.ensures.1
 
 pub returns-in_err-refusal : goal.returns-in_err-refusal
@@ -32,9 +25,9 @@ returns-in_err-refusal c =
 
 pub put_search-requires : goal.put_search-requires
 put_search-requires c =
-    let ready = made_ready _ _ _ _ _ _ c.requires c.room_for_tables-room.ensures c.put_tables-count.ensures.0
+    let tabled = made_all _ _ _ _ _ _ c.args.content.now.read c.zeros-room.ensures c.put_tables-count.ensures.0
     c.put_tables-count.ensures.1 in
-    load_lent _ _ _ _ _ c.in_ok-refusal.ensures refl _ _ _ ready
+    load_lent _ _ _ _ _ c.in_ok-refusal.ensures refl _ _ _ c.args.content.now.read tabled
 
 pub shape_of-domains : goal.shape_of-domains
 shape_of-domains c = c.put_search.auto.domains
@@ -48,8 +41,7 @@ shape_of-agenda c = c.put_search.auto.agenda
 pub returns : goal.returns
 returns c =
     let put = c in
-    let small = c.type_inv.file in
-    let ready = made_ready _ _ _ _ _ _ c.requires c.room_for_tables-room.ensures c.put_tables-count.ensures.0
+    let tabled = made_all _ _ _ _ _ _ c.args.content.now.read c.zeros-room.ensures c.put_tables-count.ensures.0
     c.put_tables-count.ensures.1 in
-    load_accepted _ _ _ _ _ c.in_ok-refusal.ensures refl _ _ _ ready (λ i. omega (arith, small i)) _ _ _ _
+    load_accepted _ _ _ _ _ c.in_ok-refusal.ensures refl _ _ _ c.args.content.now.read tabled _ _ _ _
     (accepts _) put.put_search.ensures.0 put.put_search.ensures.1.0 put.put_search.ensures.1.1

@@ -30,7 +30,7 @@ use Rattle.search.proofs.first_checks.FirstPassing.{search_is_passed}
 use Rattle.blocks.specs.Blocks.{blocks_for}
 use Rattle.blocks.specs.Reading.{blocks_in, content_word, content_from, Bytes}
 use Rattle.files.specs.Reading.{said_n, said_d, said_steps, said_checks, said_subproblems, said_domains, said_allowed, said_agenda, said_search, said_words, agenda_from, table_words, refusal_of_words}
-use Rattle.files.specs.Loops.Said.{Numbers, numbers_in, zero_in, filled, sized_in, Read, Ready, part_in}
+use Rattle.files.specs.Loops.Said.{Numbers, numbers_in, zero_in, filled, sized_in, Read, Made, part_in}
 use Rattle.files.specs.Calls.{HeaderOf}
 use Rattle.files.specs.declared.saved.Header.{Header}
 use Rattle.blocks.proofs.Lists.{seq, seq_join, map_is}
@@ -185,34 +185,34 @@ module _ (file : List ℕ) (small : Bytes file) (whole : Whole file) (sized : si
 
 -- ---- as the code makes them
 
-module _ (file words tables ds slots : List ℕ) (h : Header) (small : Bytes file) (ready : Ready file words tables h) (r : ℕ)
+module _ (file words tables ds slots : List ℕ) (h : Header) (read : Read file words h) (tabled : Made file tables) (r : ℕ)
     (is-ds : ds ≡ part_in words 9 h.n) (is-slots : slots ≡ part_in words (agenda_from h.n h.d) (512 * (h.n + 2)))
     (is-r : r ≡ search_refusal h.n h.d ds tables slots h.state.counts.steps.0 h.state.counts.checks.0 h.state.subproblems) where
   abbrev said : HeaderOf file h
-  said = ready.read.header
+  said = read.header
 
   fitting : Numbers h.n h.d × (h.state.subproblems ≤ 512)
-  fitting = read_numbers file words h ready.read
+  fitting = read_numbers file words h read
 
   domains_read : ds ≡ said_domains file
-  domains_read = is-ds ∙ part_read file words h ready.read 9 h.n (omega (arith, fitting.0.variables)) ∙ ap (content_from file 9) said.its_n
+  domains_read = is-ds ∙ part_read file words h read 9 h.n (omega (arith, fitting.0.variables)) ∙ ap (content_from file 9) said.its_n
 
   slots_read : slots ≡ agenda_of (said_n file) (512 * (said_n file + 2)) (said_search file).memory
   slots_read =
-      is-slots ∙ part_read file words h ready.read (agenda_from h.n h.d) (512 * (h.n + 2))
+      is-slots ∙ part_read file words h read (agenda_from h.n h.d) (512 * (h.n + 2))
       (omega (arith, triangle_few h.n h.d fitting.0, fitting.0.variables))
-      ∙ rw (said.its_n, said.its_d) (memory_is file small (file_whole file ready.read.whole) ready.read.sized)
+      ∙ rw (said.its_n, said.its_d) (memory_is file read.bytes (file_whole file read.whole) read.sized)
 
-  made : r ≡ checked file small (file_whole file ready.read.whole) ready.read.sized
-  made = is-r ∙ rw (domains_read, slots_read, ready.made, said.steps, said.checks, said.subproblems, said.its_n, said.its_d) refl
+  made : r ≡ checked file read.bytes (file_whole file read.whole) read.sized
+  made = is-r ∙ rw (domains_read, slots_read, tabled, said.steps, said.checks, said.subproblems, said.its_n, said.its_d) refl
 
   -- They pass.
   pub rules_kept : r ≡ 0 → 0 ≡ refusal_of_words file
-  rules_kept z = passes_none file small (file_whole file ready.read.whole) ready.read.sized (sym made ∙ z)
+  rules_kept z = passes_none file read.bytes (file_whole file read.whole) read.sized (sym made ∙ z)
 
   -- They refuse.
   pub rules_broken : (r ≡ 0 → ⊥) → 15 ≡ refusal_of_words file
-  rules_broken f = refused_given file small (file_whole file ready.read.whole) ready.read.sized (λ z. f (made ∙ z))
+  rules_broken f = refused_given file read.bytes (file_whole file read.whole) read.sized (λ z. f (made ∙ z))
 
 -- Whatever they refuse is 15.
 pub fifteen_or : {A : Type 0} (r : Result A Refusal) (k : ℕ) → (told r ≡ 0 → 0 ≡ k) → ((told r ≡ 0 → ⊥) → 15 ≡ k)

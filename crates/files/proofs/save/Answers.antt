@@ -1,9 +1,8 @@
 -- `save` meets its contract: refused, nothing is changed; else the blocks are written.
-use mathlib.Core.Path.{refl, ◌∙◌}
+use mathlib.Core.Path.{refl}
 use native.Mathlib.Omega.{arith}
 use Rattle.problem.proofs.Refused.{never_0, handed_err}
 use Rattle.files.proofs.SaveOutcomes.{save_passed, save_refused, save_short, save_written, save_part}
-use Rattle.files.proofs.filling.Filled.{zeros_long}
 use Rattle.files.proofs.save.Goals as goal
 
 pub returns-in_err-search_refusal : goal.returns-in_err-search_refusal
@@ -11,8 +10,11 @@ returns-in_err-search_refusal c =
     rw (handed_err _ _ c.from_residual.ensures.1)
     (save_refused _ _ _ _ _ _ _ _ _ c.in_err-search_refusal.ensures (never_0 _) refl refl)
 
+pub invariant_of-sizes : goal.invariant_of-sizes
+invariant_of-sizes c = record { numbers = (save_passed _ _ _ _ _ _ _ c.in_ok-search_refusal.ensures refl).0 }
+
 pub words-requires : goal.words-requires
-words-requires c = let hands = save_passed _ _ _ _ _ _ _ c.in_ok-search_refusal.ensures refl in (hands.numbers, hands.few)
+words-requires c = (save_passed _ _ _ _ _ _ _ c.in_ok-search_refusal.ensures refl).1.few
 
 pub returns-then-file-blocks : goal.returns-then-file-blocks
 returns-then-file-blocks c =
@@ -21,13 +23,10 @@ returns-then-file-blocks c =
     c.words.ensures.0 _ c.if-file-blocks.true refl refl
 
 pub put-requires : goal.put-requires
-put-requires c = (save_passed _ _ _ _ _ _ _ c.in_ok-search_refusal.ensures refl, c.room_for_content-words.ensures)
+put-requires c = ((save_passed _ _ _ _ _ _ _ c.in_ok-search_refusal.ensures refl).1, c.zeros-words.ensures)
 
 pub slice_bounds-put_blocks-end : goal.slice_bounds-put_blocks-end
-slice_bounds-put_blocks-end c =
-    let put = c in
-    let long = put.put.auto.words ∙ zeros_long _ 25553 put.room_for_content-words.ensures in
-    save_part _ _ long c.words.ensures.1
+slice_bounds-put_blocks-end c = save_part _ _ c.put.array_long c.words.ensures.1
 
 pub shape_of-file : goal.shape_of-file
 shape_of-file c = c.put_blocks.auto.file

@@ -6,10 +6,11 @@ use Rattle.problem.specs.Lists.{every, below}
 use Rattle.problem.specs.Tests.FirstChecks.{refusal_of_numbers}
 use Rattle.blocks.specs.Blocks.{blocks_for}
 use Rattle.blocks.specs.Lists.{each}
-use Rattle.blocks.specs.Reading.{blocks_in, content_word}
+use Rattle.blocks.specs.Reading.{blocks_in, content_word, Bytes}
 use Rattle.files.specs.Reading.{said_n, said_d, said_subproblems, said_allowed, agenda_from, said_words, triangle_place, gathered, table_words}
 use Rattle.blocks.specs.Tests.Whole.{refusal_of_file}
 use Rattle.files.specs.Calls.{HeaderOf}
+use Rattle.search.specs.declared.state.State.{State}
 use Rattle.files.specs.declared.saved.Header.{Header}
 use Rattle.files.specs.Outcomes.{Loaded}
 
@@ -70,24 +71,26 @@ unfoldable pub slots_part : List ℕ → ℕ → ℕ → ℕ → ℕ → List �
 slots_part words n d subproblems all =
     part_in words (agenda_from n d) (subproblems * (n + 2)) ++ replicate (all - subproblems * (n + 2)) 0
 
+-- What the first words of a file say, put together.
+abbrev pub said_header : ℕ → ℕ → State → Header
+said_header n d state = record { n = n; d = d; state = state }
+
 -- A file that passed 14, whose numbers and number of words fit, what its first words say, and the words of its content.
 pub record Read (file words : List ℕ) (h : Header) : Type 0 where
   pub header : HeaderOf file h
   pub whole : refusal_of_file file ≡ 0
   pub sized : sized_in file ≡ true
+  pub bytes : Bytes file
   pub long : length words ≡ 25553
   pub says : (k : ℕ) → get_or words k 0 ≡ content_word file k
 
--- Its tables are made, too.
-pub record Ready (file words tables : List ℕ) (h : Header) : Type 0 where
-  pub read : Read file words h
-  pub made : tables ≡ table_words (said_n file) (said_d file) (said_allowed file)
+-- Its tables.
+abbrev pub Made : List ℕ → List ℕ → Type 0
+Made file tables = tables ≡ table_words (said_n file) (said_d file) (said_allowed file)
 
 -- Memory that takes a search of m subproblems.
-pub record Lent (n d m : ℕ) (words masks domains tables agenda : List ℕ) : Type 0 where
-  pub numbers : Numbers n d
+pub record Lent (n m : ℕ) (masks domains tables agenda : List ℕ) : Type 0 where
   pub few : m ≤ 512
-  pub long : length words ≡ 25553
   pub domains_words : length domains ≡ n
   pub tables_words : length masks ≡ length tables
   pub agenda_words : m * (n + 2) ≤ length agenda

@@ -2,11 +2,9 @@
 use Rattle.std.specs.Prelude.{◌≡◌, List, [], ◌∷◌, ℕ, ◌+◌, ◌*◌, ◌/◌, ◌%◌, ◌^◌, ◌≤◌, length}
 use Rattle.search.specs.declared.state.State.{State}
 use Rattle.files.specs.Content.{first_word}
-use Rattle.files.specs.Loops.Said.{Numbers}
 
 -- What the first checks leave.
 pub record Savable (n d : ℕ) (domains tables agenda : List ℕ) (s : State) : Type 0 where
-  pub numbers : Numbers n d
   pub domains_words : length domains ≡ n
   pub tables_words : length tables ≡ n * n * d
   pub few : s.subproblems ≤ 512

@@ -10,6 +10,6 @@ returns c =
     let one = two in
     let first = one in
     let pre = first.requires in
-    content_put _ _ _ _ _ _ pre.0 (λ i. omega (arith, first.type_inv.agenda i)) _ _ _ _ _ _ _ _ _ pre.1
+    content_put _ _ first.args.sizes.numbers _ _ _ _ pre.0 (λ i. omega (arith, first.type_inv.agenda i)) _ _ _ _ _ _ _ _ _ pre.1
     first.header-first.ensures
     one.put_at-at.ensures two.put_at-at-2.ensures three.put_masks-at.ensures c.put_at.ensures.0

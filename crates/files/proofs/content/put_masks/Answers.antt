@@ -10,16 +10,16 @@ loop-i-init c = passed_none _ _ _
 pub put_at-end-requires : goal.put_at-end-requires
 put_at-end-requires c =
     let pre = c.requires in
-    row_room _ _ _ pre.1.0 _ _ _ _ _ pre.1.1 c.loop-i.invariant _ c.loop-i-test.true c.masks_after.ensures.1
+    row_room _ _ _ pre.0 _ _ _ _ _ pre.1 c.loop-i.invariant _ c.loop-i-test.true c.masks_after.ensures.1
 
 pub loop-i-preserved : goal.loop-i-preserved
 loop-i-preserved c =
     let pre = c.requires in
     let put = c.put_at-end in
-    rows_more _ _ _ pre.1.0 _ _ _ _ _ pre.1.1 c.loop-i.invariant _ _ _ c.loop-i-test.true c.masks_after.ensures.0
+    rows_more _ _ _ pre.0 _ _ _ _ _ pre.1 c.loop-i.invariant _ _ _ c.loop-i-test.true c.masks_after.ensures.0
     put.ensures.0 put.ensures.1 put.auto.out
 
 pub returns : goal.returns
 returns c =
     let pre = c.requires in
-    rows_end _ _ _ pre.1.0 _ _ _ _ _ pre.1.1 c.loop-i.invariant (omega arith)
+    rows_end _ _ _ pre.0 _ _ _ _ _ pre.1 c.loop-i.invariant (omega arith)

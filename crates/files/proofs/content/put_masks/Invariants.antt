@@ -5,4 +5,4 @@ use Rattle.files.proofs.filling.Filled.{Passed}
 use Rattle.files.proofs.content.put_masks.Given as goal
 
 abbrev pub invariant-loop-i : goal.invariant-loop-i
-invariant-loop-i l = Passed (row l.n l.d (table_of l.n l.d l.tables)) l.initial.words l.at l.words l.i l.end
+invariant-loop-i l = Passed (row l.sizes.n l.sizes.d (table_of l.sizes.n l.sizes.d l.tables)) l.initial.words l.at l.words l.i l.end

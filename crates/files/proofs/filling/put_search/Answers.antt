@@ -1,12 +1,12 @@
 -- `filling::put_search` meets its contract.
+use mathlib.Core.Path.{◌∙◌}
 use Rattle.files.proofs.filling.Filled.{padded_put}
-use Rattle.files.proofs.filling.Mirrors.{domains_put, slots_room, slots_put}
+use Rattle.files.proofs.filling.Mirrors.{slots_room, slots_put}
 use Rattle.files.proofs.filling.put_search.Goals as goal
 
 pub returns : goal.returns
 returns c =
     let pre = c.requires in
-    let room = slots_room _ _ _ _ _ _ c.slots-slots.ensures pre.agenda_words in
+    let room = slots_room _ _ _ _ _ _ c.slots.ensures pre.agenda_words in
     let padded = padded_put _ _ _ _ _ room c.put_at-end.ensures c.put_at-end.auto.out c.put_zeros.ensures in
-    let domains = domains_put _ _ _ _ _ c.part.ensures.0 c.put_words.ensures pre.domains_words in
-    (domains, (c.put_words-2.ensures, slots_put _ _ _ _ _ _ c.slots-slots.ensures _ padded))
+    (c.put_words.ensures ∙ c.domains.ensures.0, (c.put_words-2.ensures, slots_put _ _ _ _ _ _ c.slots.ensures _ padded))

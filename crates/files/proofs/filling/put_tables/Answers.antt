@@ -8,29 +8,24 @@ loop-i-init c = passed_none _ _ _
 
 pub put_before-own-requires : goal.put_before-own-requires
 put_before-own-requires c =
-    let pre = c.requires in
-    let room = before_room _ _ _ _ _ _ _ pre.1.1 pre.0 c.loop-i-test.true c.loop-i.invariant in
-    (pre.0, (c.loop-i-test.true, (pre.1.0, room)))
+    (c.loop-i-test.true, before_room _ _ _ _ _ _ _ c.requires c.args.content.now.sizes.numbers c.loop-i-test.true c.loop-i.invariant)
 
 pub overflow_add-own : goal.overflow_add-own
 overflow_add-own c =
-    let pre = c.requires in
-    own_fits _ _ _ _ _ _ _ pre.1.1 pre.0 c.loop-i-test.true c.loop-i.invariant _ c.put_before-own.ensures.1
+    own_fits _ _ _ _ _ _ _ c.requires c.args.content.now.sizes.numbers c.loop-i-test.true c.loop-i.invariant _ c.put_before-own.ensures.1
 
 pub put_at-end-requires : goal.put_at-end-requires
 put_at-end-requires c =
-    let pre = c.requires in
     let put = c.put_before-own in
-    after_room _ _ _ _ _ _ _ pre.1.1 pre.0 c.loop-i-test.true c.loop-i.invariant _ put.ensures.1 _ _
-    put.auto.masks c.after.ensures.1
+    after_room _ _ _ _ _ _ _ c.requires c.args.content.now.sizes.numbers c.loop-i-test.true c.loop-i.invariant _ put.ensures.1 _ _
+    put.auto.masks c.masks_after.ensures.1
 
 pub loop-i-preserved : goal.loop-i-preserved
 loop-i-preserved c =
-    let pre = c.requires in
     let first = c.put_before-own in
     let last = c.put_at-end in
-    rows_more _ _ _ _ _ _ _ pre.1.1 pre.0 c.loop-i-test.true c.loop-i.invariant _ first.ensures.1 _ _ _ _
-    first.ensures.0 c.after.ensures.0 c.after.ensures.1 last.ensures.0 last.ensures.1 first.auto.masks
+    rows_more _ _ _ _ _ _ _ c.requires c.args.content.now.sizes.numbers c.loop-i-test.true c.loop-i.invariant _ first.ensures.1 _ _ _ _
+    first.ensures.0 c.masks_after.ensures.0 c.masks_after.ensures.1 last.ensures.0 last.ensures.1 first.auto.masks
     last.auto.out
 
 pub returns : goal.returns
