@@ -20,12 +20,12 @@ fn word(low: u8, high: u8) -> u16
     u16::from_le_bytes([low, high])
 }
 
-// Puts the words that the bytes say at the front of `words`.
+// Puts the words that the bytes say at the front of `words`: one at least, so that no test stands before the first turn.
 fn put(bytes: &[u8], words: &mut [u16]) -> usize
     requires { Fits (length bytes.now) (length words.old) }
     ensures { Puts true bytes.now words.old words.new result }
 {
-    let count = bytes.len() / 2;
+    let count = (bytes.len() / 2).max(1);
     for i in 0..count {
         words[i] = word(bytes[2 * i], bytes[2 * i + 1]);
     }
