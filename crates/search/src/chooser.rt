@@ -9,7 +9,7 @@ ghost use Rattle.search.specs.Loops.Slots.{SlotIn};
 ghost use Rattle.search.specs.Loops.Kept.{Regular};
 ghost use Rattle.search.specs.Loops.Steps.{Replaced, Taking, taken_by};
 ghost use Rattle.search.specs.Loops.Lanes.{Sides};
-ghost use Rattle.search.specs.Loops.Found.{Found, AtTop, RoomFor, FurtherOf, FurtherPiece, Puts, request_by, left, left_by, several, TakesChosen};
+ghost use Rattle.search.specs.Loops.Found.{Found, OfTop, RoomFor, FurtherOf, FurtherPiece, Puts, request_by, left, left_by, several, TakesChosen};
 
 use crate::kept::Kept;
 use crate::state::State;
@@ -48,47 +48,131 @@ fn look(top: Subproblem, kept: &mut Kept) -> Choice
     }
 }
 
-// Whether more than one piece may be left.
-fn is_several(choice: Choice) -> bool
-    ensures { result ≡ several choice }
-{
-    !choice.lost && choice.values != 1
+// A top that runs, and the chooser's choice of it. `d` and `tables` are for the contracts alone: the code has the choice's row.
+#[derive(Clone, Copy)]
+struct Chosen<'a> {
+    n: usize,
+    d: usize,
+    tables: &'a [u16],
+    top: Subproblem,
+    choice: Choice,
+    ghost of_top: { OfTop n d tables.now top choice },
 }
 
-// The precluded piece.
-fn precluded(top: Subproblem, choice: Choice) -> Subproblem
-    requires { choice.variable < 32 }
-    ensures { result ≡ precluded_by top choice.variable choice.row }
-{
-    let row = choice.row;
-    top.precluded(choice.variable, row)
-}
-
-// V without its value.
-fn rest(top: Subproblem, choice: Choice) -> Subproblem
-    requires { choice.variable < 32 }
-    ensures { result ≡ without top choice.variable (get_or choice.row choice.variable 0) }
-{
-    let variable = choice.variable;
-    let row = choice.row;
-    top.without(variable, row[variable])
-}
-
-// Where one piece is left at most: it in the place of the top, which stood in slot `slot`; the number of subproblems then.
-fn settle(top: Subproblem, n: usize, agenda: &mut [u16], choice: Choice, slot: usize) -> usize
-    requires { (choice.variable < 32) × SlotIn n slot (length agenda.old) }
-    ensures { Replaced n (left_by top choice) slot agenda.old agenda.new result }
-{
-    if !choice.lost {
-        agenda::write_slot(n, agenda, slot, precluded(top, choice));
-        return slot + 1;
+impl<'a> Chosen<'a> {
+    // Whether more than one piece may be left.
+    fn is_several(&self) -> bool
+        ensures { result ≡ several self.now.choice }
+    {
+        !self.choice.lost && self.choice.values != 1
     }
-    if choice.values == 1 {
-        agenda::clear_slot(n, agenda, slot);
-        return slot;
+
+    // The precluded piece.
+    fn precluded(&self) -> Subproblem
+        ensures { result ≡ precluded_by self.now.top self.now.choice.variable self.now.choice.row }
+    {
+        let top = self.top;
+        let row = self.choice.row;
+        top.precluded(self.choice.variable, row)
     }
-    agenda::write_slot(n, agenda, slot, rest(top, choice));
-    slot + 1
+
+    // V without its value.
+    fn rest(&self) -> Subproblem
+        ensures { result ≡ without self.now.top self.now.choice.variable (get_or self.now.choice.row self.now.choice.variable 0) }
+    {
+        let top = self.top;
+        let variable = self.choice.variable;
+        let row = self.choice.row;
+        top.without(variable, row[variable])
+    }
+
+    // Where one piece is left at most: it in the place of the top, which stood in slot `slot`; the number of subproblems then.
+    fn settle(&self, agenda: &mut [u16], slot: usize) -> usize
+        requires { SlotIn self.now.n slot (length agenda.old) }
+        ensures { Replaced self.now.n (left_by self.now.top self.now.choice) slot agenda.old agenda.new result }
+    {
+        if !self.choice.lost {
+            agenda::write_slot(self.n, agenda, slot, self.precluded());
+            return slot + 1;
+        }
+        if self.choice.values == 1 {
+            agenda::clear_slot(self.n, agenda, slot);
+            return slot;
+        }
+        agenda::write_slot(self.n, agenda, slot, self.rest());
+        slot + 1
+    }
+
+    // What kind 3's further pieces are made of.
+    fn further(&self) -> Further
+        ensures { FurtherOf self.now.top self.now.choice result }
+    {
+        let rest = self.rest();
+        let whole = rest.domains;
+        let mut row = self.choice.row;
+        let variable = self.choice.variable;
+        row[variable] = 65535;
+        let out = at_once::outsides(whole, row);
+        Further { rest, row, out }
+    }
+
+    // Kind 3's pieces, the last named in the place of the top, the others above; the number of subproblems then.
+    fn spread(&self, agenda: &mut [u16], further: Further, slot: usize) -> usize
+        requires { SlotIn self.now.n slot (length agenda.old) × (RoomFor self.now.n self.now.d self.now.tables.now self.now.top self.now.choice 3 slot (length agenda.old) × ((several self.now.choice ≡ true) × FurtherOf self.now.top self.now.choice further)) }
+        ensures { Replaced self.now.n (pieces self.now.n (table_of self.now.n self.now.d self.now.tables.now) self.now.top (request_by self.now.top self.now.choice 3)) slot agenda.old agenda.new result }
+    {
+        let out = further.out;
+        let sides = lanes::sides();
+        let mut at = slot;
+        for j in (0..self.n).rev() {
+            if out[j] != 0 {
+                agenda::write_slot(self.n, agenda, at, further_piece(further, &sides, j));
+                at += 1;
+            }
+        }
+        agenda::write_slot(self.n, agenda, at, self.precluded());
+        at + 1
+    }
+
+    // Kind 2's pieces: V without its value in the place of the top, the precluded piece above.
+    fn put_two(&self, agenda: &mut [u16], slot: usize) -> usize
+        requires { SlotIn self.now.n slot (length agenda.old) × (RoomFor self.now.n self.now.d self.now.tables.now self.now.top self.now.choice 2 slot (length agenda.old) × (several self.now.choice ≡ true)) }
+        ensures { Replaced self.now.n (pieces self.now.n (table_of self.now.n self.now.d self.now.tables.now) self.now.top (request_by self.now.top self.now.choice 2)) slot agenda.old agenda.new result }
+    {
+        agenda::write_slot(self.n, agenda, slot, self.rest());
+        agenda::write_slot(self.n, agenda, slot + 1, self.precluded());
+        slot + 2
+    }
+
+    // The pieces of the rule's request in the place of the top, which stood in slot `slot`: one at most, else kind 3's if they have room, else
+    // kind 2's if these have, else none, and 12. The number of subproblems then.
+    fn put(&self, agenda: &mut [u16], slot: usize) -> Result<usize, Refusal>
+        requires { SlotIn self.now.n slot (length agenda.old) }
+        ensures { Puts self.now.n self.now.d self.now.tables.now self.now.top slot agenda.old agenda.new (left result) }
+    {
+        if !self.is_several() {
+            return Ok(self.settle(agenda, slot));
+        }
+        let free = agenda.len() / (self.n + 2) - slot;
+        let further = self.further();
+        let out = further.out;
+        if (at_once::filled(out) as usize) < free {
+            return Ok(self.spread(agenda, further, slot));
+        }
+        if free < 2 {
+            return Err(Refusal::Room);
+        }
+        Ok(self.put_two(agenda, slot))
+    }
+
+    // The checks so far with those of the step: the values of all variables but V.
+    fn with_checks(&self, before: u64) -> u64
+        requires { before < 2 ^ 63 }
+        ensures { result ≡ before + (total 32 (λ j. size (domain self.now.top j)) - self.now.choice.values) }
+    {
+        let domains = self.top.domains;
+        before + u64::from(at_once::values(domains) - self.choice.values)
+    }
 }
 
 // What kind 3's further pieces are made of: V without its value, the row with all values for V, and what each domain has outside its mask of it.
@@ -97,19 +181,6 @@ pub(crate) struct Further {
     pub(crate) rest: Subproblem,
     pub(crate) row: [u16; 32],
     pub(crate) out: [u16; 32],
-}
-
-fn further_of(top: Subproblem, choice: Choice) -> Further
-    requires { choice.variable < 32 }
-    ensures { FurtherOf top choice result }
-{
-    let rest = rest(top, choice);
-    let whole = rest.domains;
-    let mut row = choice.row;
-    let variable = choice.variable;
-    row[variable] = 65535;
-    let out = at_once::outsides(whole, row);
-    Further { rest, row, out }
 }
 
 // The further piece of variable `j`.
@@ -122,90 +193,6 @@ fn further_piece(further: Further, sides: &[u16], j: usize) -> Subproblem
         .rest
         .cut_each(lanes::before(row, sides, j))
         .without(j, row[j])
-}
-
-// Kind 3's pieces, the last named in the place of the top, the others above; the number of subproblems then. `d` and `tables` are for
-// the contract alone, here and in `put_two`: the code has the choice's row.
-fn spread(
-    top: Subproblem,
-    n: usize,
-    d: usize,
-    tables: &[u16],
-    agenda: &mut [u16],
-    choice: Choice,
-    further: Further,
-    slot: usize,
-) -> usize
-    requires { AtTop n d tables.now top choice slot (length agenda.old) × (RoomFor n d tables.now top choice 3 slot (length agenda.old) × ((several choice ≡ true) × FurtherOf top choice further)) }
-    ensures { Replaced n (pieces n (table_of n d tables.now) top (request_by top choice 3)) slot agenda.old agenda.new result }
-{
-    let out = further.out;
-    let sides = lanes::sides();
-    let mut at = slot;
-    for j in (0..n).rev() {
-        if out[j] != 0 {
-            agenda::write_slot(n, agenda, at, further_piece(further, &sides, j));
-            at += 1;
-        }
-    }
-    agenda::write_slot(n, agenda, at, precluded(top, choice));
-    at + 1
-}
-
-// Kind 2's pieces: V without its value in the place of the top, the precluded piece above.
-fn put_two(
-    top: Subproblem,
-    n: usize,
-    d: usize,
-    tables: &[u16],
-    agenda: &mut [u16],
-    choice: Choice,
-    slot: usize,
-) -> usize
-    requires { AtTop n d tables.now top choice slot (length agenda.old) × (RoomFor n d tables.now top choice 2 slot (length agenda.old) × (several choice ≡ true)) }
-    ensures { Replaced n (pieces n (table_of n d tables.now) top (request_by top choice 2)) slot agenda.old agenda.new result }
-{
-    agenda::write_slot(n, agenda, slot, rest(top, choice));
-    agenda::write_slot(n, agenda, slot + 1, precluded(top, choice));
-    slot + 2
-}
-
-// The pieces of the rule's request in the place of the top, which stood in slot `slot`: one at most, else kind 3's if they have room, else kind 2's
-// if these have, else none, and 12. The number of subproblems then.
-fn put(
-    top: Subproblem,
-    n: usize,
-    d: usize,
-    tables: &[u16],
-    agenda: &mut [u16],
-    choice: Choice,
-    slot: usize,
-) -> Result<usize, Refusal>
-    requires { AtTop n d tables.now top choice slot (length agenda.old) }
-    ensures { Puts n d tables.now top slot agenda.old agenda.new (left result) }
-{
-    if !is_several(choice) {
-        return Ok(settle(top, n, agenda, choice, slot));
-    }
-    let free = agenda.len() / (n + 2) - slot;
-    let further = further_of(top, choice);
-    let out = further.out;
-    if (at_once::filled(out) as usize) < free {
-        return Ok(spread(top, n, d, tables, agenda, choice, further, slot));
-    }
-    if free < 2 {
-        return Err(Refusal::Room);
-    }
-    Ok(put_two(top, n, d, tables, agenda, choice, slot))
-}
-
-// The checks so far with those of the step: the values of all variables but V.
-fn with_checks(top: Subproblem, choice: Choice, before: u64) -> u64
-    requires { (choice.values ≤ total 32 (λ j. size (domain top j))) × (before < 2 ^ 63) }
-    ensures { result ≡ before + (total 32 (λ j. size (domain top j)) - choice.values) }
-{
-    let domains = top.domains;
-    before + u64::from(at_once::values(domains) - choice.values)
 }
 
 // One step of the chooser by a search that runs and whose top is `top`: the state after it.
@@ -223,8 +210,14 @@ pub(crate) fn take_chosen(
         return Err(Refusal::Steps);
     }
     let choice = look(top, kept);
-    let checks = with_checks(top, choice, state.counts.checks.0);
-    let slot = state.subproblems - 1;
-    let subproblems = put(top, kept.n, kept.d, kept.tables, agenda, choice, slot)?;
+    let chosen = Chosen {
+        n: kept.n,
+        d: kept.d,
+        tables: kept.tables,
+        top,
+        choice,
+    };
+    let checks = chosen.with_checks(state.counts.checks.0);
+    let subproblems = chosen.put(agenda, state.subproblems - 1)?;
     Ok(step::taken(steps, checks, subproblems))
 }

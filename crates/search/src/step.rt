@@ -6,7 +6,7 @@ ghost use Rattle.splits.specs.Splits.{pieces, candidates};
 ghost use Rattle.splits.specs.Checks.{checks};
 ghost use Rattle.splits.specs.Calls.{readable};
 ghost use Rattle.problem.specs.Ranges.{Sized};
-ghost use Rattle.search.specs.Loops.Steps.{counted, taken_by, TellsEmpty, Placing, Placed, Taking, TakesOne, refusal_for};
+ghost use Rattle.search.specs.Loops.Steps.{counted, taken_by, TellsEmpty, RoomFrom, Placed, Taking, TakesOne, refusal_for};
 
 use crate::agenda;
 use crate::state::{Checks, Counts, State, Steps};
@@ -38,28 +38,88 @@ pub(crate) fn taken(steps: u32, checks: u64, subproblems: usize) -> State
     }
 }
 
-// How many pieces of a request are not empty.
-fn piece_count(top: Subproblem, n: usize, d: usize, tables: &[u16], request: &[u16]) -> usize
-    requires { readable n d tables.now request.now ≡ true }
-    ensures { result ≡ length (pieces n (table_of n d tables.now) top request.now) }
-{
-    let candidates = split::candidates(n, request);
-    let mut count = 0;
-    for k in 0..candidates {
-        let piece = split::piece(top, n, d, tables, request, k);
-        if !piece.is_empty(n) {
-            count += 1;
-        }
-    }
-    count
+// A request of a top, whose words fit.
+#[derive(Clone, Copy)]
+struct Asked<'a> {
+    top: Subproblem,
+    n: usize,
+    d: usize,
+    tables: &'a [u16],
+    request: &'a [u16],
+    ghost reads: { readable n d tables.now request.now ≡ true },
+    ghost whole: { length request.now ≡ n + 3 },
 }
 
-// Whether the pieces of a request exceed the free slots. They are counted only where the candidates of the kind do.
-fn exceed(top: Subproblem, n: usize, d: usize, tables: &[u16], request: &[u16], free: usize) -> bool
-    requires { readable n d tables.now request.now ≡ true }
-    ensures { result ≡ ltb free (length (pieces n (table_of n d tables.now) top request.now)) }
-{
-    free < split::candidates(n, request) && free < piece_count(top, n, d, tables, request)
+impl<'a> Asked<'a> {
+    // How many pieces are not empty.
+    fn piece_count(&self) -> usize
+        ensures { result ≡ length (pieces self.now.n (table_of self.now.n self.now.d self.now.tables.now) self.now.top self.now.request.now) }
+    {
+        let candidates = split::candidates(self.n, self.request);
+        let mut count = 0;
+        for k in 0..candidates {
+            let piece = split::piece(self.top, self.n, self.d, self.tables, self.request, k);
+            if !piece.is_empty(self.n) {
+                count += 1;
+            }
+        }
+        count
+    }
+
+    // Whether the pieces exceed the free slots. They are counted only where the candidates of the kind do.
+    fn exceed(&self, free: usize) -> bool
+        ensures { result ≡ ltb free (length (pieces self.now.n (table_of self.now.n self.now.d self.now.tables.now) self.now.top self.now.request.now)) }
+    {
+        free < split::candidates(self.n, self.request) && free < self.piece_count()
+    }
+
+    // Whether variable k - 1 keeps no value in its own further piece, the k-th of kind 3 or 5: such a piece is empty and need not be made.
+    fn keeps_none(&self, k: usize) -> bool
+        requires { k < candidates self.now.n self.now.request.now }
+        ensures { TellsEmpty self.now.n self.now.d self.now.tables.now self.now.top self.now.request.now k result }
+    {
+        if k == 0 {
+            return false;
+        }
+        let j = k - 1;
+        let top = self.top;
+        let request = self.request;
+        let domain = top.domain(j);
+        match Kind::try_from(request[0]) {
+            Ok(Kind::Idc) => {
+                let beside = tables::allowed(
+                    self.n,
+                    self.d,
+                    self.tables,
+                    request[1] as usize,
+                    j,
+                    request[2] as usize,
+                );
+                at_once::outside(domain, beside) == 0
+            }
+            Ok(Kind::Extraction) => at_once::outside(domain, request[3 + j]) == 0,
+            _ => false,
+        }
+    }
+
+    // The pieces written from slot `from` on, the last named lowest; the number of slots then used.
+    fn place(&self, agenda: &mut [u16], from: usize) -> usize
+        requires { RoomFrom self.now.n self.now.d self.now.tables.now self.now.top self.now.request.now from (length agenda.old) }
+        ensures { Placed self.now.n (pieces self.now.n (table_of self.now.n self.now.d self.now.tables.now) self.now.top self.now.request.now) from agenda.old agenda.new result }
+    {
+        let mut at = from;
+        let candidates = split::candidates(self.n, self.request);
+        for k in (0..candidates).rev() {
+            if !self.keeps_none(k) {
+                let piece = split::piece(self.top, self.n, self.d, self.tables, self.request, k);
+                if !piece.is_empty(self.n) {
+                    agenda::write_slot(self.n, agenda, at, piece);
+                    at += 1;
+                }
+            }
+        }
+        at
+    }
 }
 
 // The refusal of a request, in the order 11, 7 to 10, 12.
@@ -73,71 +133,24 @@ fn refusal_of(
     steps: u32,
     free: usize,
 ) -> Result<(), Refusal>
-    requires { Sized n d tables.now }
+    requires { Sized n d tables.now × (length request.now ≡ n + 3) }
     ensures { told result ≡ refusal_for n d tables.now top request.now steps free }
 {
     if steps == u32::MAX {
         return Err(Refusal::Steps);
     }
     refusal::refusal(top, n, d, request)?;
-    if exceed(top, n, d, tables, request, free) {
+    let asked = Asked {
+        top,
+        n,
+        d,
+        tables,
+        request,
+    };
+    if asked.exceed(free) {
         return Err(Refusal::Room);
     }
     Ok(())
-}
-
-// Whether variable k - 1 keeps no value in its own further piece, the k-th of kind 3 or 5: such a piece is empty and need not be made.
-fn keeps_none(
-    top: Subproblem,
-    n: usize,
-    d: usize,
-    tables: &[u16],
-    request: &[u16],
-    k: usize,
-) -> bool
-    requires { (readable n d tables.now request.now ≡ true) × ((length request.now ≡ n + 3) × (k < candidates n request.now)) }
-    ensures { TellsEmpty n d tables.now top request.now k result }
-{
-    if k == 0 {
-        return false;
-    }
-    let j = k - 1;
-    let domain = top.domain(j);
-    match Kind::try_from(request[0]) {
-        Ok(Kind::Idc) => {
-            let beside = tables::allowed(n, d, tables, request[1] as usize, j, request[2] as usize);
-            at_once::outside(domain, beside) == 0
-        }
-        Ok(Kind::Extraction) => at_once::outside(domain, request[3 + j]) == 0,
-        _ => false,
-    }
-}
-
-// The pieces written from slot `from` on, the last named lowest; the number of slots then used.
-fn place(
-    top: Subproblem,
-    n: usize,
-    d: usize,
-    tables: &[u16],
-    agenda: &mut [u16],
-    request: &[u16],
-    from: usize,
-) -> usize
-    requires { Placing n d tables.now top request.now from (length agenda.old) }
-    ensures { Placed n (pieces n (table_of n d tables.now) top request.now) from agenda.old agenda.new result }
-{
-    let mut at = from;
-    let candidates = split::candidates(n, request);
-    for k in (0..candidates).rev() {
-        if !keeps_none(top, n, d, tables, request, k) {
-            let piece = split::piece(top, n, d, tables, request, k);
-            if !piece.is_empty(n) {
-                agenda::write_slot(n, agenda, at, piece);
-                at += 1;
-            }
-        }
-    }
-    at
 }
 
 // One request taken by a search that runs and whose top is `top`: the state after it. Refused, the state is what it was.
@@ -160,6 +173,13 @@ pub(crate) fn take(
     let made = checks::checks(top, n, d, tables, request);
     let checks = state.counts.checks.0 + (made as u64);
     agenda::clear_slot(n, agenda, slot);
-    let subproblems = place(top, n, d, tables, agenda, request, slot);
+    let asked = Asked {
+        top,
+        n,
+        d,
+        tables,
+        request,
+    };
+    let subproblems = asked.place(agenda, slot);
     Ok(taken(steps, checks, subproblems))
 }

@@ -2,14 +2,14 @@
 -- Assumes nothing.
 use mathlib.Core.Path.{◌≡◌, refl, sym, ap, ◌∙◌, subst}
 use mathlib.Core.Logic.{◌⊎◌, inl, inr, ⊎_elim}
-use mathlib.Core.Bool.{Bool, true, false, not, cond, ◌||◌}
+use mathlib.Core.Bool.{Bool, true, false, cond, ◌||◌}
 use mathlib.Core.List.{List, [], ◌∷◌}
 use Prim.Native.Nat.{ℕ, ◌+◌, ◌-◌, ◌*◌, ◌%◌, ◌/◌, ◌^◌, ◌≤◌, ◌<◌}
 use native.Mathlib.Omega.{arith}
 use lib.ListN.{length, get_or, replicate, length-replicate}
 use lib.Bits.{bit_or}
 use lib.Dec.{eqb, ltb}
-use borrow.Author.Tests.{eq-eqb, ne_eqb, eqb-true, eqb-false, not-true, not-false}
+use borrow.Author.Tests.{eq-eqb, ne_eqb, eqb-true, eqb-false}
 use Rattle.problem.specs.Masks.{◌∈◌, single, size, lowest}
 use Rattle.problem.specs.Problem.{table_of}
 use Rattle.problem.specs.Lists.{total, splice}
@@ -34,7 +34,7 @@ use Rattle.search.specs.Loops.Choices.{kind_for, chosen_for}
 use Rattle.search.specs.Loops.Steps.{Replaced, Taking, refusal_for}
 use Rattle.search.specs.Loops.Lanes.{Beyond, LeastKey}
 use Rattle.splits.specs.AtOnce.{loses}
-use Rattle.search.specs.Loops.Found.{Found, AtTop, Puts, request_by, left_by, several, TakesChosen, value_in}
+use Rattle.search.specs.Loops.Found.{Found, OfTop, Puts, request_by, left_by, several, TakesChosen, value_in}
 use Rattle.search.specs.declared.state.State.{State}
 use Rattle.search.specs.declared.chooser.Choice.{Choice}
 use Rattle.search.specs.Loops.Found.{Left}
@@ -70,29 +70,29 @@ module _ (n : ℕ) (P : Subproblem) (c : Choice) (before after : List ℕ) (belo
   replaced_none e = record { count = omega arith; words = e ∙ splice_none _ (below * (n + 2)) }
 
   -- What is left, case by case.
-  left_kept : not c.lost ≡ true → left_by P c ≡ precluded_by P c.variable c.row ∷ []
+  left_kept : c.lost ≡ false → left_by P c ≡ precluded_by P c.variable c.row ∷ []
   unfolding left_by
-  left_kept b = rw (not-true c.lost b) refl
+  left_kept b = rw b refl
 
-  left_none : not c.lost ≡ false → c.values ≡ 1 → left_by P c ≡ []
+  left_none : c.lost ≡ true → c.values ≡ 1 → left_by P c ≡ []
   unfolding left_by
-  left_none b k = rw (not-false c.lost b, eq-eqb c.values 1 k) refl
+  left_none b k = rw (b, eq-eqb c.values 1 k) refl
 
-  left_rest : not c.lost ≡ false → (c.values ≡ 1 → ⊥) → left_by P c ≡ without P c.variable (get_or c.row c.variable 0) ∷ []
+  left_rest : c.lost ≡ true → (c.values ≡ 1 → ⊥) → left_by P c ≡ without P c.variable (get_or c.row c.variable 0) ∷ []
   unfolding left_by
-  left_rest b k = rw (not-false c.lost b, ne_eqb c.values 1 k) refl
+  left_rest b k = rw (b, ne_eqb c.values 1 k) refl
 
-  pub settle_kept : not c.lost ≡ true → (Q : Subproblem) → Q ≡ precluded_by P c.variable c.row → length Q.domains ≡ 32
+  pub settle_kept : c.lost ≡ false → (Q : Subproblem) → Q ≡ precluded_by P c.variable c.row → length Q.domains ≡ 32
       → after ≡ splice before (below * (n + 2)) (slot_words n Q) → Replaced n (left_by P c) below before after (below + 1)
   settle_kept b Q e long w =
       subst (λ (l : List Subproblem). Replaced n l below before after (below + 1)) (ap (λ (R : Subproblem). R ∷ []) e ∙ sym (left_kept b))
       (replaced_one Q long w)
 
-  pub settle_none : not c.lost ≡ false → c.values ≡ 1 → after ≡ splice before (below * (n + 2)) (replicate (n + 2) 0)
+  pub settle_none : c.lost ≡ true → c.values ≡ 1 → after ≡ splice before (below * (n + 2)) (replicate (n + 2) 0)
       → Replaced n (left_by P c) below before after below
   settle_none b k w = subst (λ (l : List Subproblem). Replaced n l below before after below) (sym (left_none b k)) (replaced_none w)
 
-  pub settle_rest : not c.lost ≡ false → (c.values ≡ 1 → ⊥) → (Q : Subproblem) → Q ≡ without P c.variable (get_or c.row c.variable 0)
+  pub settle_rest : c.lost ≡ true → (c.values ≡ 1 → ⊥) → (Q : Subproblem) → Q ≡ without P c.variable (get_or c.row c.variable 0)
       → length Q.domains ≡ 32 → after ≡ splice before (below * (n + 2)) (slot_words n Q) → Replaced n (left_by P c) below before after (below + 1)
   settle_rest b k Q e long w =
       subst (λ (l : List Subproblem). Replaced n l below before after (below + 1)) (ap (λ (R : Subproblem). R ∷ []) e ∙ sym (left_rest b k))
@@ -232,6 +232,18 @@ module _ (n d : ℕ) (t : List ℕ) (P : Subproblem) (fit : Sized n d t) (reg : 
     unfolding chosen_for kind_for kind_by
     chosen_by free = rw (← h.variable, ← h.lost) refl
 
+-- A top P that runs stands in a slot, with what is found of it.
+pub record AtTop (n d : ℕ) (tables : List ℕ) (P : Subproblem) (c : Choice) (below words : ℕ) : Type 0 where
+  pub fitting : Sized n d tables
+  pub regular : Regular n d P
+  pub runs : all_instantiated n P ≡ false
+  pub found : Found n d tables P c
+  pub slot : SlotIn n below words
+
+pub at_top : (n d : ℕ) (tables : List ℕ) (P : Subproblem) (c : Choice) (below words : ℕ) → OfTop n d tables P c → SlotIn n below words
+    → AtTop n d tables P c below words
+at_top n d tables P c below words h slot = record { fitting = h.fitting; regular = h.regular; runs = h.runs; found = h.found; slot = slot }
+
 -- ---- the step
 
 module _ (n d : ℕ) (t agenda : List ℕ) (P : Subproblem) (s : State) (h : Taking n d t agenda P s) where
@@ -253,9 +265,16 @@ module _ (n d : ℕ) (t agenda : List ℕ) (P : Subproblem) (s : State) (h : Tak
       (slots_in n (length agenda) - (s.subproblems - 1)) e)
       (λ z. omega arith)
 
-  -- It stands there, with what is found of it.
-  pub taking_top : (c : Choice) → Found n d t P c → AtTop n d t P c (s.subproblems - 1) (length agenda)
-  taking_top c f = record { fitting = h.ready.fitting; regular = taking_regular; runs = h.runs; found = f; slot = taking_slot }
+  -- That is the top, with what is found of it.
+  pub taking_top : (c : Choice) → Found n d t P c → OfTop n d t P c
+  taking_top c f = record {
+    fitting = h.ready.fitting;
+    regular = taking_regular;
+    runs = h.runs;
+    found = f;
+    variable = variable_is n d t P h.ready.fitting taking_regular h.runs c f;
+    values = (counted n d t P h.ready.fitting taking_regular h.runs c f).0;
+  }
 
   module _ (c : Choice) (f : Found n d t P c) (go_on : s.counts.steps.0 ≡ 4294967295 → ⊥) (after : List ℕ) (l : Left)
       (put : Puts n d t P (s.subproblems - 1) agenda after l) where

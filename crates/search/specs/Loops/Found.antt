@@ -1,9 +1,10 @@
 -- A step of the chooser: what it finds of a top subproblem, the pieces as the code makes them of that, and where they are put.
-use Rattle.std.specs.Prelude.{Result, Ok, Err, ◌≡◌, Bool, true, false, cond, List, [], ◌∷◌, ℕ, ◌+◌, ◌-◌, ◌*◌, ◌≤◌, length, get_or, set, eqb, ltb}
+use Rattle.std.specs.Prelude.{Result, Ok, Err, ◌≡◌, Bool, true, false, cond, List, [], ◌∷◌, ℕ, ◌+◌, ◌-◌, ◌*◌, ◌≤◌, ◌<◌, length, get_or, set, eqb, ltb}
 use Rattle.problem.specs.declared.refusal.Refusal.{Refusal}
 use Rattle.problem.specs.Refused.{number_of}
 use Rattle.problem.specs.Masks.{size, lowest}
 use Rattle.problem.specs.Problem.{table_of}
+use Rattle.problem.specs.Lists.{total}
 use Rattle.splits.specs.Subproblems.{domain, empty, all_instantiated}
 use Rattle.splits.specs.Splits.{precluded, without, pieces, cut_each, precluded_by}
 use Rattle.problem.specs.Beside.{RowOf}
@@ -11,7 +12,6 @@ use Rattle.splits.specs.declared.subproblem.Subproblem.{Subproblem}
 use Rattle.problem.specs.Ranges.{Sized}
 use Rattle.search.specs.Agenda.{slots_in}
 use Rattle.searches.specs.Chooser.{fewest, request}
-use Rattle.search.specs.Loops.Slots.{SlotIn}
 use Rattle.search.specs.Loops.Kept.{Regular}
 use Rattle.search.specs.Loops.Choices.{chosen_for}
 use Rattle.search.specs.Loops.Steps.{TakesOne, Replaced, Stop}
@@ -45,15 +45,16 @@ several c = cond c.lost false (cond (eqb c.values 1) false true)
 abbrev pub request_by : Subproblem → Choice → ℕ → List ℕ
 request_by P c kind = request kind c.variable (value_in P c)
 
--- A top P that runs stands in a slot, with what is found of it.
-pub record AtTop (n d : ℕ) (tables : List ℕ) (P : Subproblem) (c : Choice) (below words : ℕ) : Type 0 where
+-- A top P that runs, with what is found of it: V is one of the n, and has no more values than all together.
+pub record OfTop (n d : ℕ) (tables : List ℕ) (P : Subproblem) (c : Choice) : Type 0 where
   pub fitting : Sized n d tables
   pub regular : Regular n d P
   pub runs : all_instantiated n P ≡ false
   pub found : Found n d tables P c
-  pub slot : SlotIn n below words
+  pub variable : c.variable < n
+  pub values : c.values ≤ total 32 (λ j. size (domain P j))
 
--- The slots from there on hold the pieces of a kind.
+-- The slots from one on hold the pieces of a kind.
 abbrev pub RoomFor : ℕ → ℕ → List ℕ → Subproblem → Choice → ℕ → ℕ → ℕ → Type 0
 RoomFor n d tables P c kind below words = (below + length (pieces n (table_of n d tables) P (request_by P c kind))) * (n + 2) ≤ words
 

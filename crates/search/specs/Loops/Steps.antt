@@ -8,7 +8,6 @@ use Rattle.problem.specs.Problem.{table_of, problem_of}
 use Rattle.splits.specs.Subproblems.{all_instantiated, empty}
 use Rattle.splits.specs.Splits.{pieces, candidate}
 use Rattle.splits.specs.Tests.Refusals.{refusal_of}
-use Rattle.splits.specs.Calls.{readable}
 use Rattle.splits.specs.declared.subproblem.Subproblem.{Subproblem}
 use Rattle.search.specs.Agenda.{subproblem_of, slot_at, stack_words, slots_in}
 use Rattle.search.specs.Outcomes.{told_by}
@@ -48,11 +47,9 @@ went_on (Err refusal) = Break (Some refusal)
 abbrev pub counted : ℕ → ℕ → ℕ → State
 counted steps checks subproblems = record { counts = record { steps = record { 0 = steps }; checks = record { 0 = checks } }; subproblems = subproblems }
 
--- A request whose words fit, of a top P, is to be placed from a slot on, and there is room.
-pub record Placing (n d : ℕ) (tables : List ℕ) (P : Subproblem) (r : List ℕ) (from words : ℕ) : Type 0 where
-  pub reads : readable n d tables r ≡ true
-  pub whole : length r ≡ n + 3
-  pub room : (from + length (pieces n (table_of n d tables) P r)) * (n + 2) ≤ words
+-- The slots from one on hold the pieces of a request.
+abbrev pub RoomFrom : ℕ → ℕ → List ℕ → Subproblem → List ℕ → ℕ → ℕ → Type 0
+RoomFrom n d tables P r from words = (from + length (pieces n (table_of n d tables) P r)) * (n + 2) ≤ words
 
 -- A test that is passed only by a candidate that is empty.
 abbrev pub TellsEmpty : ℕ → ℕ → List ℕ → Subproblem → List ℕ → ℕ → Bool → Type 0

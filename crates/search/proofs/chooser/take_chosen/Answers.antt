@@ -2,7 +2,7 @@
 use mathlib.Core.Path.{refl, ◌∙◌}
 use native.Mathlib.Omega.{arith}
 use Rattle.problem.proofs.Refused.{never_0, handed_err}
-use Rattle.search.proofs.chooser.Settling.{taking_regular, taking_top, counted, chosen_refused, chosen_full, chosen_steps, chosen_taken}
+use Rattle.search.proofs.chooser.Settling.{taking_regular, taking_top, taking_slot, chosen_refused, chosen_full, chosen_steps, chosen_taken}
 use Rattle.search.proofs.chooser.take_chosen.Goals as goal
 
 pub returns-then-steps : goal.returns-then-steps
@@ -14,17 +14,18 @@ returns-then-steps c = (
 pub look-choice-requires : goal.look-choice-requires
 look-choice-requires c = let k = c.requires in (taking_regular _ _ _ _ _ _ k, k.runs)
 
+pub invariant_of-chosen : goal.invariant_of-chosen
+invariant_of-chosen c =
+    let e = c.kept.view_is ∙ c.look-choice.ensures.1 in
+    record { of_top = rw (← e) at (taking_top _ _ _ _ _ _ c.requires _ c.look-choice.ensures.0) }
+
 pub with_checks-checks-requires : goal.with_checks-checks-requires
-with_checks-checks-requires c =
-    let k = c.requires in (
-      (counted _ _ _ _ k.ready.fitting (taking_regular _ _ _ _ _ _ k) k.runs _ c.look-choice.ensures.0).0,
-      omega (arith, k.ready.counted, k.ready.stepped),
-    )
+with_checks-checks-requires c = let k = c.requires.ready in omega (arith, k.counted, k.stepped)
 
 pub put-requires : goal.put-requires
 put-requires c =
     let e = c.kept.view_is ∙ c.look-choice.ensures.1 in
-    rw (← e) at (taking_top _ _ _ _ _ _ c.requires _ c.look-choice.ensures.0)
+    rw (← e) at (taking_slot _ _ _ _ _ _ c.requires)
 
 pub returns-in_err-subproblems : goal.returns-in_err-subproblems
 returns-in_err-subproblems c =

@@ -9,8 +9,8 @@ returns-in_err-refusal c =
     refused_by_top _ _ _ _ _ _ _ c.if-steps-eq4294967295.false _ (handed _ _ c.from_residual.ensures.1 ∙ c.in_err-refusal.ensures)
     (handed_never _ _ c.from_residual.ensures.1)
 
-pub exceed-requires : goal.exceed-requires
-exceed-requires c = accepted_reads _ _ c.args.top _ (sym c.in_ok-refusal.ensures) _ c.requires
+pub invariant_of-asked : goal.invariant_of-asked
+invariant_of-asked c = record { reads = accepted_reads _ _ c.args.top _ (sym c.in_ok-refusal.ensures) _ c.requires.0; whole = c.requires.1 }
 
 pub returns-then-exceed : goal.returns-then-exceed
 returns-then-exceed c =

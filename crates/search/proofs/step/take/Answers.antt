@@ -16,7 +16,7 @@ overflow_sub-free c =
     below_slots _ _ a.tables.now _ a.top a.request.now _ c.requires.0
 
 pub refusal_of-requires : goal.refusal_of-requires
-refusal_of-requires c = c.requires.0.ready.fitting
+refusal_of-requires c = (c.requires.0.ready.fitting, c.requires.1)
 
 pub returns-in_err-refusal_of : goal.returns-in_err-refusal_of
 returns-in_err-refusal_of c =
@@ -41,17 +41,21 @@ clear_slot-requires c =
           c.in_ok-refusal_of.ensures refl;
     }
 
+pub invariant_of-asked : goal.invariant_of-asked
+invariant_of-asked c =
+    let a = c.args in
+    record {
+      reads = take_reads _ _ _ a.agenda.now a.top _ a.state c.requires.0 _
+          c.in_ok-refusal_of.ensures refl;
+      whole = c.requires.1;
+    }
+
 pub place-subproblems-requires : goal.place-subproblems-requires
 place-subproblems-requires c =
     let a = c.args in
     let room = take_room _ _ _ a.agenda.now a.top _ a.state c.requires.0 _
     c.in_ok-refusal_of.ensures refl in
-    record {
-      reads = take_reads _ _ _ a.agenda.now a.top _ a.state c.requires.0 _
-          c.in_ok-refusal_of.ensures refl;
-      whole = c.requires.1;
-      room = search rules;
-    }
+    search rules
 
 pub taken-requires : goal.taken-requires
 taken-requires c =

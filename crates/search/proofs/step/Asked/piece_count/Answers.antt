@@ -1,4 +1,4 @@
--- `search::step::piece_count` meets its contract. The invariant: the count is of the first k candidates.
+-- `Asked::piece_count` meets its contract. The invariant: the count is of the first k candidates.
 use mathlib.Core.Path.{◌≡◌, ap, ◌∙◌}
 use mathlib.Core.Bool.{not}
 use native.Mathlib.Omega.{arith}
@@ -6,8 +6,8 @@ use lib.ListN.{length}
 use Rattle.search.proofs.step.Candidates.{firsts}
 use Rattle.search.proofs.step.Gathering.{count_more, count_same, count_end}
 use borrow.Author.Rules.{rules}
-use Rattle.search.proofs.step.piece_count.Goals.{then-not-is_empty, else-not-is_empty}
-use Rattle.search.proofs.step.piece_count.Goals as goal
+use Rattle.search.proofs.step.Asked.piece_count.Goals.{then-not-is_empty, else-not-is_empty}
+use Rattle.search.proofs.step.Asked.piece_count.Goals as goal
 
 pub loop-k-init : goal.loop-k-init
 unfolding firsts
@@ -16,7 +16,7 @@ loop-k-init c = (omega arith, omega arith)
 pub loop-k-preserved : goal.loop-k-preserved
 loop-k-preserved c =
     let inv = c.loop-k.invariant in
-    let pre = c.requires in
+    let pre = c.args.self.now.reads in
     let named = c.candidates-candidates.ensures in
     let more = c.loop-k-test.true in
     let piece = c.piece-piece.ensures in
@@ -35,5 +35,5 @@ loop-k-preserved c =
 pub returns : goal.returns
 returns c =
     let inv = c.loop-k.invariant in
-    let long : length c.args.top.domains ≡ 32 = search rules in
-    count_end _ _ _ _ _ c.requires _ _ _ long c.candidates-candidates.ensures c.loop-k.auto.k-end c.loop-k-test.false inv.1
+    let long : length c.args.self.now.top.domains ≡ 32 = search rules in
+    count_end _ _ _ _ _ c.args.self.now.reads _ _ _ long c.candidates-candidates.ensures c.loop-k.auto.k-end c.loop-k-test.false inv.1
