@@ -52,7 +52,7 @@ impl Filled<'_> {
         ensures { block.new ≡ file_bytes (block_words self.entry.blocks self.entry.words.now b) }
     {
         self.put_head(b, block);
-        let check = checksum::check(block);
+        let check = checksum::check(block.as_array().unwrap());
         put_word(block, 255, check);
     }
 

@@ -7,5 +7,6 @@ pub returns : goal.returns
 returns c =
     let long = c.requires.1 in
     let head = c.put_head.ensures in
-    let check = check_written _ _ _ _ _ _ head c.check-check.ensures in
+    let same = (rw c.unwrap.ensures at c.as_array.ensures.cases).same in
+    let check = check_written _ _ _ _ _ _ head (rw same at c.check-check.ensures) in
     block_end _ _ _ _ _ (block_more _ _ _ _ _ _ _ _ head check (omega arith) long c.put_word.ensures) long
