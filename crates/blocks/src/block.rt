@@ -25,17 +25,16 @@ pub(crate) fn word(file: &[u8], k: usize) -> u16
 }
 
 // Block `b` of a file, from 0.
-pub(crate) fn block_at(file: &[u8], b: usize) -> &[u8]
+pub(crate) fn block_at(file: &[u8], b: usize) -> &[u8; BYTES]
     requires { b * 512 + 512 ≤ length file.now }
-    ensures { (result.now ≡ block_of file.now b) × (length result.now ≡ 512) }
+    ensures { result.now ≡ block_of file.now b }
 {
     let at = b * BYTES;
-    &file[at..at + BYTES]
+    file[at..at + BYTES].as_array().unwrap()
 }
 
 // The words of one block, by a loop that takes eight at a time.
-pub(crate) fn words_of(block: &[u8]) -> [u16; 256]
-    requires { length block.now ≡ 512 }
+pub(crate) fn words_of(block: &[u8; BYTES]) -> [u16; 256]
     ensures { result ≡ map (block_word block.now 0) (below 256) }
 {
     let mut words = [0u16; 256];
@@ -46,8 +45,8 @@ pub(crate) fn words_of(block: &[u8]) -> [u16; 256]
 }
 
 // The words of one block's content.
-pub(crate) fn put_content(block: &[u8], words: &mut [u16])
-    requires { (length block.now ≡ 512) × (length words.old ≡ 253) }
+pub(crate) fn put_content(block: &[u8; BYTES], words: &mut [u16])
+    requires { length words.old ≡ 253 }
     ensures { words.new ≡ content_from block.now 0 253 }
 {
     words.copy_from_slice(&words_of(block)[2..2 + CONTENT]);

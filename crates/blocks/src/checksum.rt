@@ -1,16 +1,15 @@
 // The check of a block: the ones' complement checksum of RFC 1071 over the 255 words before it.
-ghost use Rattle.std.specs.Prelude.{◌≡◌, ◌+◌, ◌-◌, ◌/◌, ◌%◌, length};
+ghost use Rattle.std.specs.Prelude.{◌≡◌, ◌+◌, ◌-◌, ◌/◌, ◌%◌};
 ghost use Rattle.problem.specs.Lists.{total};
 ghost use Rattle.blocks.specs.Blocks.{check_of};
 ghost use Rattle.blocks.specs.Reading.{block_word, head_of};
 ghost use Rattle.blocks.specs.Calls.{CheckOf};
 ghost use Rattle.blocks.specs.Loops.Read.{value_at, folded_twice};
 
-use crate::block;
+use crate::{BYTES, block};
 
 // The sum of the words of a block before its check.
-fn sum(words: &[u16]) -> u32
-    requires { length words.now ≡ 256 }
+fn sum(words: &[u16; 256]) -> u32
     ensures { result ≡ total 255 (value_at words.now) }
 {
     let mut sum = 0;
@@ -35,8 +34,7 @@ fn closed(sum: u32) -> u16
 }
 
 // The check that a block is to have.
-pub(crate) fn check(block: &[u8]) -> u16
-    requires { length block.now ≡ 512 }
+pub(crate) fn check(block: &[u8; BYTES]) -> u16
     ensures { result ≡ check_of (head_of block.now 0) }
 {
     closed(sum(&block::words_of(block)))

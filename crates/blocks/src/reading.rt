@@ -11,8 +11,7 @@ use crate::{BYTES, CONTENT, MOST, block, checksum};
 use problem::refusal::Refusal;
 
 // Whether a block has its number, that of blocks and its check.
-fn is_good(block: &[u8], number: usize, blocks: usize) -> bool
-    requires { length block.now ≡ 512 }
+fn is_good(block: &[u8; BYTES], number: usize, blocks: usize) -> bool
     ensures { result ≡ good_in block.now number blocks }
 {
     usize::from(block::word(block, 0)) == number

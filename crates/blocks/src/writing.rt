@@ -14,46 +14,57 @@ fn put_word(block: &mut [u8], k: usize, word: u16)
     block[2 * k..2 * k + 2].copy_from_slice(&word.to_be_bytes());
 }
 
-// Word `k` of block `b` before its check: its number from 1, the number of blocks, its content.
-fn head_word(words: &[u16], blocks: usize, b: usize, k: usize) -> u16
-    requires { (blocks * 253 ≤ length words.now) × ((blocks ≤ 101) × ((b < blocks) × (k < 255))) }
-    ensures { result ≡ get_or (headed_block blocks words.now b) k 0 }
-{
-    match k {
-        0 => (b + 1) as u16,
-        1 => blocks as u16,
-        _ => words[b * CONTENT + (k - 2)],
+// The words of a content, which fill so many blocks.
+#[derive(Clone, Copy)]
+struct Filled<'a> {
+    words: &'a [u16],
+    blocks: usize,
+    ghost whole: { blocks * 253 ≤ length words.now },
+    ghost few: { blocks ≤ 101 },
+}
+
+impl Filled<'_> {
+    // Word `k` of block `b` before its check: its number from 1, the number of blocks, its content.
+    fn head_word(self, b: usize, k: usize) -> u16
+        requires { (b < self.blocks) × (k < 255) }
+        ensures { result ≡ get_or (headed_block self.entry.blocks self.entry.words.now b) k 0 }
+    {
+        match k {
+            0 => (b + 1) as u16,
+            1 => self.blocks as u16,
+            _ => self.words[b * CONTENT + (k - 2)],
+        }
     }
-}
 
-// The words of block `b` before its check.
-fn put_head(words: &[u16], blocks: usize, b: usize, block: &mut [u8])
-    requires { (blocks * 253 ≤ length words.now) × ((blocks ≤ 101) × ((b < blocks) × (length block.old ≡ 512))) }
-    ensures { block.new ≡ block_part blocks words.now b 255 block.old }
-{
-    for k in 0..255 {
-        put_word(block, k, head_word(words, blocks, b, k));
+    // The words of block `b` before its check.
+    fn put_head(self, b: usize, block: &mut [u8])
+        requires { (b < self.blocks) × (length block.old ≡ 512) }
+        ensures { block.new ≡ block_part self.entry.blocks self.entry.words.now b 255 block.old }
+    {
+        for k in 0..255 {
+            put_word(block, k, self.head_word(b, k));
+        }
     }
-}
 
-// Block `b`, with its check.
-fn put_block(words: &[u16], blocks: usize, b: usize, block: &mut [u8])
-    requires { (blocks * 253 ≤ length words.now) × ((blocks ≤ 101) × ((b < blocks) × (length block.old ≡ 512))) }
-    ensures { block.new ≡ file_bytes (block_words blocks words.now b) }
-{
-    put_head(words, blocks, b, block);
-    let check = checksum::check(block);
-    put_word(block, 255, check);
-}
+    // Block `b`, with its check.
+    fn put_block(self, b: usize, block: &mut [u8])
+        requires { (b < self.blocks) × (length block.old ≡ 512) }
+        ensures { block.new ≡ file_bytes (block_words self.entry.blocks self.entry.words.now b) }
+    {
+        self.put_head(b, block);
+        let check = checksum::check(block.as_array().unwrap());
+        put_word(block, 255, check);
+    }
 
-// The blocks of a content, one after the other.
-fn put_each(words: &[u16], blocks: usize, file: &mut [u8])
-    requires { (blocks * 253 ≤ length words.now) × ((blocks ≤ 101) × (512 * blocks ≤ length file.old)) }
-    ensures { file.new ≡ file_part blocks words.now blocks file.old }
-{
-    for b in 0..blocks {
-        let at = BYTES * b;
-        put_block(words, blocks, b, &mut file[at..at + BYTES]);
+    // The blocks, one after the other.
+    fn put_each(self, file: &mut [u8])
+        requires { 512 * self.blocks ≤ length file.old }
+        ensures { file.new ≡ file_part self.entry.blocks self.entry.words.now self.entry.blocks file.old }
+    {
+        for b in 0..self.blocks {
+            let at = BYTES * b;
+            self.put_block(b, &mut file[at..at + BYTES]);
+        }
     }
 }
 
@@ -72,5 +83,9 @@ pub fn put_blocks(content: &[u16], file: &mut [u8])
     if file.len() < BYTES * blocks {
         return;
     }
-    put_each(content, blocks, file);
+    let filled = Filled {
+        words: content,
+        blocks,
+    };
+    filled.put_each(file);
 }

@@ -6,7 +6,7 @@ use Prim.Native.Nat.{ℕ, ◌+◌, ◌-◌, ◌*◌, ◌/◌, ◌%◌, ◌≤◌
 use native.Mathlib.Omega.{arith}
 use native.Mathlib.Nat.{zero-add}
 use lib.ListN.{length, get_or, take, drop, length-take, length-drop, get_or-eq_default}
-use lib.Seq.{length-take-le, get_or-take, get_or-drop}
+use lib.Seq.{get_or-take, get_or-drop}
 use Rattle.problem.specs.Lists.{total, below}
 use Rattle.blocks.specs.Blocks.{word_at, check_of}
 use Rattle.blocks.specs.Reading.{block_word, head_of, content_word, content_from}
@@ -89,8 +89,3 @@ check_made file b t y z s e f g =
 pub block_cut : (file out : List ℕ) (b : ℕ) → out ≡ take ((b * 512 + 512) - b * 512) (drop (b * 512) file) → out ≡ block_of file b
 unfolding block_of
 block_cut file out b e = e
-
--- It has 512 bytes.
-pub block_long : (file : List ℕ) (b : ℕ) → b * 512 + 512 ≤ length file → length (take ((b * 512 + 512) - b * 512) (drop (b * 512) file)) ≡ 512
-block_long file b h =
-    length-take-le ((b * 512 + 512) - b * 512) (drop (b * 512) file) (omega (arith, length-drop (b * 512) file)) ∙ omega arith

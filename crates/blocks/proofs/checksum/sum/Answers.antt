@@ -19,13 +19,13 @@ pub overflow_add-sum : goal.overflow_add-sum
 overflow_add-sum c =
     let long = length-take-le 255 c.args.words.now (omega arith) in
     let word = c.from-sum.ensures ∙ get_or-take 255 c.args.words.now c.loop-word.word-index 0 (omega arith) in
-    omega (arith, c.type_inv.words c.loop-word.word-index)
+    omega (arith, c.fits-words c.loop-word.word-index)
 
 pub loop-word-preserved : goal.loop-word-preserved
 loop-word-preserved c =
     let long = length-take-le 255 c.args.words.now (omega arith) in
     let word = c.from-sum.ensures ∙ get_or-take 255 c.args.words.now c.loop-word.word-index 0 (omega arith) in
-    (total_turn _ _ _ _ c.loop-word.invariant.0 (value_of _ _ _ word), omega (arith, c.type_inv.words c.loop-word.word-index))
+    (total_turn _ _ _ _ c.loop-word.invariant.0 (value_of _ _ _ word), omega (arith, c.fits-words c.loop-word.word-index))
 
 pub returns : goal.returns
 returns c = total_end _ _ _ _ c.loop-word.invariant.0 (omega (arith, length-take-le 255 c.args.words.now (omega arith)))

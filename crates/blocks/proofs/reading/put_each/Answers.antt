@@ -11,4 +11,4 @@ loop-b-init c = content_none _ _
 pub loop-b-preserved : goal.loop-b-preserved
 loop-b-preserved c =
     let within : c.loop-b.b * 253 + 253 ≤ length c.args.words.now = omega arith in
-    content_more _ _ _ _ _ _ c.loop-b.invariant c.block_at.ensures.0 c.put_content.ensures within
+    content_more _ _ _ _ _ _ c.loop-b.invariant c.block_at.ensures c.put_content.ensures within

@@ -1,9 +1,9 @@
--- `writing::put_each` meets its contract. The invariant: the blocks passed are written.
+-- `writing::Filled::put_each` meets its contract. The invariant: the blocks passed are written.
 use Prim.Native.Nat.{◌+◌, ◌*◌, ◌≤◌}
 use native.Mathlib.Omega.{arith}
 use lib.ListN.{length}
 use Rattle.blocks.proofs.writing.Written.{file_none, file_more}
-use Rattle.blocks.proofs.writing.put_each.Goals as goal
+use Rattle.blocks.proofs.writing.Filled.put_each.Goals as goal
 
 pub loop-b-init : goal.loop-b-init
 loop-b-init c = file_none _ _ _

@@ -1,7 +1,0 @@
--- `writing::put_each` meets its contract. The invariant: the blocks passed are written.
-use mathlib.Core.Path.{◌≡◌}
-use Rattle.blocks.specs.Loops.Written.{file_part}
-use Rattle.blocks.proofs.writing.put_each.Given as goal
-
-abbrev pub invariant-loop-b : goal.invariant-loop-b
-invariant-loop-b l = l.file ≡ file_part l.blocks l.words l.b l.initial.file
