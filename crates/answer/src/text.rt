@@ -9,7 +9,7 @@ use problem::mask;
 use problem::refusal::Refusal;
 use searches::verdict::Verdict;
 
-// So many bytes of text, zeros after it.
+// So many bytes of text, zeros after it: the memory is fixed.
 #[derive(Clone, Copy)]
 pub struct Text {
     pub bytes: [u8; 512],
@@ -58,7 +58,7 @@ impl Text {
         text
     }
 
-    // A number more, in decimal.
+    // A number more, in decimal; by hand, since `fmt::Write` does not say that a write succeeds, and an answer cannot fail.
     fn with_number(self, number: u64) -> Text
         ensures { Adds self (decimal number) result }
     {

@@ -1,4 +1,5 @@
-// The planner for C: the five calls on numbers and byte slices, over the covered calls on words. The crate console_c exports them.
+// The planner for C: the five calls on numbers and byte slices, over the covered calls on words. The crate console_c exports them. Each returns the number
+// of its refusal, 0 for none, as C has no enum of ours.
 #![tactic(auto)]
 
 mod calls;

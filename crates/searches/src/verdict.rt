@@ -2,7 +2,7 @@
 ghost use Rattle.std.specs.Prelude.{◌≡◌};
 ghost use Rattle.searches.specs.Verdicts.{number_of};
 
-// None: refused by the first checks.
+// None: refused by the first checks; a verdict that the rules name and number, and no missing value.
 #[derive(Clone, Copy, PartialEq, Eq)]
 pub enum Verdict {
     None = 0,

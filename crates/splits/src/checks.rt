@@ -11,7 +11,8 @@ use crate::subproblem::Subproblem;
 use crate::words;
 use problem::{mask, tables};
 
-// How many instantiated variables kind 1 looked at, and whether the last of them forbids the value.
+// How many instantiated variables kind 1 looked at, and whether the last of them forbids the value. Both are told either way, so that neither an Option
+// nor a Result would say it plainer.
 #[derive(Clone, Copy)]
 pub(crate) struct Looked {
     pub(crate) count: usize,
