@@ -1,5 +1,5 @@
 // The check of a block: the ones' complement checksum of RFC 1071 over the 255 words before it.
-ghost use Rattle.std.specs.Prelude.{◌≡◌, ◌+◌, ◌-◌, ◌/◌, ◌%◌};
+ghost use Rattle.std.specs.Prelude.{◌++◌, min, length, take, replicate, ◌≡◌, ◌+◌, ◌-◌, ◌/◌, ◌%◌};
 ghost use Rattle.problem.specs.Lists.{total};
 ghost use Rattle.blocks.specs.Blocks.{check_of};
 ghost use Rattle.blocks.specs.Reading.{block_word, head_of};
@@ -40,20 +40,19 @@ pub(crate) fn check(block: &[u8; BYTES]) -> u16
     closed(sum(&block::words_of(block)))
 }
 
-// The sum of the first 255 words of bytes; those past the end are 0, and add nothing.
-fn sum_of(bytes: &[u8]) -> u32
-    ensures { result ≡ total 255 (block_word bytes.now 0) }
+// The bytes of one block, zeros in the place of those that are not there.
+fn whole(block: &[u8]) -> [u8; BYTES]
+    ensures { result ≡ take (min (length block.now) 512) block.now ++ replicate (512 - min (length block.now) 512) 0 }
 {
-    let mut sum = 0;
-    for k in 0..255 {
-        sum += u32::from(block::word(bytes, k));
-    }
-    sum
+    let mut whole = [0u8; BYTES];
+    let count = block.len().min(BYTES);
+    whole[..count].copy_from_slice(&block[..count]);
+    whole
 }
 
-// The check of one block, of any number of bytes.
+// The check of one block, of any number of bytes; zeros add nothing.
 pub fn check_of(block: &[u8]) -> u16
     ensures { CheckOf block.now result }
 {
-    closed(sum_of(block))
+    check(&whole(block))
 }

@@ -1,17 +1,19 @@
 -- The words of a file as the code reads them, and the check that it works out.
 -- Assumes nothing.
-use mathlib.Core.Path.{◌≡◌, refl, sym, ap, ◌∙◌}
-use mathlib.Core.List.{List, map}
-use Prim.Native.Nat.{ℕ, ◌+◌, ◌-◌, ◌*◌, ◌/◌, ◌%◌, ◌≤◌, ◌<◌}
+use mathlib.Core.Path.{◌≡◌, refl, sym, ap, ap₂, ◌∙◌}
+use mathlib.Core.List.{List, ◌++◌, map}
+use Prim.Native.Nat.{ℕ, min, ◌+◌, ◌-◌, ◌*◌, ◌/◌, ◌%◌, ◌≤◌, ◌<◌}
 use native.Mathlib.Omega.{arith}
-use native.Mathlib.Nat.{zero-add}
-use lib.ListN.{length, get_or, take, drop, length-take, length-drop, get_or-eq_default}
-use lib.Seq.{get_or-take, get_or-drop}
+use native.Mathlib.Nat.{zero-add, min-le_left, le-min}
+use native.Mathlib.Decide.{dec_lt}
+use lib.ListN.{length, get_or, take, drop, replicate, length-take, length-drop, length-replicate, get_or-append, get_or-eq_default}
+use lib.Seq.{length-take-le, get_or-take, get_or-drop, get_or-append_right}
+use Rattle.std.proofs.lemmas.List.{get_or-replicate}
 use Rattle.problem.specs.Lists.{total, below}
 use Rattle.blocks.specs.Blocks.{word_at, check_of}
 use Rattle.blocks.specs.Reading.{block_word, head_of, content_word, content_from}
 use Rattle.blocks.specs.Loops.Read.{value_at, block_of}
-use Rattle.blocks.proofs.Lists.{map_at, map_is, map_length, total_same}
+use Rattle.blocks.proofs.Lists.{map_at, map_is, map_length, map_same, total_same}
 use Rattle.blocks.proofs.checksum.Sums.{total_is}
 use Rattle.blocks.proofs.Contents.{block_word_small}
 
@@ -82,6 +84,43 @@ pub check_made : (file : List ℕ) (b t y z : ℕ) → ((i : ℕ) → get_or fil
 unfolding check_of head_of
 check_made file b t y z s e f g =
     ap (λ (x : ℕ). 65535 - x) (total_is (block_word file b) 255 t y z (block_word_small file s b) (omega arith) e f g)
+
+-- Zeros in the place of bytes that are not there make no other words.
+whole_at : (block : List ℕ) (i : ℕ) → i < 512
+    → get_or (take (min (length block) 512) block ++ replicate (512 - min (length block) 512) 0) i 0 ≡ get_or block i 0
+whole_at block i h =
+    let count : ℕ = min (length block) 512 in
+    let few : count ≤ length block = min-le_left (length block) 512 in
+    let long : length (take count block) ≡ count = length-take-le count block few in
+    elim (dec_lt i count) [
+      | yes l ↦
+          let at : i < length (take count block) = rw long l in
+          get_or-append (take count block) (replicate (512 - count) 0) 0 i at ∙ get_or-take count block i 0 l
+      | no f ↦
+          let past : length block ≤ i = past_all (length block) i h f in
+          let at : length (take count block) ≤ i = rw long (omega arith) in
+          get_or-append_right (take count block) (replicate (512 - count) 0) i 0 at ∙ zeros_at (512 - count) (i - length (take count block))
+          ∙ sym (get_or-eq_default block 0 past)
+    ]
+  where
+    past_all : (n i : ℕ) → i < 512 → (i < min n 512 → ⊥) → n ≤ i
+    past_all n i h f = elim (dec_lt i n) [
+      | yes l ↦ absurd (f (le-min l h))
+      | no g ↦ omega arith
+    ]
+
+    zeros_at : (n i : ℕ) → ◌≡◌ {A = ℕ} (get_or (replicate n 0) i 0) 0
+    zeros_at n i = elim (dec_lt i n) [
+      | yes l ↦ get_or-replicate n i 0 0 l
+      | no g ↦ get_or-eq_default (replicate n 0) 0 (rw (length-replicate {A = ℕ} n 0) (omega arith))
+    ]
+
+pub whole_head : (block whole : List ℕ) → whole ≡ take (min (length block) 512) block ++ replicate (512 - min (length block) 512) 0
+    → head_of whole 0 ≡ head_of block 0
+unfolding head_of block_word word_at
+whole_head block whole e =
+    rw e (map_same _ _ 255 (λ k l.
+    ap₂ (λ (h : ℕ) (l : ℕ). h * 256 + l) (whole_at block (2 * (256 * 0 + k)) (omega arith)) (whole_at block (2 * (256 * 0 + k) + 1) (omega arith))))
 
 -- ---- blocks that are cut out
 
