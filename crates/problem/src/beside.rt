@@ -9,7 +9,7 @@ use crate::{mask, tables};
 
 impl Tables<'_> {
     // The row of one of the d values of one of the n variables.
-    fn row(&self, variable: usize, value: usize) -> [u16; 32]
+    fn row_at(&self, variable: usize, value: usize) -> [u16; 32]
         requires { (variable < self.now.n) × (value < self.now.d) }
         ensures { RowOf self.now.n (allowed self.now) variable value result }
     {
@@ -33,7 +33,7 @@ pub fn row(n: usize, d: usize, tables: &[u16], variable: usize, value: usize) ->
             d,
             words: tables,
         }
-        .row(variable, value);
+        .row_at(variable, value);
     }
     [0u16; 32]
 }

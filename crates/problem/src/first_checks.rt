@@ -71,7 +71,7 @@ impl Tables<'_> {
     }
 
     // 4 or 5, or none, of the problem of these domains.
-    fn refusal(&self, domains: &[u16]) -> Result<(), Refusal>
+    fn refusal_with(&self, domains: &[u16]) -> Result<(), Refusal>
         requires { length domains.now ≡ self.now.n }
         ensures { told result ≡ refusal_of_problem (problem_of self.now.n self.now.d domains.now self.now.words.now) }
     {
@@ -109,5 +109,5 @@ pub fn refusal(n: usize, d: usize, domains: &[u16], tables: &[u16]) -> Result<()
         d,
         words: tables,
     }
-    .refusal(domains)
+    .refusal_with(domains)
 }

@@ -15,51 +15,66 @@ pub(crate) struct Matrix {
     fourth: u64,
 }
 
-// The digits of a mask in which `a`, so many places above, differs from `b`.
-fn unlike(a: u64, b: u64, mask: u64, places: usize) -> u64
-    requires { places < 64 }
-    ensures { result ≡ unlike a b mask places }
-{
-    ((a >> places) ^ b) & mask
+// The digits of a mask, to be exchanged with those so many places above.
+#[derive(Clone, Copy)]
+struct Exchange {
+    mask: u64,
+    places: usize,
+    ghost few: { places < 64 },
 }
 
-// `a`, its digits `places` above those of the mask taken from `b`.
-fn risen(a: u64, b: u64, mask: u64, places: usize) -> u64
-    requires { places < 64 }
-    ensures { result ≡ risen a b (2 ^ 64 - 1 - mask * 2 ^ places % 2 ^ 64) places }
-{
-    a ^ (unlike(a, b, mask, places) << places)
-}
+impl Exchange {
+    // The digits of the mask in which `a`, so many places above, differs from `b`.
+    fn unlike(self, a: u64, b: u64) -> u64
+        ensures { result ≡ unlike a b self.mask self.places }
+    {
+        ((a >> self.places) ^ b) & self.mask
+    }
 
-// `a`, its digits of the mask taken from `b`, from `places` above.
-fn sunk(a: u64, b: u64, mask: u64, places: usize) -> u64
-    requires { places < 64 }
-    ensures { result ≡ sunk a b (2 ^ 64 - 1 - mask) places }
-{
-    a ^ unlike(b, a, mask, places)
-}
+    // `a`, its digits above those of the mask taken from `b`.
+    fn risen(self, a: u64, b: u64) -> u64
+        ensures { result ≡ risen a b (2 ^ 64 - 1 - self.mask * 2 ^ self.places % 2 ^ 64) self.places }
+    {
+        a ^ (self.unlike(a, b) << self.places)
+    }
 
-// Both within a word.
-fn swapped(x: u64, mask: u64, places: usize) -> u64
-    requires { (places < 64) × (bit_and mask (mask * 2 ^ places % 2 ^ 64) ≡ 0) }
-    ensures { result ≡ risen (sunk x x (2 ^ 64 - 1 - mask) places) x (2 ^ 64 - 1 - mask * 2 ^ places % 2 ^ 64) places }
-{
-    let digits = unlike(x, x, mask, places);
-    (x ^ digits) ^ (digits << places)
+    // `a`, its digits of the mask taken from `b`, from above.
+    fn sunk(self, a: u64, b: u64) -> u64
+        ensures { result ≡ sunk a b (2 ^ 64 - 1 - self.mask) self.places }
+    {
+        a ^ self.unlike(b, a)
+    }
+
+    // Both within a word.
+    fn swapped(self, x: u64) -> u64
+        requires { bit_and self.mask (self.mask * 2 ^ self.places % 2 ^ 64) ≡ 0 }
+        ensures { result ≡ risen (sunk x x (2 ^ 64 - 1 - self.mask) self.places) x (2 ^ 64 - 1 - self.mask * 2 ^ self.places % 2 ^ 64) self.places }
+    {
+        let digits = self.unlike(x, x);
+        (x ^ digits) ^ (digits << self.places)
+    }
 }
 
 // Four rows, the digit of weight 1 of row and column exchanged.
 fn by_one(x: u64) -> u64
     ensures { result ≡ by_one x }
 {
-    swapped(x, 0x0000AAAA0000AAAA, 15)
+    let exchange = Exchange {
+        mask: 0x0000AAAA0000AAAA,
+        places: 15,
+    };
+    exchange.swapped(x)
 }
 
 // That of weight 2.
 fn by_two(x: u64) -> u64
     ensures { result ≡ by_two x }
 {
-    swapped(x, 0x00000000CCCCCCCC, 30)
+    let exchange = Exchange {
+        mask: 0x00000000CCCCCCCC,
+        places: 30,
+    };
+    exchange.swapped(x)
 }
 
 // Both of these in all rows.
@@ -78,11 +93,15 @@ fn within(m: Matrix) -> Matrix
 fn by_four(m: Matrix) -> Matrix
     ensures { result ≡ by_four m }
 {
+    let exchange = Exchange {
+        mask: 0x0F0F0F0F0F0F0F0F,
+        places: 4,
+    };
     Matrix {
-        first: risen(m.first, m.second, 0x0F0F0F0F0F0F0F0F, 4),
-        second: sunk(m.second, m.first, 0x0F0F0F0F0F0F0F0F, 4),
-        third: risen(m.third, m.fourth, 0x0F0F0F0F0F0F0F0F, 4),
-        fourth: sunk(m.fourth, m.third, 0x0F0F0F0F0F0F0F0F, 4),
+        first: exchange.risen(m.first, m.second),
+        second: exchange.sunk(m.second, m.first),
+        third: exchange.risen(m.third, m.fourth),
+        fourth: exchange.sunk(m.fourth, m.third),
     }
 }
 
@@ -90,11 +109,15 @@ fn by_four(m: Matrix) -> Matrix
 fn by_eight(m: Matrix) -> Matrix
     ensures { result ≡ by_eight m }
 {
+    let exchange = Exchange {
+        mask: 0x00FF00FF00FF00FF,
+        places: 8,
+    };
     Matrix {
-        first: risen(m.first, m.third, 0x00FF00FF00FF00FF, 8),
-        second: risen(m.second, m.fourth, 0x00FF00FF00FF00FF, 8),
-        third: sunk(m.third, m.first, 0x00FF00FF00FF00FF, 8),
-        fourth: sunk(m.fourth, m.second, 0x00FF00FF00FF00FF, 8),
+        first: exchange.risen(m.first, m.third),
+        second: exchange.risen(m.second, m.fourth),
+        third: exchange.sunk(m.third, m.first),
+        fourth: exchange.sunk(m.fourth, m.second),
     }
 }
 

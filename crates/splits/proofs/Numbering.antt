@@ -43,3 +43,11 @@ kind_not_4 kind f e = f (kind_once kind Halving e)
 
 pub kind_not_5 : (kind : Kind) → (kind ≡ Extraction → ⊥) → kind_number kind ≡ 5 → ⊥
 kind_not_5 kind f e = f (kind_once kind Extraction e)
+
+-- Of those up to 3 the one that is not 1 or 2.
+pub kind_third : (kind : Kind) → kind_number kind ≤ 3 → (kind ≡ Backtracking → ⊥) → (kind ≡ ForwardChecking → ⊥) → kind_number kind ≡ 3
+kind_third Backtracking l f g = absurd (f refl)
+kind_third ForwardChecking l f g = absurd (g refl)
+kind_third Idc l f g = refl
+kind_third Halving l f g = absurd (omega arith)
+kind_third Extraction l f g = absurd (omega arith)

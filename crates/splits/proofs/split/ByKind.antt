@@ -163,11 +163,6 @@ module _ (n : ℕ) (r : List ℕ) (k : ℕ) (more : k < candidates n r) (kind : 
   to_three f g = rw (← its_kind) (five (λ i. (i ≡ 4 → ⊥) → (i ≡ 5 → ⊥) → i ≤ 3) kind named
       (λ f g. omega arith) (λ f g. omega arith) (λ f g. omega arith) (λ f g. absurd (f refl)) (λ f g. absurd (g refl)) f g)
 
-  pub the_third : kind_of r ≤ 3 → (kind ≡ 1 → ⊥) → (kind ≡ 2 → ⊥) → kind ≡ 3
-  the_third l f g = five (λ i. i ≤ 3 → (i ≡ 1 → ⊥) → (i ≡ 2 → ⊥) → i ≡ 3) kind named
-      (λ l f g. absurd (f refl)) (λ l f g. absurd (g refl)) (λ l f g. refl) (λ l f g. absurd (omega arith)) (λ l f g. absurd (omega arith))
-      (rw its_kind l) f g
-
   pub peel_place : (kind ≡ 3) ⊎ (kind ≡ 5) → k ≤ n
   unfolding candidates
   peel_place h =

@@ -1,11 +1,10 @@
 -- `split::around_value` meets its contract, kind by kind.
 use mathlib.Core.Logic.{inl}
-use mathlib.Core.Path.{◌≡◌, ap}
+use mathlib.Core.Path.{ap}
 use Prim.Native.Nat.{◌≤◌}
 use Rattle.splits.specs.Kinds.{kind_number}
-use Rattle.splits.specs.declared.kind.Kind.TheVariants.{Backtracking, ForwardChecking}
-use Rattle.splits.proofs.Numbering.{kind_once}
-use Rattle.splits.proofs.split.ByKind.{around_out, around_1, around_2, around_3, the_third, peel_place}
+use Rattle.splits.proofs.Numbering.{kind_third}
+use Rattle.splits.proofs.split.ByKind.{around_out, around_1, around_2, around_3, peel_place}
 use Rattle.splits.proofs.split.around_value.Goals as goal
 
 pub returns-in_default : goal.returns-in_default
@@ -22,14 +21,12 @@ returns-in-ForwardChecking c =
 pub idc-requires : goal.idc-requires
 idc-requires c =
     let p = c.requires in
-    let not_one : kind_number c.args.kind ≡ 1 → ⊥ = λ e. c.in_default-kind.not-Backtracking (kind_once c.args.kind Backtracking e) in
-    let not_two : kind_number c.args.kind ≡ 2 → ⊥ = λ e. c.in_default-kind.not-ForwardChecking (kind_once c.args.kind ForwardChecking e) in
-    let few : c.args.k ≤ c.args.n = peel_place _ _ _ p.0 _ p.1.0 (inl (the_third _ _ _ p.0 _ p.1.0 p.1.1 not_one not_two)) in
+    let third = kind_third c.args.kind (rw p.1.0 p.1.1) c.in_default-kind.not-Backtracking c.in_default-kind.not-ForwardChecking in
+    let few : c.args.k ≤ c.args.n = peel_place _ _ _ p.0 _ p.1.0 (inl third) in
     rw c.in-Some.ensures.variables few
 
 pub returns-in_default-kind : goal.returns-in_default-kind
 returns-in_default-kind c =
     let p = c.requires in
-    let not_one : kind_number c.args.kind ≡ 1 → ⊥ = λ e. c.in_default-kind.not-Backtracking (kind_once c.args.kind Backtracking e) in
-    let not_two : kind_number c.args.kind ≡ 2 → ⊥ = λ e. c.in_default-kind.not-ForwardChecking (kind_once c.args.kind ForwardChecking e) in
-    around_3 _ _ _ _ _ _ p.1.0 _ c.in-Some.ensures _ _ (the_third _ _ _ p.0 _ p.1.0 p.1.1 not_one not_two) c.idc.ensures
+    let third = kind_third c.args.kind (rw p.1.0 p.1.1) c.in_default-kind.not-Backtracking c.in_default-kind.not-ForwardChecking in
+    around_3 _ _ _ _ _ _ p.1.0 _ c.in-Some.ensures _ _ third c.idc.ensures

@@ -1,8 +1,8 @@
--- `Tables::row` meets its contract. The invariant: the first j masks are made.
+-- `Tables::row_at` meets its contract. The invariant: the first j masks are made.
 use native.Mathlib.Omega.{arith}
 use Rattle.problem.proofs.tables.Ranges.{allowed_is}
 use Rattle.problem.proofs.beside.Rows.{begun_none, begun_more}
-use Rattle.problem.proofs.tables.Tables.row.Goals as goal
+use Rattle.problem.proofs.tables.Tables.row_at.Goals as goal
 
 pub loop-j-init : goal.loop-j-init
 loop-j-init c = begun_none _ _ _

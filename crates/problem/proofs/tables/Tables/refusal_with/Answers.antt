@@ -1,10 +1,10 @@
--- `Tables::refusal` meets its contract: the domains, the tables, then the symmetry.
+-- `Tables::refusal_with` meets its contract: the domains, the tables, then the symmetry.
 use mathlib.Core.Bool.{not}
 use mathlib.Core.Path.{sym, ◌∙◌, ap}
 use borrow.Author.Tests.{not-false}
 use Rattle.problem.proofs.first_checks.Joining.{domains_found}
 use Rattle.problem.proofs.first_checks.Parts.{problem_domains, problem_tables, problem_last}
-use Rattle.problem.proofs.tables.Tables.refusal.Goals as goal
+use Rattle.problem.proofs.tables.Tables.refusal_with.Goals as goal
 
 pub returns-then-not-is_below : goal.returns-then-not-is_below
 returns-then-not-is_below c =

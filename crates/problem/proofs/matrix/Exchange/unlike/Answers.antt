@@ -1,7 +1,7 @@
--- `matrix::unlike` meets its contract: the definition follows the code.
+-- `Exchange::unlike` meets its contract: the definition follows the code.
 use mathlib.Core.Path.{refl}
 use Rattle.problem.specs.Loops.Matrices.{unlike}
-use Rattle.problem.proofs.matrix.unlike.Goals as goal
+use Rattle.problem.proofs.matrix.Exchange.unlike.Goals as goal
 
 pub returns : goal.returns
 unfolding unlike
