@@ -31,8 +31,8 @@ pub(crate) struct Choice {
 
 // What the chooser finds of the top.
 fn look(top: Subproblem, kept: &mut Kept) -> Choice
-    requires { Regular kept.old.n kept.old.d top × (all_instantiated kept.old.n top ≡ false) }
-    ensures { Found kept.old.n kept.old.d kept.old.tables top result × (kept.new ≡ kept.old) }
+    requires { let k = kept.old in Regular k.n k.d top × (all_instantiated k.n top ≡ false) }
+    ensures { let k = kept.old in Found k.n k.d k.tables top result × (kept.new ≡ k) }
 {
     let domains = top.domains;
     let key = lanes::least_key(domains, top.marked | lanes::beyond(kept.n));
@@ -204,8 +204,8 @@ pub(crate) fn take_chosen(
     kept: &mut Kept,
     state: State,
 ) -> Result<State, Refusal>
-    requires { Taking kept.old.n kept.old.d kept.old.tables agenda.old top state }
-    ensures { TakesChosen kept.old.n kept.old.d kept.old.tables top agenda.old agenda.new state (taken_by state result) × (kept.new ≡ kept.old) }
+    requires { let k = kept.old in Taking k.n k.d k.tables agenda.old top state }
+    ensures { let k = kept.old in TakesChosen k.n k.d k.tables top agenda.old agenda.new state (taken_by state result) × (kept.new ≡ k) }
 {
     let steps = state.counts.steps.0;
     if steps == u32::MAX {
