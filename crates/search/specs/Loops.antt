@@ -1,4 +1,6 @@
+pub mod Asked
 pub mod Choices
+pub mod Chosen
 pub mod Ends
 pub mod FirstTests
 pub mod Found

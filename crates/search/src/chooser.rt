@@ -9,7 +9,7 @@ ghost use Rattle.search.specs.Loops.Slots.{SlotIn};
 ghost use Rattle.search.specs.Loops.Kept.{Regular};
 ghost use Rattle.search.specs.Loops.Steps.{Replaced, Taking, taken_by};
 ghost use Rattle.search.specs.Loops.Lanes.{Sides};
-ghost use Rattle.search.specs.Loops.Found.{Found, OfTop, RoomFor, FurtherOf, FurtherPiece, Puts, request_by, left, left_by, several, TakesChosen};
+ghost use Rattle.search.specs.Loops.Found.{Found, OfTop, FurtherOf, FurtherPiece, Puts, request_by, left, left_by, several, TakesChosen};
 
 use crate::kept::Kept;
 use crate::state::State;
@@ -31,8 +31,8 @@ pub(crate) struct Choice {
 
 // What the chooser finds of the top.
 fn look(top: Subproblem, kept: &mut Kept) -> Choice
-    requires { Regular kept.old.n kept.old.d top × (all_instantiated kept.old.n top ≡ false) }
-    ensures { Found kept.old.n kept.old.d kept.old.tables top result × (kept.new ≡ kept.old) }
+    requires { let k = kept.old in Regular k.n k.d top × (all_instantiated k.n top ≡ false) }
+    ensures { let k = kept.old in Found k.n k.d k.tables top result × (kept.new ≡ k) }
 {
     let domains = top.domains;
     let key = lanes::least_key(domains, top.marked | lanes::beyond(kept.n));
@@ -60,6 +60,8 @@ struct Chosen<'a> {
 }
 
 impl<'a> Chosen<'a> {
+    ghost use Rattle.search.specs.Loops.Chosen.{chosen, RoomFor};
+
     // Whether more than one piece may be left.
     fn is_several(&self) -> bool
         ensures { result ≡ several self.now.choice }
@@ -118,8 +120,8 @@ impl<'a> Chosen<'a> {
 
     // Kind 3's pieces, the last named in the place of the top, the others above; the number of subproblems then.
     fn spread(&self, agenda: &mut [u16], further: Further, slot: usize) -> usize
-        requires { SlotIn self.now.n slot (length agenda.old) × (RoomFor self.now.n self.now.d self.now.tables.now self.now.top self.now.choice 3 slot (length agenda.old) × ((several self.now.choice ≡ true) × FurtherOf self.now.top self.now.choice further)) }
-        ensures { Replaced self.now.n (pieces self.now.n (table_of self.now.n self.now.d self.now.tables.now) self.now.top (request_by self.now.top self.now.choice 3)) slot agenda.old agenda.new result }
+        requires { SlotIn self.now.n slot (length agenda.old) × (RoomFor self.now 3 slot (length agenda.old) × ((several self.now.choice ≡ true) × FurtherOf self.now.top self.now.choice further)) }
+        ensures { Replaced self.now.n (chosen self.now 3) slot agenda.old agenda.new result }
     {
         let out = further.out;
         let sides = lanes::sides();
@@ -136,8 +138,8 @@ impl<'a> Chosen<'a> {
 
     // Kind 2's pieces: V without its value in the place of the top, the precluded piece above.
     fn put_two(&self, agenda: &mut [u16], slot: usize) -> usize
-        requires { SlotIn self.now.n slot (length agenda.old) × (RoomFor self.now.n self.now.d self.now.tables.now self.now.top self.now.choice 2 slot (length agenda.old) × (several self.now.choice ≡ true)) }
-        ensures { Replaced self.now.n (pieces self.now.n (table_of self.now.n self.now.d self.now.tables.now) self.now.top (request_by self.now.top self.now.choice 2)) slot agenda.old agenda.new result }
+        requires { SlotIn self.now.n slot (length agenda.old) × (RoomFor self.now 2 slot (length agenda.old) × (several self.now.choice ≡ true)) }
+        ensures { Replaced self.now.n (chosen self.now 2) slot agenda.old agenda.new result }
     {
         agenda::write_slot(self.n, agenda, slot, self.rest());
         agenda::write_slot(self.n, agenda, slot + 1, self.precluded());
@@ -202,8 +204,8 @@ pub(crate) fn take_chosen(
     kept: &mut Kept,
     state: State,
 ) -> Result<State, Refusal>
-    requires { Taking kept.old.n kept.old.d kept.old.tables agenda.old top state }
-    ensures { TakesChosen kept.old.n kept.old.d kept.old.tables top agenda.old agenda.new state (taken_by state result) × (kept.new ≡ kept.old) }
+    requires { let k = kept.old in Taking k.n k.d k.tables agenda.old top state }
+    ensures { let k = kept.old in TakesChosen k.n k.d k.tables top agenda.old agenda.new state (taken_by state result) × (kept.new ≡ k) }
 {
     let steps = state.counts.steps.0;
     if steps == u32::MAX {

@@ -32,7 +32,7 @@ impl<'a> Kept<'a> {
     // The row of a value of a variable, made in its place unless it is there: then it has the value alone at its own variable.
     pub(crate) fn row(&mut self, variable: usize, value: usize) -> [u16; 32]
         requires { (variable < self.old.n) × (value < self.old.d) }
-        ensures { RowOf self.old.n (table_of self.old.n self.old.d self.old.tables) variable value result × (self.new ≡ self.old) }
+        ensures { let k = self.old in RowOf k.n (table_of k.n k.d k.tables) variable value result × (self.new ≡ k) }
     {
         let at = variable * self.each + value.min(self.each - 1);
         if self.rows[at][variable] != 1 << value {

@@ -213,8 +213,8 @@ fn step_chosen(
     kept: &mut Kept,
     state: State,
 ) -> ControlFlow<Option<Refusal>, State>
-    requires { Ready kept.old.n kept.old.d kept.old.tables agenda.old (search_of kept.old.n agenda.old state) × Below kept.old.n lanes }
-    ensures { ChoosesOne kept.old.n kept.old.d kept.old.tables agenda.old agenda.new state (gone_by state result) × (kept.new ≡ kept.old) }
+    requires { let k = kept.old in Ready k.n k.d k.tables agenda.old (search_of k.n agenda.old state) × Below k.n lanes }
+    ensures { let k = kept.old in ChoosesOne k.n k.d k.tables agenda.old agenda.new state (gone_by state result) × (kept.new ≡ k) }
 {
     let n = kept.n;
     let subproblems = state.subproblems;

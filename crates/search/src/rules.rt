@@ -81,8 +81,8 @@ fn missing(held: [u16; 32], row: [u16; 32]) -> u16
 
 // Whether every instantiated variable has one value, and every other instantiated one what is allowed beside it.
 fn marks_obey(slot: &[u16], marked: u32, kept: &mut Kept) -> bool
-    requires { SlotFits kept.old.n kept.old.d kept.old.tables slot.now marked }
-    ensures { (result ≡ every kept.old.n (mark_obeys kept.old.n (table_of kept.old.n kept.old.d kept.old.tables) (subproblem_of kept.old.n slot.now))) × (kept.new ≡ kept.old) }
+    requires { let k = kept.old in SlotFits k.n k.d k.tables slot.now marked }
+    ensures { let k = kept.old in (result ≡ every k.n (mark_obeys k.n (table_of k.n k.d k.tables) (subproblem_of k.n slot.now))) × (kept.new ≡ k) }
 {
     let n = kept.n;
     let held = held_of(slot, marked, n);
@@ -133,8 +133,8 @@ fn as_below(n: usize, agenda: &[u16], k: usize) -> bool
 
 // Whether the subproblem in the words of a slot obeys the rules; `known`: its instantiated variables do.
 fn obeys(slot: &[u16], domains: &[u16], kept: &mut Kept, known: bool) -> bool
-    requires { Mirrored kept.old.n kept.old.d domains.now kept.old.tables × ((length slot.now ≡ kept.old.n + 2) × MarksKnown kept.old.n kept.old.d kept.old.tables slot.now known) }
-    ensures { (result ≡ obeys (problem_of kept.old.n kept.old.d domains.now kept.old.tables) (subproblem_of kept.old.n slot.now)) × (kept.new ≡ kept.old) }
+    requires { let k = kept.old in Mirrored k.n k.d domains.now k.tables × ((length slot.now ≡ k.n + 2) × MarksKnown k.n k.d k.tables slot.now known) }
+    ensures { let k = kept.old in (result ≡ obeys (problem_of k.n k.d domains.now k.tables) (subproblem_of k.n slot.now)) × (kept.new ≡ k) }
 {
     let n = kept.n;
     let marked = agenda::marked_at(slot, n);

@@ -6,7 +6,7 @@ ghost use Rattle.splits.specs.Splits.{pieces, candidates};
 ghost use Rattle.splits.specs.Checks.{checks};
 ghost use Rattle.splits.specs.Calls.{readable};
 ghost use Rattle.problem.specs.Ranges.{Sized};
-ghost use Rattle.search.specs.Loops.Steps.{counted, taken_by, TellsEmpty, RoomFrom, Placed, Taking, TakesOne, refusal_for};
+ghost use Rattle.search.specs.Loops.Steps.{counted, taken_by, Placed, Taking, TakesOne, refusal_for};
 
 use crate::agenda;
 use crate::state::{Checks, Counts, State, Steps};
@@ -51,9 +51,11 @@ struct Asked<'a> {
 }
 
 impl<'a> Asked<'a> {
+    ghost use Rattle.search.specs.Loops.Asked.{asked, RoomFrom, TellsEmpty};
+
     // How many pieces are not empty.
     fn piece_count(&self) -> usize
-        ensures { result ≡ length (pieces self.now.n (table_of self.now.n self.now.d self.now.tables.now) self.now.top self.now.request.now) }
+        ensures { result ≡ length (asked self.now) }
     {
         let candidates = split::candidates(self.n, self.request);
         let mut count = 0;
@@ -68,7 +70,7 @@ impl<'a> Asked<'a> {
 
     // Whether the pieces exceed the free slots. They are counted only where the candidates of the kind do.
     fn exceed(&self, free: usize) -> bool
-        ensures { result ≡ ltb free (length (pieces self.now.n (table_of self.now.n self.now.d self.now.tables.now) self.now.top self.now.request.now)) }
+        ensures { result ≡ ltb free (length (asked self.now)) }
     {
         free < split::candidates(self.n, self.request) && free < self.piece_count()
     }
@@ -76,7 +78,7 @@ impl<'a> Asked<'a> {
     // Whether variable k - 1 keeps no value in its own further piece, the k-th of kind 3 or 5: such a piece is empty and need not be made.
     fn keeps_none(&self, k: usize) -> bool
         requires { k < candidates self.now.n self.now.request.now }
-        ensures { TellsEmpty self.now.n self.now.d self.now.tables.now self.now.top self.now.request.now k result }
+        ensures { TellsEmpty self.now k result }
     {
         if k == 0 {
             return false;
@@ -104,8 +106,8 @@ impl<'a> Asked<'a> {
 
     // The pieces written from slot `from` on, the last named lowest; the number of slots then used.
     fn place(&self, agenda: &mut [u16], from: usize) -> usize
-        requires { RoomFrom self.now.n self.now.d self.now.tables.now self.now.top self.now.request.now from (length agenda.old) }
-        ensures { Placed self.now.n (pieces self.now.n (table_of self.now.n self.now.d self.now.tables.now) self.now.top self.now.request.now) from agenda.old agenda.new result }
+        requires { RoomFrom self.now from (length agenda.old) }
+        ensures { Placed self.now.n (asked self.now) from agenda.old agenda.new result }
     {
         let mut at = from;
         let candidates = split::candidates(self.n, self.request);

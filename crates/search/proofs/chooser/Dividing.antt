@@ -20,10 +20,10 @@ use Rattle.search.specs.Agenda.{slot_words, slots_in}
 use Rattle.search.specs.Loops.Slots.{SlotIn}
 use Rattle.search.specs.Loops.Steps.{Replaced}
 use Rattle.search.specs.Loops.Choices.{chosen_for}
-use Rattle.search.specs.Loops.Found.{RoomFor, Puts, request_by, left_by, several, value_in}
+use Rattle.search.specs.Loops.Found.{Puts, request_by, left_by, several, value_in}
 use Rattle.search.specs.declared.chooser.Choice.{Choice}
 use Rattle.search.proofs.step.Gathering.{Gathered, gather_none, gather_slot, gather_keep, gather_replaced}
-use Rattle.search.proofs.chooser.Settling.{AtTop, several_kept, left_is, left_few, kind_by, chosen_by, put_reads, put_precluded, put_kept, put_rest}
+use Rattle.search.proofs.chooser.Settling.{AtTop, RoomFor, several_kept, left_is, left_few, kind_by, chosen_by, put_reads, put_precluded, put_kept, put_rest}
 
 -- Kind 2's pieces, where several are left.
 module _ (n d : ℕ) (t : List ℕ) (P : Subproblem) (c : Choice) (below words : ℕ) (h : AtTop n d t P c below words) (s : several c ≡ true) where

@@ -240,6 +240,10 @@ pub record AtTop (n d : ℕ) (tables : List ℕ) (P : Subproblem) (c : Choice) (
   pub found : Found n d tables P c
   pub slot : SlotIn n below words
 
+-- The slots from there on hold the pieces of a kind.
+abbrev pub RoomFor : ℕ → ℕ → List ℕ → Subproblem → Choice → ℕ → ℕ → ℕ → Type 0
+RoomFor n d tables P c kind below words = (below + length (pieces n (table_of n d tables) P (request_by P c kind))) * (n + 2) ≤ words
+
 pub at_top : (n d : ℕ) (tables : List ℕ) (P : Subproblem) (c : Choice) (below words : ℕ) → OfTop n d tables P c → SlotIn n below words
     → AtTop n d tables P c below words
 at_top n d tables P c below words h slot = record { fitting = h.fitting; regular = h.regular; runs = h.runs; found = h.found; slot = slot }

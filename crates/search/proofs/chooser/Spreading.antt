@@ -29,14 +29,14 @@ use Rattle.searches.specs.Chooser.{request}
 use Rattle.search.specs.Loops.Slots.{SlotIn}
 use Rattle.search.specs.Loops.Steps.{Replaced}
 use Rattle.splits.specs.AtOnce.{outside_to, filled}
-use Rattle.search.specs.Loops.Found.{RoomFor, FurtherOf, FurtherPiece, several, value_in}
+use Rattle.search.specs.Loops.Found.{FurtherOf, FurtherPiece, several, value_in}
 use Rattle.search.specs.declared.chooser.Choice.{Choice}
 use Rattle.search.specs.declared.chooser.Further.{Further}
 use Rattle.search.proofs.step.Candidates.{firsts, firsts_start, firsts_drop, firsts_keep, pieces_are}
 use Rattle.search.proofs.step.Gathering.{Gathered, gather_none, gather_drop, gather_slot, gather_keep, gather_replaced}
 use Rattle.search.proofs.lanes.AtOnce.{word}
 use Rattle.search.proofs.chooser.Lone.{some_left}
-use Rattle.search.proofs.chooser.Settling.{AtTop, several_kept, several_more, put_variable, put_member, put_reads, put_precluded, put_kept}
+use Rattle.search.proofs.chooser.Settling.{AtTop, RoomFor, several_kept, several_more, put_variable, put_member, put_reads, put_precluded, put_kept}
 
 module _ (n d : ℕ) (t : List ℕ) (P : Subproblem) (c : Choice) (below words : ℕ) (h : AtTop n d t P c below words) (s : several c ≡ true) where
   abbrev r : List ℕ

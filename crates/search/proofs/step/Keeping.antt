@@ -25,7 +25,6 @@ use Rattle.splits.proofs.subproblem.Domains.{length_changed, changed_after}
 use Rattle.splits.proofs.subproblem.Subproblems.{empty_at}
 use Rattle.problem.proofs.tables.Ranges.{inside_true}
 use Rattle.splits.proofs.split.ByKind.{few}
-use Rattle.search.specs.Loops.Steps.{TellsEmpty}
 
 -- What a test of what was worked out says.
 told : (x dom mask D M : ℕ) → x ≡ minus dom mask → dom ≡ D → mask ≡ M → eqb x 0 ≡ true → eqb (minus D M) 0 ≡ true
@@ -69,7 +68,7 @@ module _ (n d : ℕ) (t r : List ℕ) (fits : readable n d t r ≡ true) where
 
     -- Extraction.
     pub keeps_none_5 : (x dom mask : ℕ) → x ≡ minus dom mask → dom ≡ domain P (k - 1) → mask ≡ target_of r (k - 1) → kind_of r ≡ 5
-        → TellsEmpty n d t P r k (eqb x 0)
+        → eqb x 0 ≡ true → empty n (candidate n (table_of n d t) P r k) ≡ true
     unfolding candidate extracted extract at_targets
     keeps_none_5 x dom mask a p q e z =
         let front : Subproblem = at_targets P r (k - 1) in
@@ -80,7 +79,7 @@ module _ (n d : ℕ) (t r : List ℕ) (fits : readable n d t r ≡ true) where
     -- IDC.
     pub keeps_none_3 : (x dom mask : ℕ) → x ≡ minus dom mask → dom ≡ domain P (k - 1)
         → ((variable_of r ≡ k - 1 → ⊥) → mask ≡ table_of n d t (variable_of r) (k - 1) (value_of r)) → kind_of r ≡ 3
-        → TellsEmpty n d t P r k (eqb x 0)
+        → eqb x 0 ≡ true → empty n (candidate n (table_of n d t) P r k) ≡ true
     unfolding candidate inferred disjunct cut cut_beside without
     keeps_none_3 x dom mask a p q e z =
         let V' : ℕ = variable_of r in

@@ -1,5 +1,5 @@
 -- A step of the chooser: what it finds of a top subproblem, the pieces as the code makes them of that, and where they are put.
-use Rattle.std.specs.Prelude.{Result, Ok, Err, ◌≡◌, Bool, true, false, cond, List, [], ◌∷◌, ℕ, ◌+◌, ◌-◌, ◌*◌, ◌≤◌, ◌<◌, length, get_or, set, eqb, ltb}
+use Rattle.std.specs.Prelude.{Result, Ok, Err, ◌≡◌, Bool, true, false, cond, List, [], ◌∷◌, ℕ, ◌-◌, ◌≤◌, ◌<◌, length, get_or, set, eqb, ltb}
 use Rattle.problem.specs.declared.refusal.Refusal.{Refusal}
 use Rattle.problem.specs.Refused.{number_of}
 use Rattle.problem.specs.Masks.{size, lowest}
@@ -53,10 +53,6 @@ pub record OfTop (n d : ℕ) (tables : List ℕ) (P : Subproblem) (c : Choice) :
   pub found : Found n d tables P c
   pub variable : c.variable < n
   pub values : c.values ≤ total 32 (λ j. size (domain P j))
-
--- The slots from one on hold the pieces of a kind.
-abbrev pub RoomFor : ℕ → ℕ → List ℕ → Subproblem → Choice → ℕ → ℕ → ℕ → Type 0
-RoomFor n d tables P c kind below words = (below + length (pieces n (table_of n d tables) P (request_by P c kind))) * (n + 2) ≤ words
 
 -- What kind 3's further pieces are made of: V without its value, the row with all values for V, and what each domain has outside its mask of that.
 pub record FurtherOf (P : Subproblem) (c : Choice) (f : Further) : Type 0 where

@@ -1,12 +1,12 @@
 -- What a step asks of memory and of a request, and what a step or a run leaves.
-use Rattle.std.specs.Prelude.{Option, Some, Result, Ok, Err, ◌≡◌, Bool, true, false, cond, List, [], ◌∷◌, ℕ, ◌+◌, ◌-◌, ◌*◌, ◌≤◌, length, replicate, eqb, ltb}
+use Rattle.std.specs.Prelude.{Option, Some, Result, Ok, Err, ◌≡◌, false, cond, List, [], ◌∷◌, ℕ, ◌+◌, ◌-◌, ◌*◌, ◌≤◌, length, replicate, eqb, ltb}
 use Rattle.std.specs.declared.ops.ControlFlow.{ControlFlow}
 use Rattle.std.specs.declared.ops.ControlFlow.TheVariants.{Continue, Break}
 use Rattle.problem.specs.declared.refusal.Refusal.{Refusal}
 use Rattle.problem.specs.Refused.{number_of}
 use Rattle.problem.specs.Problem.{table_of, problem_of}
-use Rattle.splits.specs.Subproblems.{all_instantiated, empty}
-use Rattle.splits.specs.Splits.{pieces, candidate}
+use Rattle.splits.specs.Subproblems.{all_instantiated}
+use Rattle.splits.specs.Splits.{pieces}
 use Rattle.splits.specs.Tests.Refusals.{refusal_of}
 use Rattle.splits.specs.declared.subproblem.Subproblem.{Subproblem}
 use Rattle.search.specs.Agenda.{subproblem_of, slot_at, stack_words, slots_in}
@@ -47,15 +47,7 @@ went_on (Err refusal) = Break (Some refusal)
 abbrev pub counted : ℕ → ℕ → ℕ → State
 counted steps checks subproblems = record { counts = record { steps = record { 0 = steps }; checks = record { 0 = checks } }; subproblems = subproblems }
 
--- The slots from one on hold the pieces of a request.
-abbrev pub RoomFrom : ℕ → ℕ → List ℕ → Subproblem → List ℕ → ℕ → ℕ → Type 0
-RoomFrom n d tables P r from words = (from + length (pieces n (table_of n d tables) P r)) * (n + 2) ≤ words
-
--- A test that is passed only by a candidate that is empty.
-abbrev pub TellsEmpty : ℕ → ℕ → List ℕ → Subproblem → List ℕ → ℕ → Bool → Type 0
-TellsEmpty n d tables P r k b = b ≡ true → empty n (candidate n (table_of n d tables) P r k) ≡ true
-
--- Its pieces written from a slot on; how many slots are used then.
+-- Pieces written from a slot on; how many slots are used then.
 pub record Placed (n : ℕ) (l : List Subproblem) (from : ℕ) (before after : List ℕ) (r : ℕ) : Type 0 where
   pub count : r ≡ from + length l
   pub words : after ≡ splice before (from * (n + 2)) (stack_words n l)
