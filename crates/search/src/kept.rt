@@ -6,7 +6,7 @@ ghost use Rattle.problem.specs.Beside.{RowOf};
 use problem::beside;
 use std::marker::Model;
 
-// The rows of a problem's n variables and d values, `each` for a variable.
+// The rows of a problem's n variables and d values, `each` for a variable: its values from `each` - 1 on have the last place together.
 #[derive(Drop)]
 pub(crate) struct Kept<'a> {
     pub(crate) n: usize,
