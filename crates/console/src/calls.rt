@@ -15,7 +15,7 @@ use files::saved::Header;
 use problem::refusal::Refusal;
 use search::state::{Ran, State};
 
-// Opening.
+// Opening. It begins as the chooser, save and load do: one struct of the three arrays would be zeroed whole, what the words fill too.
 pub(crate) fn open(
     n: usize,
     d: usize,

@@ -1,4 +1,4 @@
-// Which refusal a file deserves past 14: 15, 3, 12.
+// What is read of a file, and which refusal it deserves past 14: 15, 3, 12.
 ghost use Rattle.std.specs.Prelude.{◌≡◌, suc, ◌+◌, ◌-◌, ◌*◌, ◌/◌, ◌<◌, ◌≤◌, length};
 ghost use Rattle.problem.specs.Refused.{told};
 ghost use Rattle.problem.specs.Lists.{total, every};
