@@ -88,7 +88,7 @@ impl Tables<'_> {
     }
 }
 
-// 1 to 3 of the numbers and of how many words are lent as domains and tables; 0 for none.
+// 1 to 3, of the numbers and of how many words are lent as domains and tables.
 pub fn sizes_refusal(n: usize, d: usize, domains: usize, tables: usize) -> Result<(), Refusal>
     ensures { SizesRefusal n d domains tables (told result) }
 {
@@ -99,7 +99,7 @@ pub fn sizes_refusal(n: usize, d: usize, domains: usize, tables: usize) -> Resul
     Ok(())
 }
 
-// The first checks of a problem, in the order 1 to 5; 0 for none.
+// The first checks of a problem, in the order 1 to 5.
 pub fn refusal(n: usize, d: usize, domains: &[u16], tables: &[u16]) -> Result<(), Refusal>
     ensures { RefusalOf n d domains.now tables.now (told result) }
 {
