@@ -5,8 +5,10 @@ A name that docs/PROMISES.md cites, as `file:name`, is declared by that file. A 
 A file or folder that the papers name in backticks is there, and a law that README.md and these two name, with a _ in it, is declared, or is a crate, a
 function or file of src/, or a function of the language's library; a name with a hyphen is none of these.
 Every `pub fn` of every library has no `requires`, and an `ensures` that cites one definition; its uniqueness theorem, NAME_one, says of that
-definition, in its crate's specs/Promises.antt, that two results are equal, and is proved, as that statement, in its proofs/Promises.antt. A crate with
-no specs/ exports functions of another: of each there is a `pub fn` of the same name with the same clauses, whose theorem is its own.
+definition, in its crate's specs/Promises.antt, that two results are equal, and is proved, as that statement, in its proofs/Promises.antt. Where the
+clause reads the result by another definition, `(opened result)` say, a promise says that two results which it reads alike are equal. A crate with no
+specs/ exports functions of another: of each there is a `pub fn` of the same name with the same clauses, whose theorem is its own. Every function of an
+impl of a library's trait, `from` say, has one statement, `from_gives`, and its uniqueness theorem, named after the repository's type too.
 Every promise that a specs/Promises.antt states, of Type 0 or of Type 1, is proved in its crate's proofs/Promises.antt under its own name (with _lem at
 the end where specs/ has a definition of that name), and what that proves is the statement. What mirrors a loop of the code stands in specs/Loops: no
 other crate cites it, no file of specs outside it does, and no contract of a `pub fn`.
@@ -118,6 +120,32 @@ def public_functions():
                     yield folder, source.relative_to(TOP), found.group(1), found.group(2)
 
 
+def trait_functions():
+    """Crate, file, type, name and statement (none where it has none) of each function of an impl of a trait for a type, of each library."""
+    for source in sources("*/src/**/*.rt"):
+        if (source.parents[1] / "src/lib.rt").is_file():
+            for found in re.finditer(r"(?ms)^impl\b([^\n{]*) for ([^\n]*)\{$(.*?)^\}$", source.read_text()):
+                own = re.findall(r"\b[A-Z]\w*", found.group(2)) or re.findall(r"<([A-Z]\w*)>", found.group(1))
+                for function in re.findall(r"(?m)^\s*fn (\w+)", found.group(3)):
+                    stated = re.search(rf"(?m)^\s*ghost {function}_gives = \{{ (.*) \}};$", found.group(3))
+                    yield source.parents[1], source.relative_to(TOP), "".join(own[:1]), function, stated.group(1) if stated else ""
+
+
+def read_alike():
+    """The definitions that read a result of which a promise says that two results read alike are equal."""
+    names = set()
+    for specs in sources("*/specs/Promises.antt"):
+        text = specs.read_text()
+        said = re.findall(r"(?m)^\w+One = \(r s : [^→]*\) → (\S+) r ≡ (\S+) s → r ≡ s$", text)
+        own = {a for a, b in said if a == b}
+        for names_used in re.findall(r"(?m)^use \S+\.\{([^}]*)\}$", text):
+            for word in names_used.split(","):
+                taken, _, here = word.strip().partition(" as ")
+                if (here or taken) in own:
+                    names.add(taken)
+    return names
+
+
 def statement(path, name):
     """What a definition of a file says: from its = to the next empty line."""
     found = re.search(rf"(?ms)^{re.escape(name)} =(.*?)(?:\n\n|\Z)", text_of(path))
@@ -142,6 +170,7 @@ def promising(folder, source, function, header):
 
 def uniqueness(faults):
     count = 0
+    alike = read_alike()
     for folder, source, function, header in public_functions():
         count += 1
         folder = promising(folder, source, function, header)
@@ -160,6 +189,20 @@ def uniqueness(faults):
                 faults.append(f"{where} has no {stated} in {specs.relative_to(TOP)} that says of {ensures.group(1)} that two results are equal")
         if not re.search(rf"(?m)^pub {re.escape(name)} : {re.escape(stated)}$", text_of(proofs)):
             faults.append(f"{where} has no {name} : {stated} in {proofs.relative_to(TOP)}")
+        for reader in set(re.findall(r"\((\w+) result\)", header)):
+            if reader not in alike:
+                faults.append(f"{where} reads its result by {reader}, and no promise says that two results which it reads alike are equal")
+    for folder, source, own, function, stated in trait_functions():
+        count += 1
+        where, name = f"{source}: {function} of {own}", f"{own.lower()}_{function}_one"
+        specs, proofs = folder / "specs/Promises.antt", folder / "proofs/Promises.antt"
+        text = (TOP / source).read_text()
+        cited = [word for word in re.findall(r"[^\s(){}]+", stated) if ".specs." in taken_from(text, word)]
+        said = statement(specs, camel(name))
+        if not (len(cited) == 1 and "One (" in said and says(said, taken_as(text_of(specs), taken_from(text, cited[0]), cited[0]))):
+            faults.append(f"{where} has no {camel(name)} in {specs.relative_to(TOP)} that says of its statement, of one definition, that two results are equal")
+        if not re.search(rf"(?m)^pub {re.escape(name)} : {re.escape(camel(name))}$", text_of(proofs)):
+            faults.append(f"{where} has no {name} : {camel(name)} in {proofs.relative_to(TOP)}")
     return count
 
 
@@ -188,6 +231,20 @@ def taken_from(text, name):
         if name in [word.split(" as ")[-1].strip() for word in names.split(",")]:
             return module
     return ""
+
+
+def taken_as(text, module, name):
+    """The name by which a file of specs/ takes a definition of a module; none if it does not."""
+    for names in re.findall(rf"(?m)^use {re.escape(module)}\.\{{([^}}]*)\}}$", text):
+        for word in names.split(","):
+            taken, _, here = word.strip().partition(" as ")
+            if taken == name:
+                return here or taken
+    return ""
+
+
+def says(text, name):
+    return name and re.search(rf"(?<![^\s(]){re.escape(name)}(?![^\s)])", text)
 
 
 def loops_cited(faults):

@@ -3,7 +3,7 @@
 use mathlib.Core.Path.{ap, ◌∙◌}
 use Prim.Native.Nat.{ℕ}
 use Rattle.problem.specs.Masks.{bit}
-use Rattle.problem.specs.Promises.{NoConstraint, LowestValue, SmallerHalfOf, CountOne, LowestOne, HasOne, SmallerHalfOne, SizesRefusals, ProblemRefusals, NumbersPass, ProblemPass, TurnedOne, OnlyOne, WithinOne, AllowedOne, RowOne, BitsOfOne, RefusalOfNumbersOne, SizesRefusalOne, RefusalOne, NumberOne, ToldOne}
+use Rattle.problem.specs.Promises.{NoConstraint, LowestValue, SmallerHalfOf, CountOne, LowestOne, HasOne, SmallerHalfOne, SizesRefusals, ProblemRefusals, NumbersPass, ProblemPass, TurnedOne, OnlyOne, WithinOne, AllowedOne, RowOne, BitsOfOne, RefusalOfNumbersOne, SizesRefusalOne, RefusalOne, NumberOne, RefusalFromOne, VerdictFromOne, ToldOne}
 use Rattle.problem.proofs.Refused.{number_once, told_once, one_told}
 use Rattle.problem.proofs.mask.Masks.{all_set, trailing_member, trailing_least, half_part, half_size, half_below}
 use Rattle.problem.proofs.Answers.{one}
@@ -65,6 +65,12 @@ bits_of_one words = one _
 
 pub number_one : NumberOne
 number_one = number_once
+
+pub refusal_from_one : RefusalFromOne
+refusal_from_one refusal = one _
+
+pub verdict_from_one : VerdictFromOne
+verdict_from_one verdict = one _
 
 pub told_one : ToldOne
 told_one = told_once

@@ -7,6 +7,7 @@ pub mod Beside
 pub mod Matrix
 pub mod Refusing
 pub mod Refused
+pub mod Verdicts
 pub mod FirstChecks
 pub mod Calls
 pub mod Answers

@@ -5,7 +5,9 @@ use Rattle.problem.specs.Problem.{Problem, problem_of}
 use Rattle.problem.specs.Calls.{Count, Lowest, Only, Has, SmallerHalf, Within, Allowed, Row, BitsOf, RefusalOfNumbers, SizesRefusal, RefusalOf}
 use Rattle.std.specs.Prelude.{Result}
 use Rattle.problem.specs.declared.refusal.Refusal.{Refusal}
+use Rattle.problem.specs.declared.verdict.Verdict.{Verdict}
 use Rattle.problem.specs.Refused.{number_of, told, OneTold}
+use Rattle.problem.specs.Verdicts.{number_of as verdict_number}
 use Rattle.problem.specs.Answers.{One}
 use Rattle.problem.specs.Matrix.{Turned}
 use Rattle.problem.specs.FirstChecks.{Deserves1, Deserves2, Deserves3Problem, Deserves4, Deserves5}
@@ -72,6 +74,13 @@ ProblemPass = (p : Problem) → (refusal_of_problem p ≡ 0) ↔ ((Deserves4 p �
 -- A number tells which refusal it is, and 0 that there is none: so what speaks of the number leaves one result.
 abbrev pub NumberOne : Type 0
 NumberOne = (a b : Refusal) → number_of a ≡ number_of b → a ≡ b
+
+-- The number that a refusal goes into, and the number that a verdict does, by `u32::from`.
+abbrev pub RefusalFromOne : Type 0
+RefusalFromOne = (refusal : Refusal) → One (λ (number : ℕ). number ≡ number_of refusal)
+
+abbrev pub VerdictFromOne : Type 0
+VerdictFromOne = (verdict : Verdict) → One (λ (number : ℕ). number ≡ verdict_number verdict)
 
 abbrev pub ToldOne : Type 0
 ToldOne = (r s : Result Unit Refusal) → told r ≡ told s → r ≡ s

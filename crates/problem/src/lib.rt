@@ -8,3 +8,4 @@ pub mod matrix;
 pub mod refusal;
 mod symmetry;
 pub mod tables;
+pub mod verdict;

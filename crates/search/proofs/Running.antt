@@ -1,6 +1,6 @@
 -- The loops of a run and of the chooser: a search goes on in memory as it does by the rules, request by request.
 -- Assumes nothing.
-use mathlib.Core.Path.{◌≡◌, refl, sym, ap, ◌∙◌}
+use mathlib.Core.Path.{◌≡◌, refl, sym, ap, ◌∙◌, subst}
 use mathlib.Core.Bool.{Bool, true, false, not}
 use mathlib.Core.List.Memᴰ
 use mathlib.Core.List.{List, [], ◌∷◌}
@@ -29,7 +29,7 @@ use Rattle.search.specs.Loops.Steps.{Taking, StopsAt, taken_by, gone_by, went_on
 use Rattle.search.specs.Loops.Choices.{chosen_for}
 use Rattle.search.specs.Loops.Ends.{Used, request_at}
 use Rattle.search.specs.declared.state.State.{State}
-use Rattle.searches.specs.declared.verdict.Verdict.TheVariants.{Running, Solved, Unsolvable}
+use Rattle.problem.specs.declared.verdict.Verdict.TheVariants.{Running, Solved, Unsolvable}
 use Rattle.search.specs.Loops.Steps.{Stop}
 use Rattle.search.proofs.Encoding.{length_stack_of, agenda_back}
 use Rattle.searches.proofs.Verdicts.{finished_top}
@@ -153,21 +153,30 @@ pub record Going (n d : ℕ) (t requests before : List ℕ) (start : State) (age
 
 module _ (n d : ℕ) (t requests before : List ℕ) (start : State) (agenda : List ℕ) (s : State) (taken : ℕ) (g : Going n d t requests before start agenda s taken) where
   -- At the end of the list.
-  pub going_end : taken ≡ length requests / (n + 3)
+  pub going_end : length requests / (n + 3) ≤ taken
       → StopsAt n d t before agenda (run (problem_of n d [] t) (slots (slots_in n (length before))) (requests_in n requests) (search_of n before start))
-      (record { refusal = 0; taken = length requests / (n + 3); state = s })
+      (record { refusal = 0; taken = taken; state = s })
   unfolding requests_in run_from
   going_end h =
-      rw (g.same, cut_end taken (length requests / (n + 3)) (n + 3) requests (omega arith))
+      rw (g.same, cut_end taken (length requests / (n + 3)) (n + 3) requests h)
       (record {
         refusal = refl;
-        taken = sym h;
+        taken = refl;
         steps = refl;
         checks = refl;
         subproblems = sym (length_stack_of n agenda s.subproblems);
         ready = g.ready;
         same = g.room;
       })
+
+  -- So many are taken then.
+  pub going_all : taken ≡ length requests / (n + 3)
+      → StopsAt n d t before agenda (run (problem_of n d [] t) (slots (slots_in n (length before))) (requests_in n requests) (search_of n before start))
+      (record { refusal = 0; taken = length requests / (n + 3); state = s })
+  going_all h =
+      subst
+      (λ (k : ℕ). StopsAt n d t before agenda (run (problem_of n d [] t) (slots (slots_in n (length before))) (requests_in n requests) (search_of n before start)) (record { refusal = 0; taken = k; state = s }))
+      h (going_end (omega arith))
 
   module _ (more : taken < length requests / (n + 3)) (after : List ℕ) (stop : Stop) (request : List ℕ) (own : request ≡ request_at n requests taken)
       (stepped : StopsAt n d t agenda after (run_from (problem_of n d [] t) (slots (slots_in n (length agenda))) (request ∷ []) (search_of n agenda s) 0) stop) where
@@ -250,22 +259,31 @@ choosing_none n d t limit before start h =
 module _ (n d : ℕ) (t : List ℕ) (limit : ℕ) (before : List ℕ) (start : State) (agenda : List ℕ) (s : State) (taken : ℕ)
     (g : GoingChosen n d t limit before start agenda s taken) where
   -- At the limit.
-  pub choosing_end : taken ≡ limit
+  pub choosing_end : limit ≤ taken
       → StopsAt n d t before agenda (choose (problem_of n d [] t) (slots (slots_in n (length before))) limit (search_of n before start))
-      (record { refusal = 0; taken = limit; state = s })
+      (record { refusal = 0; taken = taken; state = s })
   unfolding choose_from
   choosing_end h =
       let none : limit - taken ≡ 0 = omega arith in
       rw (g.same, none)
       (record {
         refusal = refl;
-        taken = sym h;
+        taken = refl;
         steps = refl;
         checks = refl;
         subproblems = sym (length_stack_of n agenda s.subproblems);
         ready = g.ready;
         same = g.room;
       })
+
+  -- The limit is taken then.
+  pub choosing_all : taken ≡ limit
+      → StopsAt n d t before agenda (choose (problem_of n d [] t) (slots (slots_in n (length before))) limit (search_of n before start))
+      (record { refusal = 0; taken = limit; state = s })
+  choosing_all h =
+      subst
+      (λ (k : ℕ). StopsAt n d t before agenda (choose (problem_of n d [] t) (slots (slots_in n (length before))) limit (search_of n before start)) (record { refusal = 0; taken = k; state = s }))
+      h (choosing_end (omega arith))
 
   module _ (more : taken < limit) (after : List ℕ) (stop : Stop)
       (stepped : StopsAt n d t agenda after (choose_from (problem_of n d [] t) (slots (slots_in n (length agenda))) 1 (search_of n agenda s) 0) stop) where

@@ -17,8 +17,8 @@ use Rattle.splitting.proofs.Pieces.{Held}
 use Rattle.splitting.proofs.Splitting.{lowest_in}
 use Rattle.problem.proofs.Tests.{true_false, every_at, every_all}
 use Rattle.searches.specs.Verdicts.{number_of, verdict_of, finished}
-use Rattle.searches.specs.declared.verdict.Verdict.{Verdict}
-use Rattle.searches.specs.declared.verdict.Verdict.TheVariants.{None, Running, Solved, Unsolvable}
+use Rattle.problem.specs.declared.verdict.Verdict.{Verdict}
+use Rattle.problem.specs.declared.verdict.Verdict.TheVariants.{None, Running, Solved, Unsolvable}
 
 -- Verdicts are told apart.
 pub solved_running : Solved ≡ Running → ⊥

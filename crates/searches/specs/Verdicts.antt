@@ -1,18 +1,12 @@
--- The verdicts, their numbers and their words.
+-- The verdicts, their numbers (number_of, of problem) and their words.
 use Rattle.std.specs.Prelude.{Bool, not, cond, List, [], ◌∷◌, ℕ, eqb}
 use Prim.Native.Char.{code}
 use Prim.Native.String.{String, [] as []ᵗ, ◌∷◌ as ◌∷ᵗ◌}
+pub use Rattle.problem.specs.Verdicts.{number_of}
 use Rattle.splits.specs.Subproblems.{all_instantiated}
 use Rattle.splits.specs.declared.subproblem.Subproblem.{Subproblem}
-use Rattle.searches.specs.declared.verdict.Verdict.{Verdict}
-use Rattle.searches.specs.declared.verdict.Verdict.TheVariants.{None, Running, Solved, Unsolvable}
-
--- Their numbers, as the C header has them; the promises use them.
-abbrev pub number_of : Verdict → ℕ
-number_of None = 0
-number_of Running = 1
-number_of Solved = 2
-number_of Unsolvable = 3
+use Rattle.problem.specs.declared.verdict.Verdict.{Verdict}
+use Rattle.problem.specs.declared.verdict.Verdict.TheVariants.{None, Running, Solved, Unsolvable}
 
 -- The bytes of a text in ASCII.
 unfoldable pub ascii : String → List ℕ

@@ -1,4 +1,4 @@
-// A search over any machine that holds a stack of subproblems: definitions and laws in specs/ and proofs/, and of functions only the number of a verdict.
+// A search over any machine that holds a stack of subproblems: definitions and laws in specs/ and proofs/, and no function.
 #![tactic(auto)]
 
-pub mod verdict;
+pub use problem::verdict;

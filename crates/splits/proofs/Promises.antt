@@ -2,13 +2,14 @@
 -- Assumes nothing.
 use mathlib.Core.Path.{sym, ◌∙◌}
 use Rattle.problem.proofs.Refused.{one_told}
-use Rattle.splits.specs.Promises.{OneByOne, ByRow, RequestRefusals, RequestAccepted, FirstOne, ReadsRefusal, ReadsPieces, ReadsChecks, DiagonalPiece, DiagonalChecks, DomainOne, IsInstantiatedOne, AllInstantiatedOne, IsEmptyOne, InstantiateOne, WithoutOne, CutOne, CutEachOne, PrecludedOne, CandidatesOne, PieceOne, ChecksOne, RefusalOne, CountOne, ValuesOne, LosesOne, OutsideOne, OutsidesOne, FilledOne}
+use Rattle.splits.specs.Promises.{OneByOne, ByRow, RequestRefusals, RequestAccepted, FirstOne, KindTryFromOne, ReadsRefusal, ReadsPieces, ReadsChecks, DiagonalPiece, DiagonalChecks, DomainOne, IsInstantiatedOne, AllInstantiatedOne, IsEmptyOne, InstantiateOne, WithoutOne, CutOne, CutEachOne, PrecludedOne, CandidatesOne, PieceOne, ChecksOne, RefusalOne, CountOne, ValuesOne, LosesOne, OutsideOne, OutsidesOne, FilledOne}
 use Rattle.splits.proofs.split.OneByOne.{all_one_by_one}
 use Rattle.splits.proofs.subproblem.Rows.{row_made}
 use Rattle.splits.proofs.Apart.{apart_piece, apart_checks}
 use Rattle.problem.proofs.Refusing.{first_one as one_first}
 use Rattle.splits.proofs.refusal.Refusals.{first_refusal, is_none, same_refusal, same_pieces, same_checks}
 use Rattle.problem.proofs.Answers.{one}
+use Rattle.splits.proofs.Numbering.{decodes_once}
 
 pub one_by_one : OneByOne
 one_by_one = all_one_by_one
@@ -24,6 +25,9 @@ request_accepted = is_none
 
 pub first_one : FirstOne
 first_one = one_first
+
+pub kind_try_from_one : KindTryFromOne
+kind_try_from_one word = decodes_once word
 
 pub reads_refusal : ReadsRefusal
 reads_refusal n d P r s h = same_refusal n P r s h d

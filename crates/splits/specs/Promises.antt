@@ -7,6 +7,7 @@ use Rattle.problem.specs.Lists.{below}
 use Rattle.splits.specs.Splits.{precluded, filled, pieces, precluded_by, candidates, candidate}
 use Rattle.problem.specs.Beside.{RowOf}
 use Rattle.splits.specs.Checks.{checks}
+use Rattle.splits.specs.Kinds.{Decodes}
 use Rattle.problem.specs.Refusing.{Refusals, FirstOf}
 use Rattle.splits.specs.Refusals.{Accepted, refusals}
 use Rattle.splits.specs.Tests.Refusals.{refusal_of}
@@ -37,6 +38,10 @@ abbrev pub RequestAccepted : Type 0
 RequestAccepted = (n d : ℕ) (P : Subproblem) (r : List ℕ) → (refusal_of n d P r ≡ 0) ↔ Accepted n d P r
 
 -- ---- the words read
+
+-- The kind that a word names, or that it names none, `Kind::try_from`.
+abbrev pub KindTryFromOne : Type 0
+KindTryFromOne = (word : ℕ) → One (Decodes word)
 
 -- Requests that agree on the words that their kind reads: V for kinds 1 to 4, v for 1 to 3, the targets for 5.
 pub record Agree (n : ℕ) (r s : List ℕ) : Type 0 where

@@ -8,6 +8,7 @@ use native.Mathlib.Omega.{arith}
 use lib.ListN.{length, get_or, take, drop}
 use lib.Seq.{get_or-take, get_or-drop}
 use borrow.Author.Tests.{le-leb, lt-leb, eq-eqb, ne_eqb}
+use Rattle.std.specs.declared.ops.Range.{Range}
 use Rattle.problem.specs.Lists.{every}
 use Rattle.blocks.specs.Blocks.{word_at}
 use Rattle.blocks.specs.Reading.{block_word, head_of}
@@ -58,6 +59,10 @@ good_part file block b blocks r e is_Block h =
     refl
 
 -- ---- 14: all
+
+-- A range that begins at 0, however its end is worked out.
+pub range_below : (s : Range ℕ) → s.start ≡ 0 → s ≡ record { start = 0; end = s.end }
+range_below s start = ap (λ (k : ℕ). record { start = k; end = s.end }) start
 
 module _ (file : List ℕ) where
   pub file_length : (length file ≡ length file / 512 * 512 → ⊥) → 14 ≡ refusal_of_file file

@@ -17,7 +17,7 @@ use Rattle.console.specs.Loops.Rooms.{Room}
 use Rattle.console.specs.Loops.Fronts.{Shorter, Reach, FrontOf}
 
 -- Fewer bytes than there are.
-reach_shorter : (n subproblems requests agenda slots : ℕ) → agenda % (2 * (n + 2)) ≡ 0 → agenda ≤ 512 * (2 * (n + 2))
+pub reach_shorter : (n subproblems requests agenda slots : ℕ) → agenda % (2 * (n + 2)) ≡ 0 → agenda ≤ 512 * (2 * (n + 2))
     → slots ≡ subproblems + (n + 1) * (requests / (2 * (n + 3))) + 1 → slots * (2 * (n + 2)) < agenda
     → Reach n subproblems requests agenda (slots * (2 * (n + 2)))
 reach_shorter n subproblems requests agenda slots even most e l =

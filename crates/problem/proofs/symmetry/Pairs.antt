@@ -153,7 +153,7 @@ matrix_same f g h =
 
 module _ (n d i j : ℕ) (t : List ℕ) (fit : Sized n d t) (h : i < n) (k : j < n) where
   -- the masks of two of the variables stand within the tables
-  masks_within : (i * n + j) * d + d ≤ length t
+  pub masks_within : (i * n + j) * d + d ≤ length t
   masks_within =
       let pair : i * n + j + 1 ≤ n * n = omega (arith, digits_lt h k) in
       omega (arith, mul-le-mul_right d pair, fit.words)

@@ -50,19 +50,21 @@ inside_is n d t V' v h =
 -- the word of i, j and a is one of the n × n × d, and what is worked out on the way is small
 pub record Within (n d i j a : ℕ) (t : List ℕ) : Type 0 where
   pub row : i * n ≤ 1024
+  pub row_lt : i * n + j < n * n
+  pub most : n * n ≤ 1024
   pub pair : i * n + j ≤ 1024
   pub masks : (i * n + j) * d ≤ 16384
   pub value : a < 16
   pub word : (i * n + j) * d + a < length t
 
-in_table : (n d i j a : ℕ) (t : List ℕ) → Sized n d t → Place n d i j a → Within n d i j a t
+pub in_table : (n d i j a : ℕ) (t : List ℕ) → Sized n d t → Place n d i j a → Within n d i j a t
 in_table n d i j a t s p =
     let sq : n * n ≤ 32 * 32 = mul-le-mul s.few s.few in
     let at : i * n + j < n * n = digits_lt p.first p.second in
     let wd : (i * n + j) * d + a < n * n * d = digits_lt at p.third in
     let le : i * n + j ≤ 1024 = omega arith in
     let pr : (i * n + j) * d ≤ 1024 * 16 = mul-le-mul le s.small in
-    record { row = omega arith; pair = le; masks = pr; value = omega (arith, p.third, s.small); word = omega (arith, s.words) }
+    record { row = omega arith; row_lt = at; most = sq; pair = le; masks = pr; value = omega (arith, p.third, s.small); word = omega (arith, s.words) }
 
 -- The mask of a value is the word at its place, and of what is none of the d values there is none.
 pub word_at : (n d : ℕ) (t : List ℕ) (i j a : ℕ) → a < d → table_of n d t i j a ≡ get_or t ((i * n + j) * d + a) 0
@@ -77,13 +79,14 @@ word_none n d t i j a h = rw (le-ltb a d h) refl
 module _ (n d : ℕ) (t : List ℕ) (i j a : ℕ) where
   module _ (b : Bool) (k : j < n) (e : b ≡ inside n d t i a) where
     module _ (f : b ≡ true) where
-      given_inside : Inside n d t i a
+      pub given_inside : Inside n d t i a
       given_inside = inside_true n d t i a (sym e ∙ f)
 
-      pub given_place : Within n d i j a t
-      given_place =
-          let fits = given_inside in
-          in_table n d i j a t fits.fit (record { first = fits.a_variable; second = k; third = fits.a_value })
+      pub given_place : Place n d i j a
+      given_place = record { first = given_inside.a_variable; second = k; third = given_inside.a_value }
+
+      pub given_within : Within n d i j a t
+      given_within = in_table n d i j a t given_inside.fit given_place
 
       pub given_word : (x : ℕ) → (i ≡ j → ⊥) → x ≡ get_or t ((i * n + j) * d + a) 0 → Allowed n d t i j a x
       given_word x s w = simp (lt-ltb j n k, sym e, f, ne_eqb i j s) (w ∙ sym (word_at n d t i j a given_inside.a_value))

@@ -2,11 +2,11 @@
 use mathlib.Core.Path.{refl, ◌∙◌}
 use native.Mathlib.Omega.{arith}
 use Rattle.search.proofs.kept.Rows.{rows_none}
-use Rattle.search.proofs.Running.{choosing_none, choosing_on, choosing_stops, choosing_end}
+use Rattle.search.proofs.Running.{choosing_none, choosing_on, choosing_stops, choosing_all}
 use Rattle.search.proofs.choose_on.Goals as goal
 
 pub invariant_of-kept : goal.invariant_of-kept
-invariant_of-kept c = (c.requires.fitting, rows_none 16 _ _ _ (omega arith))
+invariant_of-kept c = (c.requires.fitting, (omega arith, rows_none 16 _ _ _))
 
 pub loop-taken-init : goal.loop-taken-init
 loop-taken-init c = (choosing_none _ _ _ _ _ _ c.requires, refl)
@@ -28,4 +28,4 @@ loop-taken-preserved c = (
 )
 
 pub returns : goal.returns
-returns c = choosing_end _ _ _ _ _ _ _ _ _ c.loop-taken.invariant.0 (omega arith)
+returns c = choosing_all _ _ _ _ _ _ _ _ _ c.loop-taken.invariant.0 (omega arith)

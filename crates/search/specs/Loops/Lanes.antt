@@ -65,6 +65,16 @@ pub record Numbers : Type 0 where
 
 -- Rows kept, so many for each of 32 variables.
 pub record Rows (width n d : ℕ) (tables : List ℕ) (rows : List (List ℕ)) : Type 0 where
-  pub some : 0 < width
   pub long : length rows ≡ 32 * width
   pub each : (k : ℕ) → k < 32 * width → RowOrNone n d tables (k / width) (get_or rows k [])
+
+-- A place among rows where one of a variable is kept.
+pub record RowAt (n d : ℕ) (tables : List ℕ) (V' at : ℕ) (rows : List (List ℕ)) : Type 0 where
+  pub inside : at < length rows
+  pub kept : RowOrNone n d tables V' (get_or rows at [])
+
+-- Rows of which the one at a place is this, and the others are as before.
+pub record RowPut (at : ℕ) (row : List ℕ) (before after : List (List ℕ)) : Type 0 where
+  pub same : length after ≡ length before
+  pub there : get_or after at [] ≡ row
+  pub others : (k : ℕ) → (k ≡ at → ⊥) → get_or after k [] ≡ get_or before k []

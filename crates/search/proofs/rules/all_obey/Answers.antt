@@ -11,7 +11,7 @@ use Rattle.search.proofs.rules.Alike.{marks_known}
 use Rattle.search.proofs.rules.all_obey.Goals as goal
 
 pub invariant_of-kept : goal.invariant_of-kept
-invariant_of-kept c = (c.requires.0.fitting.sized, rows_none 1 _ _ _ (omega arith))
+invariant_of-kept c = (c.requires.0.fitting.sized, (omega arith, rows_none 1 _ _ _))
 
 pub loop-k-init : goal.loop-k-init
 loop-k-init c = (every_start _, refl)

@@ -1,31 +1,20 @@
--- `Kept::row` meets its contract: the row is in its place, or is made and put there.
-use mathlib.Core.Path.{refl}
+-- `Kept::row` meets its contract: its place is one of the variable, and what is put there leaves rows that are kept.
 use Rattle.problem.specs.Ranges.{Inside}
-use Rattle.problem.proofs.tables.Ranges.{inside_is}
-use Rattle.search.proofs.kept.Rows.{row_there, row_put, rows_more}
-use Rattle.search.proofs.kept.Kept.row.Goals.{then-self-at, else-self-at}
+use Rattle.search.proofs.kept.Rows.{place_of, row_at, row_more}
 use Rattle.search.proofs.kept.Kept.row.Goals as goal
 
-its_numbers : (c : goal.After-result-1)
-    → Inside c.self.inside.n c.self.inside.d c.self.inside.tables.now c.args.variable c.args.value
-its_numbers c = let k = rw (← c.self.view_is) at c.requires in
-    record { fit = c.self.invariant.0; a_variable = k.0; a_value = k.1 }
+pub row-requires : goal.row-requires
+row-requires c =
+    let asks = rw (← c.self.view_is) at c.requires in
+    let inside : Inside c.self.inside.n c.self.inside.d c.self.inside.tables.now c.args.variable c.args.value =
+    record { fit = c.self.invariant.0; a_variable = asks.0; a_value = asks.1 } in
+    let place = place_of _ _ _ _ _ _ _ c.self.invariant.1.0 inside c.min.ensures in
+    (inside, row_at _ _ _ _ _ _ _ c.self.invariant.1.1 place.0 place.1)
 
 pub invariant_of-self : goal.invariant_of-self
 invariant_of-self c =
-    let inside = its_numbers c in
-    elim c.if-self-at.branch [
-      | then-self-at w ↦ rw w.self-inside-is
-          (c.self.invariant.0, rows_more _ _ _ _ _ _ _ _ c.self.invariant.1 inside c.min.ensures _ (w.row.ensures.within (inside_is _ _ _ _ _ inside)))
-      | else-self-at w ↦ rw w.self-inside-is c.self.invariant
-    ]
-
-pub returns : goal.returns
-returns c =
-    let inside = its_numbers c in
-    rw (← c.self.view_is)
-    (elim c.if-self-at.branch [
-      | then-self-at w ↦ rw w.self-inside-is
-          (row_put _ _ _ _ _ _ _ _ c.self.invariant.1 inside c.min.ensures _ (w.row.ensures.within (inside_is _ _ _ _ _ inside)), refl)
-      | else-self-at w ↦ rw w.self-inside-is (row_there _ _ _ _ _ _ _ _ c.self.invariant.1 inside c.min.ensures w.if-self-at.false, refl)
-    ])
+    let asks = rw (← c.self.view_is) at c.requires in
+    let inside : Inside c.self.inside.n c.self.inside.d c.self.inside.tables.now c.args.variable c.args.value =
+    record { fit = c.self.invariant.0; a_variable = asks.0; a_value = asks.1 } in
+    let place = place_of _ _ _ _ _ _ _ c.self.invariant.1.0 inside c.min.ensures in
+    (c.self.invariant.0, (c.self.invariant.1.0, row_more _ _ _ _ _ _ _ c.self.invariant.1.1 place.0 place.1 _ _ _ c.row.ensures.0 c.row.ensures.1))

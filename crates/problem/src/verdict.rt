@@ -1,6 +1,6 @@
 // What is said of a search.
 ghost use Rattle.std.specs.Prelude.{◌≡◌};
-ghost use Rattle.searches.specs.Verdicts.{number_of};
+ghost use Rattle.problem.specs.Verdicts.{number_of};
 
 // None: refused by the first checks; a verdict that the rules name and number, and no missing value.
 #[derive(Clone, Copy, PartialEq, Eq)]
