@@ -9,9 +9,10 @@ definition, in its crate's specs/Promises.antt, that two results are equal, and 
 clause reads the result by another definition, `(opened result)` say, a promise says that two results which it reads alike are equal. A crate with no
 specs/ exports functions of another: of each there is a `pub fn` of the same name with the same clauses, whose theorem is its own. Every function of an
 impl of a library's trait, `from` say, has one statement, `from_gives`, and its uniqueness theorem, named after the repository's type too.
-Every promise that a specs/Promises.antt states, of Type 0 or of Type 1, is proved in its crate's proofs/Promises.antt under its own name (with _lem at
-the end where specs/ has a definition of that name), and what that proves is the statement. What mirrors a loop of the code stands in specs/Loops: no
-other crate cites it, no file of specs outside it does, and no contract of a `pub fn`.
+A crate that README.md marks with (t), of theory, has no function. Every promise that a specs/Promises.antt states, of Type 0 or of Type 1, is proved in
+its crate's proofs/Promises.antt under its own name (with _lem at the end where specs/ has a definition of that name), and what that proves is the
+statement. What mirrors a loop of the code stands in specs/Loops: no other crate cites it, no file of specs outside it does, and no contract of a `pub
+fn`.
 """
 import pathlib
 import re
@@ -124,8 +125,8 @@ def trait_functions():
     """Crate, file, type, name and statement (none where it has none) of each function of an impl of a trait for a type, of each library."""
     for source in sources("*/src/**/*.rt"):
         if (source.parents[1] / "src/lib.rt").is_file():
-            for found in re.finditer(r"(?ms)^impl\b([^\n{]*) for ([^\n]*)\{$(.*?)^\}$", source.read_text()):
-                own = re.findall(r"\b[A-Z]\w*", found.group(2)) or re.findall(r"<([A-Z]\w*)>", found.group(1))
+            for found in re.finditer(r"(?ms)^impl\b([^{]*?) for ([^{]*)\{$(.*?)^\}$", source.read_text()):
+                own = re.findall(r"\A\s*([A-Z]\w*)", found.group(2)) or re.findall(r"<([A-Z]\w*)>", found.group(1))
                 for function in re.findall(r"(?m)^\s*fn (\w+)", found.group(3)):
                     stated = re.search(rf"(?m)^\s*ghost {function}_gives = \{{ (.*) \}};$", found.group(3))
                     yield source.parents[1], source.relative_to(TOP), "".join(own[:1]), function, stated.group(1) if stated else ""
@@ -196,10 +197,10 @@ def uniqueness(faults):
         count += 1
         where, name = f"{source}: {function} of {own}", f"{own.lower()}_{function}_one"
         specs, proofs = folder / "specs/Promises.antt", folder / "proofs/Promises.antt"
-        text = (TOP / source).read_text()
-        cited = [word for word in re.findall(r"[^\s(){}]+", stated) if ".specs." in taken_from(text, word)]
+        cited = re.fullmatch(r"(?:λ (\w+) (\w+)\. \2 ≡ )?(\w+)(?: \1)?", stated)
+        module = taken_from((TOP / source).read_text(), cited.group(3)) if cited else ""
         said = statement(specs, camel(name))
-        if not (len(cited) == 1 and "One (" in said and says(said, taken_as(text_of(specs), taken_from(text, cited[0]), cited[0]))):
+        if not (".specs." in module and "One (" in said and says(said, taken_as(text_of(specs), module, cited.group(3)))):
             faults.append(f"{where} has no {camel(name)} in {specs.relative_to(TOP)} that says of its statement, of one definition, that two results are equal")
         if not re.search(rf"(?m)^pub {re.escape(name)} : {re.escape(camel(name))}$", text_of(proofs)):
             faults.append(f"{where} has no {name} : {camel(name)} in {proofs.relative_to(TOP)}")
@@ -263,12 +264,24 @@ def loops_cited(faults):
             faults.append(f"{source}: {function} has a contract of specs/Loops")
 
 
+def theory(faults):
+    """The crates of theory of README.md, which have no function."""
+    marked = re.findall(r"(?m)\bcrates/(\w+) \(t\)", text_of(TOP / "README.md"))
+    for name in marked:
+        for source in sources(f"{name}/src/**/*.rt"):
+            for function in re.findall(r"(?m)^[^/\n]*\bfn (\w+)", source.read_text()):
+                faults.append(f"README.md marks crates/{name} as one of theory, and {source.relative_to(TOP)} has the function {function}")
+    if not marked:
+        faults.append("README.md marks no crate as one of theory")
+
+
 def main():
     faults = []
     numbers, names, places, functions = numbered_lines(faults), cited_names(faults), cited_places(faults), uniqueness(faults)
     promises = promises_proved(faults)
     named_in_papers(faults)
     loops_cited(faults)
+    theory(faults)
     if not (numbers and names and places and functions and promises):
         faults.append("nothing was found to hold: is this the repository?")
     for fault in faults:
