@@ -121,14 +121,26 @@ def public_functions():
                     yield folder, source.relative_to(TOP), found.group(1), found.group(2)
 
 
+def body_at(text, start):
+    """What stands between a brace and the one that closes it."""
+    depth = 0
+    for k in range(start, len(text)):
+        depth += {"{": 1, "}": -1}.get(text[k], 0)
+        if depth == 0:
+            return text[start + 1 : k]
+    return text[start + 1 :]
+
+
 def trait_functions():
     """Crate, file, type, name and statement (none where it has none) of each function of an impl of a trait for a type, of each library."""
     for source in sources("*/src/**/*.rt"):
         if (source.parents[1] / "src/lib.rt").is_file():
-            for found in re.finditer(r"(?ms)^impl\b([^{]*?) for ([^{]*)\{$(.*?)^\}$", source.read_text()):
+            text = source.read_text()
+            for found in re.finditer(r"(?m)^\s*impl\b([^{;]*?) for ([^{;]*)\{", text):
+                body = body_at(text, found.end() - 1)
                 own = re.findall(r"\A\s*([A-Z]\w*)", found.group(2)) or re.findall(r"<([A-Z]\w*)>", found.group(1))
-                for function in re.findall(r"(?m)^\s*fn (\w+)", found.group(3)):
-                    stated = re.search(rf"(?m)^\s*ghost {function}_gives = \{{ (.*) \}};$", found.group(3))
+                for function in re.findall(r"\bfn (\w+)", re.sub(r"//.*", "", body)):
+                    stated = re.search(rf"\bghost {function}_gives = \{{ (.*?) \}};", body)
                     yield source.parents[1], source.relative_to(TOP), "".join(own[:1]), function, stated.group(1) if stated else ""
 
 
@@ -199,8 +211,9 @@ def uniqueness(faults):
         specs, proofs = folder / "specs/Promises.antt", folder / "proofs/Promises.antt"
         cited = re.fullmatch(r"(?:λ (\w+) (\w+)\. \2 ≡ )?(\w+)(?: \1)?", stated)
         module = taken_from((TOP / source).read_text(), cited.group(3)) if cited else ""
-        said = statement(specs, camel(name))
-        if not (".specs." in module and "One (" in said and says(said, taken_as(text_of(specs), module, cited.group(3)))):
+        here = re.escape(taken_as(text_of(specs), module, cited.group(3))) if ".specs." in module else ""
+        one = rf"\((\w+) : [^()]+\) → One \((?:{here} \1|λ \((\w+) : [^()]+\)\. \2 ≡ {here} \1)\)"
+        if not (here and re.fullmatch(one, statement(specs, camel(name)).strip())):
             faults.append(f"{where} has no {camel(name)} in {specs.relative_to(TOP)} that says of its statement, of one definition, that two results are equal")
         if not re.search(rf"(?m)^pub {re.escape(name)} : {re.escape(camel(name))}$", text_of(proofs)):
             faults.append(f"{where} has no {name} : {camel(name)} in {proofs.relative_to(TOP)}")
@@ -244,10 +257,6 @@ def taken_as(text, module, name):
     return ""
 
 
-def says(text, name):
-    return name and re.search(rf"(?<![^\s(]){re.escape(name)}(?![^\s)])", text)
-
-
 def loops_cited(faults):
     for path in sources("*/**/*"):
         if path.suffix not in (".antt", ".rt"):
@@ -267,12 +276,13 @@ def loops_cited(faults):
 def theory(faults):
     """The crates of theory of README.md, which have no function."""
     marked = re.findall(r"(?m)\bcrates/(\w+) \(t\)", text_of(TOP / "README.md"))
+    named = re.findall(r"`(\w+)`", "".join(re.findall(r"(?m)^\| Crates of theory \| (.*?) have ", text_of(TOP / "docs/DECISIONS.md"))))
     for name in marked:
         for source in sources(f"{name}/src/**/*.rt"):
             for function in re.findall(r"(?m)^[^/\n]*\bfn (\w+)", source.read_text()):
                 faults.append(f"README.md marks crates/{name} as one of theory, and {source.relative_to(TOP)} has the function {function}")
-    if not marked:
-        faults.append("README.md marks no crate as one of theory")
+    if not marked or sorted(marked) != sorted(named):
+        faults.append(f"README.md marks as crates of theory {marked}, and docs/DECISIONS.md names {named}")
 
 
 def main():
