@@ -11,8 +11,8 @@ specs/ exports functions of another: of each there is a `pub fn` of the same nam
 impl of a library's trait, `from` say, has one statement, `from_gives`, and its uniqueness theorem, named after the repository's type too.
 A crate that README.md marks with (t), of theory, has no function. Every promise that a specs/Promises.antt states, of Type 0 or of Type 1, is proved in
 its crate's proofs/Promises.antt under its own name (with _lem at the end where specs/ has a definition of that name), and what that proves is the
-statement. What mirrors a loop of the code stands in specs/Loops: no other crate cites it, no file of specs outside it does, and no contract of a `pub
-fn`.
+statement. What mirrors a loop of the code stands in specs/Loops: no other crate cites it, no file of specs outside it does, and no contract of a
+`pub fn`.
 """
 import pathlib
 import re

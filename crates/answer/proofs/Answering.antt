@@ -23,7 +23,7 @@ use Rattle.search.specs.Promises.{Leaves}
 use Rattle.searches.specs.Promises.{picks}
 use Rattle.search.specs.Outcomes.{Ran}
 use Rattle.search.proofs.first_checks.FirstPassing.{search_is_passed}
-use Rattle.problem.specs.declared.verdict.Verdict.TheVariants.{Solved}
+use Rattle.searches.specs.declared.verdict.Verdict.TheVariants.{Solved}
 use Rattle.search.proofs.Promises.{chooser_leaves, handed_passes}
 use Rattle.search.proofs.Slots.{slots_lawful}
 use Rattle.searches.proofs.Promises.{chooser_refusals, stops, picks as picks_run}

@@ -14,7 +14,7 @@ use Rattle.splits.specs.Subproblems.{domain}
 use Rattle.problem.specs.Lists.{below}
 use Rattle.search.specs.Agenda.{holding, subproblem_of, slot_at, stack_of}
 use Rattle.searches.specs.Verdicts.{number_of, verdict_of}
-use Rattle.problem.specs.declared.verdict.Verdict.{Verdict}
+use Rattle.searches.specs.declared.verdict.Verdict.{Verdict}
 use Rattle.blocks.specs.Lists.{each}
 use Rattle.blocks.proofs.Lists.{each_more, each_none, each_same}
 use Rattle.answer.specs.Text.{plan_line, plan_of, plan_lines}

@@ -7,7 +7,7 @@ use Prim.Native.Nat.{ℕ, ◌≤◌}
 use lib.ListN.{length}
 use borrow.Author.Tests.{eq-eqb, ne_eqb}
 use Rattle.search.specs.Agenda.{stack_of}
-use Rattle.problem.specs.declared.verdict.Verdict.{Verdict}
+use Rattle.searches.specs.declared.verdict.Verdict.{Verdict}
 use Rattle.search.specs.Outcomes.{Ran}
 use Rattle.answer.specs.Text.{verdict_line, counts_line, plan_lines, refused_line, whole_text, text_from}
 use Rattle.answer.specs.Loops.Writing.{Holds, Adds}

@@ -23,8 +23,8 @@ use Rattle.searches.specs.Chooser.{choose}
 use Rattle.search.specs.Calls.{search_of, Chooses}
 use Rattle.search.specs.Promises.{VerdictSays}
 use Rattle.search.specs.Outcomes.{Ran}
-use Rattle.problem.specs.declared.verdict.Verdict.{Verdict}
-use Rattle.problem.specs.declared.verdict.Verdict.TheVariants.{None, Running, Solved, Unsolvable}
+use Rattle.searches.specs.declared.verdict.Verdict.{Verdict}
+use Rattle.searches.specs.declared.verdict.Verdict.TheVariants.{None, Running, Solved, Unsolvable}
 use Rattle.search.proofs.first_checks.FirstPassing.{search_is_passed}
 use Rattle.search.proofs.Promises.{chooser_says}
 use Rattle.files.specs.Reading.{said_n, said_d, said_steps, said_checks, said_subproblems, said_domains, said_allowed, said_search, table_words, Deserves15}

@@ -7,8 +7,8 @@ use lib.ListN.{length, length-append}
 use lib.Count.{trailing_le}
 use Rattle.problem.specs.Masks.{lowest}
 use Rattle.searches.specs.Verdicts.{ascii, word_of}
-use Rattle.problem.specs.declared.verdict.Verdict.{Verdict}
-use Rattle.problem.specs.declared.verdict.Verdict.TheVariants.{None, Running, Solved, Unsolvable}
+use Rattle.searches.specs.declared.verdict.Verdict.{Verdict}
+use Rattle.searches.specs.declared.verdict.Verdict.TheVariants.{None, Running, Solved, Unsolvable}
 use Rattle.blocks.proofs.Lists.{each_more, each_none}
 use Rattle.answer.specs.Text.{decimal, verdict_line, counts_line, plan_line, plan_of, refused_line}
 use Rattle.answer.proofs.Decimals.{two_digits, twenty_digits}

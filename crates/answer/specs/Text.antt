@@ -8,7 +8,7 @@ use Rattle.search.specs.Agenda.{stack_of}
 use Rattle.search.specs.Slots.{Stopped}
 use Rattle.searches.specs.Verdicts.{number_of, ascii, word_of, verdict_of}
 use Rattle.search.specs.Outcomes.{Ran}
-use Rattle.problem.specs.declared.verdict.Verdict.{Verdict}
+use Rattle.searches.specs.declared.verdict.Verdict.{Verdict}
 use Rattle.blocks.specs.Lists.{each}
 
 -- A number in decimal, no zero in front, of at most so many digits after the first. The digit 0 is byte 48.

@@ -25,7 +25,7 @@ use Rattle.searches.specs.Promises.{Shown}
 use Rattle.search.specs.Promises.{Handed, VerdictSays}
 use Rattle.search.specs.declared.state.State.{State}
 use Rattle.search.specs.Outcomes.{Ran}
-use Rattle.problem.specs.declared.verdict.Verdict.TheVariants.{None}
+use Rattle.searches.specs.declared.verdict.Verdict.TheVariants.{None}
 use Rattle.search.proofs.first_checks.FirstPassing.{run_is_passed}
 use Rattle.search.proofs.Promises.{run_exact, choose_exact, none_if_run, none_if_choose, run_says, chooser_says}
 use Rattle.blocks.proofs.Lists.{padded_at}

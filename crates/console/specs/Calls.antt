@@ -7,7 +7,7 @@ use Rattle.search.specs.Calls.{Opens, Runs, Chooses}
 use Rattle.search.specs.declared.state.State.{State}
 use Rattle.search.specs.Outcomes.{Opened}
 use Rattle.search.specs.Outcomes.{Ran}
-use Rattle.problem.specs.declared.verdict.Verdict.TheVariants.{None}
+use Rattle.searches.specs.declared.verdict.Verdict.TheVariants.{None}
 use Rattle.blocks.specs.Tests.Whole.{refusal_of_file}
 use Rattle.files.specs.Reading.{refusal_of_words}
 use Rattle.files.specs.Calls.{Saves, Loads}

@@ -11,7 +11,7 @@ use lib.Dec.{eqb}
 use borrow.Author.Tests.{ne_eqb}
 use Rattle.problem.specs.Problem.{Words}
 use Rattle.searches.specs.Verdicts.{number_of, verdict_of}
-use Rattle.problem.specs.declared.verdict.Verdict.TheVariants.{None}
+use Rattle.searches.specs.declared.verdict.Verdict.TheVariants.{None}
 use Rattle.searches.specs.Runs.{run, requests_in}
 use Rattle.searches.specs.Chooser.{choose}
 use Rattle.searches.specs.Reached.{Passes}

@@ -8,7 +8,7 @@ use native.Mathlib.Omega.{arith}
 use native.Mathlib.Nat.{mul-le-mul_right, one-mul}
 use native.Mathlib.Decide.{ℕ_discrete, dec_lt}
 use lib.ListN.{length, take, drop, length-take, length-drop, take-append-drop}
-use Rattle.problem.specs.declared.verdict.Verdict.{Verdict}
+use Rattle.searches.specs.declared.verdict.Verdict.{Verdict}
 use Rattle.searches.specs.Verdicts.{number_of}
 use Rattle.searches.proofs.Picking.{choose_stops}
 use Rattle.search.specs.FirstChecks.{WholeRequests}

@@ -21,8 +21,8 @@ use Rattle.searches.specs.Promises.{Shown, HasSolution}
 use Rattle.search.specs.Promises.{Handed, Leaves, Reached}
 use Rattle.search.specs.declared.state.State.{State}
 use Rattle.search.specs.Outcomes.{Ran}
-use Rattle.problem.specs.declared.verdict.Verdict.{Verdict}
-use Rattle.problem.specs.declared.verdict.Verdict.TheVariants.{None}
+use Rattle.searches.specs.declared.verdict.Verdict.{Verdict}
+use Rattle.searches.specs.declared.verdict.Verdict.TheVariants.{None}
 use Rattle.search.proofs.first_checks.FirstPassing.{Passed, run_is_passed}
 use Rattle.search.proofs.Encoding.{length_stack_of}
 use Rattle.search.proofs.HandedOn.{known, leaves, some_slots, whole_requests}

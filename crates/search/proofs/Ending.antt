@@ -23,8 +23,8 @@ use Rattle.search.specs.Loops.Steps.{StopsAt}
 use Rattle.search.specs.Loops.Ends.{Used, ended_by}
 use Rattle.search.specs.declared.state.State.{State}
 use Rattle.search.specs.Outcomes.{Ran}
-use Rattle.problem.specs.declared.verdict.Verdict.{Verdict}
-use Rattle.problem.specs.declared.verdict.Verdict.TheVariants.{None}
+use Rattle.searches.specs.declared.verdict.Verdict.{Verdict}
+use Rattle.searches.specs.declared.verdict.Verdict.TheVariants.{None}
 use Rattle.search.specs.Loops.Steps.{Stop}
 use Rattle.search.proofs.Running.{left_is, left_ready, ready_used}
 

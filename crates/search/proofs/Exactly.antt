@@ -25,7 +25,7 @@ use Rattle.search.specs.Calls.{search_of, Ends}
 use Rattle.search.specs.Promises.{NoneIf, ExactRefusal, RunExact, ChooseExact}
 use Rattle.search.specs.declared.state.State.{State}
 use Rattle.search.specs.Outcomes.{Ran}
-use Rattle.problem.specs.declared.verdict.Verdict.TheVariants.{None, Running, Solved}
+use Rattle.searches.specs.declared.verdict.Verdict.TheVariants.{None, Running, Solved}
 use Rattle.searches.proofs.Runs.{stops}
 use Rattle.searches.proofs.Picking.{choose_stops}
 use Rattle.searches.proofs.Numbers.{Late, run_late, choose_late}

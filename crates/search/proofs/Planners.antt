@@ -21,7 +21,7 @@ use Rattle.problem.specs.Tests.FirstChecks.{refusal_of_numbers, masks_below, sym
 use Rattle.search.specs.Tests.FirstChecks.{whole_slots, refusal_of_lengths, refusal_of_requests, domain_obeys, values_agree, obeys, all_obey, zeros_from, refusal_of_search, run_refusal}
 use Rattle.search.specs.Promises.{Right}
 use Rattle.search.specs.Outcomes.{Ran}
-use Rattle.problem.specs.declared.verdict.Verdict.TheVariants.{Running}
+use Rattle.searches.specs.declared.verdict.Verdict.TheVariants.{Running}
 
 -- Both requests are taken: 1,2 with 0 marked is left, after 2 steps and 1 check.
 pub record Says (after : List ℕ) (r : Ran) : Type 0 where

@@ -29,7 +29,7 @@ use Rattle.search.specs.Loops.Steps.{Taking, StopsAt, taken_by, gone_by, went_on
 use Rattle.search.specs.Loops.Choices.{chosen_for}
 use Rattle.search.specs.Loops.Ends.{Used, request_at}
 use Rattle.search.specs.declared.state.State.{State}
-use Rattle.problem.specs.declared.verdict.Verdict.TheVariants.{Running, Solved, Unsolvable}
+use Rattle.searches.specs.declared.verdict.Verdict.TheVariants.{Running, Solved, Unsolvable}
 use Rattle.search.specs.Loops.Steps.{Stop}
 use Rattle.search.proofs.Encoding.{length_stack_of, agenda_back}
 use Rattle.searches.proofs.Verdicts.{finished_top}

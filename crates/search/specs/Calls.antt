@@ -11,7 +11,7 @@ use Rattle.searches.specs.Chooser.{choose}
 use Rattle.search.specs.Tests.FirstChecks.{open_refusal, search_refusal, run_refusal}
 use Rattle.search.specs.declared.state.State.{State}
 use Rattle.search.specs.Outcomes.{fresh, Opened, Ran}
-use Rattle.problem.specs.declared.verdict.Verdict.TheVariants.{None}
+use Rattle.searches.specs.declared.verdict.Verdict.TheVariants.{None}
 
 abbrev pub Fresh : ℕ → State → Type 0
 Fresh subproblems r = r ≡ fresh subproblems

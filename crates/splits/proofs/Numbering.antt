@@ -28,6 +28,7 @@ numbered_is Extraction = refl
 pub kind_once : (a b : Kind) → kind_number a ≡ kind_number b → a ≡ b
 kind_once a b e = sym (numbered_is a) ∙ ap numbered e ∙ numbered_is b
 
+-- That of a kind is 1 to 5.
 kind_most : (kind : Kind) → (1 ≤ kind_number kind) × (kind_number kind ≤ 5)
 kind_most Backtracking = (omega arith, omega arith)
 kind_most ForwardChecking = (omega arith, omega arith)
@@ -52,20 +53,19 @@ decodes_once word (Err e) (Err f) (is, out) (its, past) = ap Err (is ∙ sym its
 pub kind_is : {kind : Kind} {word : ℕ} (named : Kind) → kind_number kind ≡ word → kind ≡ named → kind_number named ≡ word
 kind_is named e is = ap kind_number (sym is) ∙ e
 
--- A kind but the last is 1 to 4.
-pub kind_low : (kind : Kind) → (kind ≡ Extraction → ⊥) → (1 ≤ kind_number kind) × (kind_number kind ≤ 4)
-kind_low Backtracking f = (omega arith, omega arith)
-kind_low ForwardChecking f = (omega arith, omega arith)
-kind_low Idc f = (omega arith, omega arith)
-kind_low Halving f = (omega arith, omega arith)
-kind_low Extraction f = absurd (f refl)
-
 -- Of a kind but halving that is not its number.
 pub kind_not_4 : (kind : Kind) → (kind ≡ Halving → ⊥) → kind_number kind ≡ 4 → ⊥
 kind_not_4 kind f e = f (kind_once kind Halving e)
 
 pub kind_not_5 : (kind : Kind) → (kind ≡ Extraction → ⊥) → kind_number kind ≡ 5 → ⊥
 kind_not_5 kind f e = f (kind_once kind Extraction e)
+
+-- A kind but the last is 1 to 4.
+pub kind_low : (kind : Kind) → (kind ≡ Extraction → ⊥) → (1 ≤ kind_number kind) × (kind_number kind ≤ 4)
+kind_low kind f =
+    let few = kind_most kind in
+    let other = kind_not_5 kind f in
+    (omega arith, omega arith)
 
 -- Of those up to 3 the one that is not 1 or 2.
 pub kind_third : (kind : Kind) → kind_number kind ≤ 3 → (kind ≡ Backtracking → ⊥) → (kind ≡ ForwardChecking → ⊥) → kind_number kind ≡ 3

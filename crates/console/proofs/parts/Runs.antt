@@ -29,7 +29,7 @@ use Rattle.search.specs.Promises.{Handed, Leaves}
 use Rattle.searches.specs.Promises.{picks}
 use Rattle.search.specs.declared.state.State.{State}
 use Rattle.search.specs.Outcomes.{Ran}
-use Rattle.problem.specs.declared.verdict.Verdict.TheVariants.{Running}
+use Rattle.searches.specs.declared.verdict.Verdict.TheVariants.{Running}
 use Rattle.searches.proofs.Verdicts.{running}
 use Rattle.searches.proofs.Runs.{after, after_none, run_finished, run_taken, run_refused, run_ind, stops}
 use Rattle.search.proofs.Encoding.{length_stack_of, stack_of_words}

@@ -23,7 +23,7 @@ use Rattle.searches.proofs.Verdicts.{is_run_on}
 use Rattle.searches.proofs.Runs.{stops}
 use Rattle.search.specs.declared.state.State.{State}
 use Rattle.search.specs.Outcomes.{Ran}
-use Rattle.problem.specs.declared.verdict.Verdict.TheVariants.{Running}
+use Rattle.searches.specs.declared.verdict.Verdict.TheVariants.{Running}
 use Rattle.files.proofs.Requests.{cut_length, whole_append}
 use Rattle.word_bytes.specs.Bytes.{Whole, words_of}
 use Rattle.console.specs.Loops.Parts.{goes_on, WholeAt, Listed, Part, Narrow}

@@ -36,18 +36,17 @@ module _ (width n d : ℕ) (t : List ℕ) (rows : List (List ℕ)) (V' at : ℕ)
     ];
   }
 
--- The place of value v of V, of 16 for each.
-pub its_place : (n d : ℕ) (t : List ℕ) (V' v : ℕ) → Inside n d t V' v → (V' * 16 + v < 32 * 16) × ((V' * 16 + v) / 16 ≡ V')
-its_place n d t V' v inside =
-    (omega (arith, inside.a_variable, inside.a_value, inside.fit.few, inside.fit.small), omega (arith, inside.a_value, inside.fit.small))
-
--- Its place of so many for each, of which the last is that of all values from there on.
+-- The place of value v of V, of so many for each: the last is that of all values from there on.
 pub place_of : (width n d : ℕ) (t : List ℕ) (V' v w : ℕ) → 0 < width → Inside n d t V' v → w ≡ min v (width - 1)
     → (V' * width + w < 32 * width) × ((V' * width + w) / width ≡ V')
 place_of width n d t V' v w some inside its =
     let small : w < width = omega arith in
     let before : V' + 1 ≤ 32 = omega (arith, inside.a_variable, inside.fit.few) in
     (omega (arith, mul-le-mul_right width before), div-mul-add V' width w small)
+
+-- Of 16 for each every value has one.
+pub its_place : (n d : ℕ) (t : List ℕ) (V' v : ℕ) → Inside n d t V' v → (V' * 16 + v < 32 * 16) × ((V' * 16 + v) / 16 ≡ V')
+its_place n d t V' v inside = place_of 16 n d t V' v v (omega arith) inside (omega (arith, inside.a_value, inside.fit.small))
 
 -- The row of v of V is what stands at a place, and the rows are as before but for that.
 abbrev pub Rowed : ℕ → ℕ → List ℕ → ℕ → ℕ → ℕ → List (List ℕ) → List (List ℕ) → Type 0

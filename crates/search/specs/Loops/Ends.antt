@@ -3,7 +3,7 @@ use Rattle.std.specs.Prelude.{◌≡◌, List, ℕ, ◌+◌, ◌*◌, ◌≤◌,
 use Rattle.search.specs.Agenda.{stack_of, slots_in}
 use Rattle.searches.specs.Verdicts.{verdict_of}
 use Rattle.search.specs.declared.state.State.{State}
-use Rattle.problem.specs.declared.verdict.Verdict.TheVariants.{None}
+use Rattle.searches.specs.declared.verdict.Verdict.TheVariants.{None}
 use Rattle.search.specs.Outcomes.{Ran}
 use Rattle.search.specs.Loops.Steps.{Stop}
 
